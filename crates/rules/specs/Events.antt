@@ -1,0 +1,218 @@
+-- The nine events: what each answers, and the Model after it.
+use mathlib.Core.Bool.{Bool, true, false, cond, not, _&&_, _||_}
+use mathlib.Core.List.{List, [], _∷_, _++_}
+use Prim.Native.Nat.{ℕ, zero, suc, _+_, _-_}
+use lib.Dec.{eqb, leb, ltb}
+use lib.ListN.{length, getD, take}
+use Rattle.rules.specs.Limits.{lastReading}
+use Rattle.rules.specs.Priorities.{inRange}
+use Rattle.rules.specs.Model.{TaskRecord, Model, Waiting, none, waits, withPlace, withBase, withWaiting, withPermit, withHeld}
+use Rattle.rules.specs.Model.{withNow, taskAt, withTask, queue, withQueue, ceilingOf, active}
+use Rattle.rules.specs.Moves.{becomeReady, stopped}
+use Rattle.rules.specs.Moved.{Moved, refused, accepted, refuseIf, byRunning}
+use Rattle.rules.specs.declared.Priority.{Priority}
+use Rattle.rules.specs.declared.Place.{Place}
+use Rattle.rules.specs.declared.Place.the-variants.{Running, Ready, Delayed, Suspended, Ended}
+use Rattle.rules.specs.declared.Event.{Event}
+use Rattle.rules.specs.declared.Event.the-variants.{Enter, Leave, Delay, Suspend, Release, Clock, Set, Work, Finish}
+use Rattle.rules.specs.declared.Answer.the-variants.{NoSuchTask, NoSuchObject, BadPriority, BadReading, EndedTask}
+use Rattle.rules.specs.declared.Answer.the-variants.{InsideAction, AboveCeiling, NotInnermost}
+
+-- answer 1: "no such task"; answer 2: "no such object"
+abbrev pub noTask : Model → ℕ → Bool
+noTask m t = leb (length (m .tasks)) t
+
+abbrev pub noObject : Model → ℕ → Bool
+noObject m o = leb (length (m .ceilings)) o
+
+-- how often a number stands in a list
+unfoldable pub timesIn : ℕ → List ℕ → ℕ
+timesIn x [] = 0
+timesIn x (y ∷ ys) = cond (eqb y x) (suc (timesIn x ys)) (timesIn x ys)
+
+-- "an object that the task holds"
+abbrev pub holds : TaskRecord → ℕ → Bool
+holds k o = ltb 0 (timesIn o (k .held))
+
+-- "inside a protected action": the task holds something
+abbrev pub inside : TaskRecord → Bool
+inside k = ltb 0 (length (k .held))
+
+-- "Enter: the running task holds the object as its innermost."
+abbrev pub takeHold : Model → ℕ → ℕ → Model
+takeHold m o t = withTask m t (withHeld (taskAt m t) (taskAt m t .held ++ (o ∷ [])))
+
+-- 2; 5; 7, "Enter of an object that the task holds"; 8, "Enter with active priority above the ceiling"
+unfoldable pub enter : Model → ℕ → Moved
+enter m o =
+    refuseIf m (noObject m o) NoSuchObject
+    (byRunning m (m .running) (λ t.
+    refuseIf m (holds (taskAt m t) o) InsideAction
+    (refuseIf m (ltb (ceilingOf (m .ceilings) o) (active m t)) AboveCeiling
+    (accepted (takeHold m o t)))))
+
+-- the object that the task entered last
+abbrev pub innermost : TaskRecord → ℕ → Bool
+innermost k o = inside k && eqb (getD (k .held) (length (k .held) - 1) 0) o
+
+-- "Leave: the innermost object is given up."
+abbrev pub giveUp : Model → ℕ → Model
+giveUp m t = withTask m t (withHeld (taskAt m t) (take (length (taskAt m t .held) - 1) (taskAt m t .held)))
+
+-- "The task runs on, unless a waiting base is due": it "takes effect when t leaves its outermost object: t then goes to the
+-- tail, even where p equals the base"
+unfoldable pub settleWith : Model → ℕ → Waiting → Model
+settleWith m t none = m
+settleWith m t (waits p) = becomeReady (stopped (withTask m t (withWaiting (withBase (taskAt m t) p) none))) t
+
+unfoldable pub settle : Model → ℕ → Model
+settle m t = cond (inside (taskAt m t)) m (settleWith m t (taskAt m t .waiting))
+
+-- 2; 5; 9, "Leave of an object that isn't the innermost held"
+unfoldable pub leave : Model → ℕ → Moved
+leave m o =
+    refuseIf m (noObject m o) NoSuchObject
+    (byRunning m (m .running) (λ t.
+    refuseIf m (not (innermost (taskAt m t) o)) NotInnermost
+    (accepted (settle (giveUp m t) t))))
+
+-- "Delay d: 0 sends the task to the tail of its queue; otherwise it is delayed until now + d."
+unfoldable pub putOff : Model → ℕ → ℕ → Model
+putOff m t d = cond (eqb d 0) (becomeReady m t) (withTask m t (withPlace (taskAt m t) (Delayed (m .now + d))))
+
+-- 5; 7, "Delay (also 0) .. inside a protected action"
+unfoldable pub delay : Model → ℕ → Moved
+delay m d =
+    byRunning m (m .running) (λ t.
+    refuseIf m (inside (taskAt m t)) InsideAction
+    (accepted (putOff (stopped m) t d)))
+
+-- "Suspend: with a permit, the permit goes and the task runs on; else it is suspended."
+unfoldable pub rest : Model → ℕ → Model
+rest m t =
+    cond (taskAt m t .permit)
+    (withTask m t (withPermit (taskAt m t) false))
+    (withTask (stopped m) t (withPlace (taskAt m t) Suspended))
+
+-- 5; 7, "Suspend .. inside a protected action"
+unfoldable pub suspend : Model → Moved
+suspend m =
+    byRunning m (m .running) (λ t.
+    refuseIf m (inside (taskAt m t)) InsideAction
+    (accepted (rest m t)))
+
+-- "Release t: a suspended t becomes ready; otherwise t's permit is on (once)."
+abbrev pub permitOn : Model → ℕ → Model
+permitOn m t = withTask m t (withPermit (taskAt m t) true)
+
+unfoldable pub releaseFrom : Model → ℕ → Place → Model
+releaseFrom m t Running = permitOn m t
+releaseFrom m t Ready = permitOn m t
+releaseFrom m t (Delayed d) = permitOn m t
+releaseFrom m t Suspended = becomeReady m t
+releaseFrom m t Ended = permitOn m t
+
+-- 1
+unfoldable pub release : Model → ℕ → Moved
+release m t =
+    refuseIf m (noTask m t) NoSuchTask
+    (accepted (releaseFrom m t (taskAt m t .place)))
+
+-- a task that is due, with its due time
+pub data Due : Type 0 where
+  nobody : Due
+  task : ℕ → ℕ → Due
+
+-- "Tasks due at or before r": the task t at a place
+unfoldable pub dueAt : ℕ → ℕ → Place → Due
+dueAt r t Running = nobody
+dueAt r t Ready = nobody
+dueAt r t (Delayed d) = cond (leb d r) (task t d) nobody
+dueAt r t Suspended = nobody
+dueAt r t Ended = nobody
+
+-- "by due time, lower number first when equal": the former, having the lower number, unless the latter is due earlier
+unfoldable pub earlier : Due → Due → Due
+earlier nobody y = y
+earlier (task t d) nobody = task t d
+earlier (task t d) (task u e) = cond (leb d e) (task t d) (task u e)
+
+-- the first to wake at r: of the best so far and the tasks from t on
+unfoldable pub firstDue : ℕ → Due → ℕ → List TaskRecord → Due
+firstDue r best t [] = best
+firstDue r best t (k ∷ ks) = firstDue r (earlier best (dueAt r t (k .place))) (suc t) ks
+
+unfoldable pub wake : Model → Due → Model
+wake m nobody = m
+wake m (task t d) = becomeReady m t
+
+-- "become ready by due time": one after the other, n times; there are no more than tasks
+unfoldable pub wakeUp : ℕ → ℕ → Model → Model
+wakeUp r zero m = m
+wakeUp r (suc n) m = wakeUp r n (wake m (firstDue r nobody 0 (m .tasks)))
+
+-- 4, "reading below now or above the largest"; "Clock r: now is r."
+unfoldable pub clock : Model → ℕ → Moved
+clock m r =
+    refuseIf m (ltb r (m .now) || ltb lastReading r) BadReading
+    (accepted (wakeUp r (length (m .tasks)) (withNow m r)))
+
+-- a list without the first of a number
+unfoldable pub without : ℕ → List ℕ → List ℕ
+without x [] = []
+without x (y ∷ ys) = cond (eqb y x) ys (y ∷ without x ys)
+
+-- "a ready or running t goes to the tail of the queue for its active priority"; a ready one leaves the queue for p, where it stood
+unfoldable pub requeue : Model → ℕ → ℕ → Place → Model
+requeue m t p Running = becomeReady (stopped m) t
+requeue m t p Ready = becomeReady (withQueue m p (without t (queue m p))) t
+requeue m t p (Delayed d) = m
+requeue m t p Suspended = m
+requeue m t p Ended = m
+
+-- "Set t, p: outside a protected action the base becomes p"; "Setting a base to the value it already has moves nobody.
+-- Inside an action p waits, a later one replacing it"
+unfoldable pub rebase : Model → ℕ → ℕ → Model
+rebase m t p =
+    cond (inside (taskAt m t))
+    (withTask m t (withWaiting (taskAt m t) (waits p)))
+    (cond (eqb (taskAt m t .base) p) m
+    (requeue (withTask m t (withBase (taskAt m t) p)) t (active m t) (taskAt m t .place)))
+
+unfoldable pub isEnded : Place → Bool
+isEnded Running = false
+isEnded Ready = false
+isEnded (Delayed d) = false
+isEnded Suspended = false
+isEnded Ended = true
+
+-- 1; 3, "priority outside 1 to 32"; 6, "Set on an ended task"
+unfoldable pub setBase : Model → ℕ → ℕ → Moved
+setBase m t p =
+    refuseIf m (noTask m t) NoSuchTask
+    (refuseIf m (not (inRange p)) BadPriority
+    (refuseIf m (isEnded (taskAt m t .place)) EndedTask
+    (accepted (rebase m t p))))
+
+-- 5; "Work: no effect."
+unfoldable pub work : Model → Moved
+work m = byRunning m (m .running) (λ t. accepted m)
+
+-- 5; 7, "Finish inside a protected action"; "Finish: the running task is ended."
+unfoldable pub finish : Model → Moved
+finish m =
+    byRunning m (m .running) (λ t.
+    refuseIf m (inside (taskAt m t)) InsideAction
+    (accepted (withTask (stopped m) t (withPlace (taskAt m t) Ended))))
+
+-- any of the nine
+unfoldable pub apply : Model → Event → Moved
+apply m (Enter o) = enter m o
+apply m (Leave o) = leave m o
+apply m (Delay d) = delay m d
+apply m Suspend = suspend m
+apply m (Release t) = release m t
+apply m (Clock r) = clock m r
+apply m (Set t p) = setBase m t (p .0)
+apply m Work = work m
+apply m Finish = finish m

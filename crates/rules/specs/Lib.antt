@@ -1,0 +1,9 @@
+pub mod Limits
+pub mod Priorities
+pub mod Answers
+pub mod Model
+pub mod Moves
+pub mod Moved
+pub mod Fresh
+pub mod Events
+pub mod Sound
