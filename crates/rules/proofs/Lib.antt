@@ -4,5 +4,8 @@ pub mod Levels
 pub mod TaskLaws
 pub mod Standing
 pub mod Core
+pub mod Room
+pub mod HeldLaws
+pub mod WakingLaws
 pub mod Cases
 pub mod PriorityLaws
