@@ -4,6 +4,7 @@ pub mod Levels
 pub mod TaskLaws
 pub mod Standing
 pub mod Core
+pub mod DispatchLaws
 pub mod Room
 pub mod HeldLaws
 pub mod WakingLaws
