@@ -55,3 +55,12 @@ or-first false b e = absurd (let z : _≡_ {A = ℕ} 0 1 = cc in omega arith)
 pub or-second : (a b : Bool) → b ≡ true → (a || b) ≡ true
 or-second true b e = refl
 or-second false b e = e
+
+-- a failed "or" has failed in both parts
+pub or-none-left : (a b : Bool) → (a || b) ≡ false → a ≡ false
+or-none-left true b e = e
+or-none-left false b e = refl
+
+pub or-none-right : (a b : Bool) → (a || b) ≡ false → b ≡ false
+or-none-right true b e = absurd (let z : _≡_ {A = ℕ} 0 1 = cc in omega arith)
+or-none-right false b e = e

@@ -63,13 +63,20 @@ alike m = record { now = refl; count = refl; ceilings = refl; each = λ u. refl 
 
 pub alike-then : {m n o : Model} → Alike m n → Alike n o → Alike m o
 alike-then a b = record {
-  now = b .now ∙ a .now; count = b .count ∙ a .count; ceilings = b .ceilings ∙ a .ceilings; each = λ u. b .each u ∙ a .each u }
+  now = b .now ∙ a .now;
+  count = b .count ∙ a .count;
+  ceilings = b .ceilings ∙ a .ceilings;
+  each = λ u. b .each u ∙ a .each u;
+}
 
 pub alike-place : (m : Model) (t : ℕ) (x : Place) (qs : List (List ℕ)) (w : Runner) → upright x ≡ upright (taskAt m t .place) →
     Alike m (record { now = m .now; running = w; tasks = set (m .tasks) t (withPlace (taskAt m t) x); ceilings = m .ceilings; ready = qs })
 alike-place m t x qs w e = record {
-  now = refl; count = length-set (m .tasks) t _; ceilings = refl;
-  each = at-keeps unplaced blank (m .tasks) t (withPlace (taskAt m t) x) (ap (withPlace (taskAt m t)) e) }
+  now = refl;
+  count = length-set (m .tasks) t _;
+  ceilings = refl;
+  each = at-keeps unplaced blank (m .tasks) t (withPlace (taskAt m t) x) (ap (withPlace (taskAt m t)) e);
+}
 
 pub alike-stopped : (m : Model) → Alike m (stopped m)
 unfolding stopped
@@ -107,12 +114,12 @@ alike-by m c Nobody e =
 alike-by m c (Task t) e =
     both-ways (Alike m) (leb (highest m) (active m t)) m _ (λ z. alike m)
     (λ z.
-      let r = runs-named (m .running) t e in
-      let above = leb-false (highest m) (active m t) z in
-      let top = highest-is m (λ i. omega (arith, i, above)) in
-      let h = highest-preempt m t (highest m) c top above (act-low m taskLimit c t (runner-in m c t r)) in
-      let head = head-ready (preempt m t) (highest m) (core-preempt m c t r) h (none-preempt m t) in
-      alike-then (alike-preempt m t (running-upright _ (runner-place m t c e))) (alike-start (preempt m t) (highest m) (ready-upright _ head)))
+    let r = runs-named (m .running) t e in
+    let above = leb-false (highest m) (active m t) z in
+    let top = highest-is m (λ i. omega (arith, i, above)) in
+    let h = highest-preempt m t (highest m) c top above (act-low m taskLimit c t (runner-in m c t r)) in
+    let head = head-ready (preempt m t) (highest m) (core-preempt m c t r) h (none-preempt m t) in
+    alike-then (alike-preempt m t (running-upright _ (runner-place m t c e))) (alike-start (preempt m t) (highest m) (ready-upright _ head)))
 
 pub alike-dispatch : {ord : Bool} (m : Model) → Core ord m taskLimit → Alike m (dispatch m)
 unfolding dispatch

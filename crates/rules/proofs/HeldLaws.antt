@@ -78,7 +78,7 @@ rising-push cs b o (x ∷ l) e g =
     let top : max b (ceilingOf cs x) ≡ ceilingOf cs x = omega (arith, leb-true b (ceilingOf cs x) first) in
     and-make (leb b (ceilingOf cs x)) (rising cs (ceilingOf cs x) (l ++ (o ∷ []))) first
     (rising-push cs (ceilingOf cs x) o l (and-right (leb b (ceilingOf cs x)) (rising cs (ceilingOf cs x) l) e)
-      (subst (λ (v : ℕ). highestOf cs v l ≤ ceilingOf cs o) top g))
+    (subst (λ (v : ℕ). highestOf cs v l ≤ ceilingOf cs o) top g))
 
 pub rising-take : (cs : List ℕ) (b n : ℕ) (l : List ℕ) → rising cs b l ≡ true → rising cs b (take n l) ≡ true
 unfolding rising

@@ -8,5 +8,6 @@ pub mod DispatchLaws
 pub mod Room
 pub mod HeldLaws
 pub mod WakingLaws
+pub mod Kept
 pub mod Cases
 pub mod PriorityLaws

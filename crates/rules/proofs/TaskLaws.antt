@@ -77,7 +77,7 @@ module _ {A B : Type 0} (f : A → B) (d : A) (l : List A) (t : ℕ) (k : A) whe
   at-keeps h u =
       split u t
       (λ e. compare (length l) t (λ g. ap (λ (x : List A). f (getD x u d)) (set-out l t k g))
-        (λ g. at-same u e g ∙ h ∙ ap (λ (v : ℕ). f (getD l v d)) (sym e)))
+      (λ g. at-same u e g ∙ h ∙ ap (λ (v : ℕ). f (getD l v d)) (sym e)))
       (at-other u)
 
 -- the same of a number of a task's record

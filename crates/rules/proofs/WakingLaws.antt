@@ -121,11 +121,11 @@ earlier-assoc (task t d) (task u e) nobody = both-ways (λ (x : Due). earlier x 
 earlier-assoc (task t d) (task u e) (task v f) =
     compare d e
     (λ i. compare e f
-      (λ j. rw (le-leb d e i, le-leb e f j, le-leb d e i, le-leb d f (omega arith)))
-      (λ j. rw (le-leb d e i, lt-leb e f j)))
+    (λ j. rw (le-leb d e i, le-leb e f j, le-leb d e i, le-leb d f (omega arith)))
+    (λ j. rw (le-leb d e i, lt-leb e f j)))
     (λ i. compare e f
-      (λ j. rw (lt-leb d e i, le-leb e f j, lt-leb d e i))
-      (λ j. rw (lt-leb d e i, lt-leb e f j, lt-leb d f (omega arith))))
+    (λ j. rw (lt-leb d e i, le-leb e f j, lt-leb d e i))
+    (λ j. rw (lt-leb d e i, lt-leb e f j, lt-leb d f (omega arith))))
 
 search-on : (r : ℕ) (best : Due) (t : ℕ) (ks : List TaskRecord) → firstDue r best t ks ≡ earlier best (firstDue r nobody t ks)
 unfolding firstDue earlier
@@ -228,8 +228,9 @@ woke-one r t d m c h p e = record {
   count = length-set (m .tasks) t _;
   ceilings = refl;
   each = at-keeps (awake r) blank (m .tasks) t (withPlace (taskAt m t) Ready)
-    (ap (withPlace (taskAt m t)) (sym (awake-due r d (taskAt m t .place) p e)));
-  fewer = omega (arith, dues-set r (m .tasks) t (withPlace (taskAt m t) Ready) h, due-is r d (taskAt m t .place) p e) }
+      (ap (withPlace (taskAt m t)) (sym (awake-due r d (taskAt m t .place) p e)));
+  fewer = omega (arith, dues-set r (m .tasks) t (withPlace (taskAt m t) Ready) h, due-is r d (taskAt m t .place) p e);
+}
 
 woke : {ord : Bool} (r : ℕ) (m : Model) (f : Due) → Core ord m taskLimit → Finds r 0 (m .tasks) f → Woke ord r m (wake m f)
 unfolding wake
@@ -252,15 +253,27 @@ pub record Awake (ord : Bool) (r : ℕ) (m n : Model) : Type 0 where
 pub wakes : {ord : Bool} (r n : ℕ) (m : Model) → Core ord m taskLimit → dues r (m .tasks) ≤ n → Awake ord r m (wakeUp r n m)
 unfolding wakeUp
 wakes r zero m c h = record {
-  core = c; now = refl; running = refl; count = refl; ceilings = refl; done = omega arith;
-  each = λ u. ap (withPlace (taskAt m u)) (sym (awake-not r (taskAt m u .place) (omega (arith, h, dues-at r (m .tasks) u)))) }
+  core = c;
+  now = refl;
+  running = refl;
+  count = refl;
+  ceilings = refl;
+  done = omega arith;
+  each = λ u. ap (withPlace (taskAt m u)) (sym (awake-not r (taskAt m u .place) (omega (arith, h, dues-at r (m .tasks) u))));
+}
 wakes {ord} r (suc n) m c h =
     let m₁ : Model = wake m (firstDue r nobody 0 (m .tasks)) in
     let w : Woke ord r m m₁ = woke r m (firstDue r nobody 0 (m .tasks)) c (finds r 0 (m .tasks)) in
     let a : Awake ord r m₁ (wakeUp r n m₁) = wakes r n m₁ (w .core) (omega (arith, w .fewer)) in
     record {
-      core = a .core; now = a .now ∙ w .now; running = a .running ∙ w .running; count = a .count ∙ w .count;
-      ceilings = a .ceilings ∙ w .ceilings; each = λ u. a .each u ∙ w .each u; done = a .done }
+      core = a .core;
+      now = a .now ∙ w .now;
+      running = a .running ∙ w .running;
+      count = a .count ∙ w .count;
+      ceilings = a .ceilings ∙ w .ceilings;
+      each = λ u. a .each u ∙ w .each u;
+      done = a .done;
+    }
 
 pub core-now : {ord : Bool} (m : Model) (r : ℕ) → Core ord m taskLimit → Core ord (withNow m r) taskLimit
 core-now m r c = record { stand = c .stand; count = c .count; queues = c .queues; ceils = c .ceils; low = c .low; high = c .high }
