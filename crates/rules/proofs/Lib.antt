@@ -9,5 +9,7 @@ pub mod Room
 pub mod HeldLaws
 pub mod WakingLaws
 pub mod Kept
+pub mod SoundLaws
+pub mod Soundness
 pub mod Cases
 pub mod PriorityLaws
