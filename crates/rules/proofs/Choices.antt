@@ -30,6 +30,13 @@ pub both-ways : {A : Type 0} (P : A → Type 0) (b : Bool) (x y : A) → (b ≡ 
 both-ways P true x y f g = f refl
 both-ways P false x y f g = g refl
 
+-- a choice whose test is known
+pub cond-true : {A : Type 0} (b : Bool) (x y : A) → b ≡ true → cond b x y ≡ x
+cond-true b x y e = ap (λ (v : Bool). cond v x y) e
+
+pub cond-false : {A : Type 0} (b : Bool) (x y : A) → b ≡ false → cond b x y ≡ y
+cond-false b x y e = ap (λ (v : Bool). cond v x y) e
+
 -- "and": taken apart, and made
 pub and-left : (a b : Bool) → (a && b) ≡ true → a ≡ true
 and-left true b e = refl

@@ -109,7 +109,7 @@ fair-permit cs now k b f =
     record { waiting = f .waiting; listing = f .listing; once = f .once; rises = f .rises; calm = f .calm; due = f .due }
 
 -- a task that holds nothing, with any base and none waiting
-fair-bare : (cs : List ℕ) (now : ℕ) (k : TaskRecord) → depth k ≡ 0 → k .waiting ≡ none → dueGood now (k .place) ≡ true → Fair cs now k
+pub fair-bare : (cs : List ℕ) (now : ℕ) (k : TaskRecord) → depth k ≡ 0 → k .waiting ≡ none → dueGood now (k .place) ≡ true → Fair cs now k
 unfolding waitingGood
 fair-bare cs now k z w d = record {
   waiting = ap waitingGood w;
@@ -164,7 +164,7 @@ pending-rejoin m t k c s b l z w r =
     (fair-bare (m .ceilings) (m .now) (withPlace k Ready) z w refl))
 
 -- a dispatch
-good-dispatch : {ord : Bool} (m : Model) → Pending ord m → Good ord (dispatch m)
+pub good-dispatch : {ord : Bool} (m : Model) → Pending ord m → Good ord (dispatch m)
 good-dispatch {ord} m h = record {
   pending = record {
     core = dispatched m (h .core) .core;

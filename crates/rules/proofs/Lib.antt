@@ -11,5 +11,6 @@ pub mod WakingLaws
 pub mod Kept
 pub mod SoundLaws
 pub mod Soundness
+pub mod FreshLaws
 pub mod Cases
 pub mod PriorityLaws
