@@ -12,5 +12,8 @@ pub mod Kept
 pub mod SoundLaws
 pub mod Soundness
 pub mod FreshLaws
+pub mod Histories
+pub mod Refusals
+pub mod EventLaws
 pub mod Cases
 pub mod PriorityLaws

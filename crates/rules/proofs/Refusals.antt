@@ -1,0 +1,351 @@
+-- The table of refusals: every event answers with the first row of document 01's table that applies to it, and with 0 if none does;
+-- and a refused event gives back the Model that it got.
+use mathlib.Core.Path.{_≡_, refl, ap, _∙_, sym}
+use mathlib.Core.Bool.{Bool, true, false, cond, not, _&&_, _||_}
+use mathlib.Core.List.{List, [], _∷_}
+use Prim.Native.Nat.{ℕ, zero, suc, _+_, _<_}
+use native.Mathlib.Nat.{not-suc-le-zero}
+use native.Mathlib.Omega.{arith}
+use mathlib.Core.Logic.{_↔_, _⊎_, inl, inr}
+use lib.Dec.{leb, ltb}
+use lib.ListN.{length}
+use Rattle.rules.specs.Limits.{lastReading}
+use Rattle.rules.specs.Priorities.{inRange}
+use Rattle.rules.specs.Answers.{numberOf}
+use Rattle.rules.specs.Model.{Model, taskAt, ceilingOf, active}
+use Rattle.rules.specs.Moved.{Moved, refused, accepted, byRunning}
+use Rattle.rules.specs.Events.{noTask, noObject, holds, inside, innermost, isEnded, apply}
+use Rattle.rules.specs.Events.{enter, leave, delay, suspend, release, clock, setBase, work, finish}
+use Rattle.rules.specs.declared.Priority.{Priority}
+use Rattle.rules.specs.declared.Runner.{Runner}
+use Rattle.rules.specs.declared.Runner.the-variants.{Nobody, Task}
+use Rattle.rules.specs.declared.Event.{Event}
+use Rattle.rules.specs.declared.Event.the-variants.{Enter, Leave, Delay, Suspend, Release, Clock, Set, Work, Finish}
+use Rattle.rules.specs.declared.Answer.{Answer}
+use Rattle.rules.specs.declared.Answer.the-variants.{Done, NoSuchTask, NoSuchObject, BadPriority, BadReading, NobodyRuns, EndedTask}
+use Rattle.rules.specs.declared.Answer.the-variants.{InsideAction, AboveCeiling, NotInnermost}
+use Rattle.rules.proofs.Choices.{both-ways, cond-true, cond-false}
+
+-- a test of the running task; it does not hold where nobody runs
+unfoldable pub ofRunner : Runner → (ℕ → Bool) → Bool
+ofRunner Nobody f = false
+ofRunner (Task t) f = f t
+
+unfoldable pub isNobody : Runner → Bool
+isNobody Nobody = true
+isNobody (Task t) = false
+
+-- 1 "no such task"
+unfoldable pub noSuchTask : Model → Event → Bool
+noSuchTask m (Enter o) = false
+noSuchTask m (Leave o) = false
+noSuchTask m (Delay d) = false
+noSuchTask m Suspend = false
+noSuchTask m (Release t) = noTask m t
+noSuchTask m (Clock r) = false
+noSuchTask m (Set t p) = noTask m t
+noSuchTask m Work = false
+noSuchTask m Finish = false
+
+-- 2 "no such object"
+unfoldable pub noSuchObject : Model → Event → Bool
+noSuchObject m (Enter o) = noObject m o
+noSuchObject m (Leave o) = noObject m o
+noSuchObject m (Delay d) = false
+noSuchObject m Suspend = false
+noSuchObject m (Release t) = false
+noSuchObject m (Clock r) = false
+noSuchObject m (Set t p) = false
+noSuchObject m Work = false
+noSuchObject m Finish = false
+
+-- 3 "priority outside 1 to 32"
+unfoldable pub badPriority : Model → Event → Bool
+badPriority m (Enter o) = false
+badPriority m (Leave o) = false
+badPriority m (Delay d) = false
+badPriority m Suspend = false
+badPriority m (Release t) = false
+badPriority m (Clock r) = false
+badPriority m (Set t p) = not (inRange (p .0))
+badPriority m Work = false
+badPriority m Finish = false
+
+-- 4 "reading below now or above the largest"
+unfoldable pub badReading : Model → Event → Bool
+badReading m (Enter o) = false
+badReading m (Leave o) = false
+badReading m (Delay d) = false
+badReading m Suspend = false
+badReading m (Release t) = false
+badReading m (Clock r) = ltb r (m .now) || ltb lastReading r
+badReading m (Set t p) = false
+badReading m Work = false
+badReading m Finish = false
+
+-- 5 "Enter, Leave, Delay, Suspend, Work, Finish .. and nobody runs"
+unfoldable pub nobodyRuns : Model → Event → Bool
+nobodyRuns m (Enter o) = isNobody (m .running)
+nobodyRuns m (Leave o) = isNobody (m .running)
+nobodyRuns m (Delay d) = isNobody (m .running)
+nobodyRuns m Suspend = isNobody (m .running)
+nobodyRuns m (Release t) = false
+nobodyRuns m (Clock r) = false
+nobodyRuns m (Set t p) = false
+nobodyRuns m Work = isNobody (m .running)
+nobodyRuns m Finish = isNobody (m .running)
+
+-- 6 "Set on an ended task"
+unfoldable pub endedTask : Model → Event → Bool
+endedTask m (Enter o) = false
+endedTask m (Leave o) = false
+endedTask m (Delay d) = false
+endedTask m Suspend = false
+endedTask m (Release t) = false
+endedTask m (Clock r) = false
+endedTask m (Set t p) = isEnded (taskAt m t .place)
+endedTask m Work = false
+endedTask m Finish = false
+
+-- 7 "Delay (also 0), Suspend or Finish inside a protected action, or Enter of an object that the task holds"
+unfoldable pub insideAction : Model → Event → Bool
+insideAction m (Enter o) = ofRunner (m .running) (λ t. holds (taskAt m t) o)
+insideAction m (Leave o) = false
+insideAction m (Delay d) = ofRunner (m .running) (λ t. inside (taskAt m t))
+insideAction m Suspend = ofRunner (m .running) (λ t. inside (taskAt m t))
+insideAction m (Release t) = false
+insideAction m (Clock r) = false
+insideAction m (Set t p) = false
+insideAction m Work = false
+insideAction m Finish = ofRunner (m .running) (λ t. inside (taskAt m t))
+
+-- 8 "Enter with active priority above the ceiling"
+unfoldable pub aboveCeiling : Model → Event → Bool
+aboveCeiling m (Enter o) = ofRunner (m .running) (λ t. ltb (ceilingOf (m .ceilings) o) (active m t))
+aboveCeiling m (Leave o) = false
+aboveCeiling m (Delay d) = false
+aboveCeiling m Suspend = false
+aboveCeiling m (Release t) = false
+aboveCeiling m (Clock r) = false
+aboveCeiling m (Set t p) = false
+aboveCeiling m Work = false
+aboveCeiling m Finish = false
+
+-- 9 "Leave of an object that isn't the innermost held"
+unfoldable pub notInnermost : Model → Event → Bool
+notInnermost m (Enter o) = false
+notInnermost m (Leave o) = ofRunner (m .running) (λ t. not (innermost (taskAt m t) o))
+notInnermost m (Delay d) = false
+notInnermost m Suspend = false
+notInnermost m (Release t) = false
+notInnermost m (Clock r) = false
+notInnermost m (Set t p) = false
+notInnermost m Work = false
+notInnermost m Finish = false
+
+-- a row of the table: its answer, and when it applies
+pub record Row : Type 0 where
+  pub answer : Answer
+  pub applies : Bool
+
+-- the rows from 1 to 9, lowest first
+unfoldable pub table : Model → Event → List Row
+table m e =
+    record { answer = NoSuchTask; applies = noSuchTask m e } ∷
+    record { answer = NoSuchObject; applies = noSuchObject m e } ∷
+    record { answer = BadPriority; applies = badPriority m e } ∷
+    record { answer = BadReading; applies = badReading m e } ∷
+    record { answer = NobodyRuns; applies = nobodyRuns m e } ∷
+    record { answer = EndedTask; applies = endedTask m e } ∷
+    record { answer = InsideAction; applies = insideAction m e } ∷
+    record { answer = AboveCeiling; applies = aboveCeiling m e } ∷
+    record { answer = NotInnermost; applies = notInnermost m e } ∷ []
+
+-- "the lowest number wins"; 0 where no row applies
+unfoldable pub lowest : List Row → Answer
+lowest [] = Done
+lowest (r ∷ rs) = cond (r .applies) (r .answer) (lowest rs)
+
+-- the answer of a choice
+answer-cond : (b : Bool) (x y : Moved) → cond b x y .answer ≡ cond b (x .answer) (y .answer)
+answer-cond true x y = refl
+answer-cond false x y = refl
+
+-- an event of the running task with the tests f and g: refused, or accepted
+one-test : (m : Model) (w : Runner) (a : Answer) (f : ℕ → Bool) (x : ℕ → Model) →
+    byRunning m w (λ t. cond (f t) (refused m a) (accepted (x t))) .answer ≡ cond (isNobody w) NobodyRuns (cond (ofRunner w f) a Done)
+unfolding byRunning ofRunner isNobody accepted
+one-test m Nobody a f x = refl
+one-test m (Task t) a f x = answer-cond (f t) (refused m a) (accepted (x t))
+
+two-tests : (m : Model) (w : Runner) (a b : Answer) (f g : ℕ → Bool) (x : ℕ → Model) →
+    byRunning m w (λ t. cond (f t) (refused m a) (cond (g t) (refused m b) (accepted (x t)))) .answer ≡
+    cond (isNobody w) NobodyRuns (cond (ofRunner w f) a (cond (ofRunner w g) b Done))
+unfolding byRunning ofRunner isNobody accepted
+two-tests m Nobody a b f g x = refl
+two-tests m (Task t) a b f g x =
+    answer-cond (f t) (refused m a) (cond (g t) (refused m b) (accepted (x t))) ∙
+    ap (cond (f t) a) (answer-cond (g t) (refused m b) (accepted (x t)))
+
+no-test : (m : Model) (w : Runner) → byRunning m w (λ t. accepted m) .answer ≡ cond (isNobody w) NobodyRuns Done
+unfolding byRunning isNobody accepted
+no-test m Nobody = refl
+no-test m (Task t) = refl
+
+-- every event answers with the lowest row that applies
+pub answers : (m : Model) (e : Event) → apply m e .answer ≡ lowest (table m e)
+unfolding apply enter leave delay suspend release clock setBase work finish accepted lowest table
+    noSuchTask noSuchObject badPriority badReading nobodyRuns endedTask insideAction aboveCeiling notInnermost
+answers m (Enter o) =
+    answer-cond (noObject m o) (refused m NoSuchObject) _ ∙ ap (cond (noObject m o) NoSuchObject) (two-tests m (m .running) _ _ _ _ _)
+answers m (Leave o) =
+    answer-cond (noObject m o) (refused m NoSuchObject) _ ∙ ap (cond (noObject m o) NoSuchObject) (one-test m (m .running) _ _ _)
+answers m (Delay d) = one-test m (m .running) _ _ _
+answers m Suspend = one-test m (m .running) _ _ _
+answers m (Release t) = answer-cond (noTask m t) (refused m NoSuchTask) _
+answers m (Clock r) = answer-cond (ltb r (m .now) || ltb lastReading r) (refused m BadReading) _
+answers m (Set t p) =
+    answer-cond (noTask m t) (refused m NoSuchTask) _ ∙
+    ap (cond (noTask m t) NoSuchTask)
+    (answer-cond (not (inRange (p .0))) (refused m BadPriority) _ ∙
+    ap (cond (not (inRange (p .0))) BadPriority) (answer-cond (isEnded (taskAt m t .place)) (refused m EndedTask) _))
+answers m Work = no-test m (m .running)
+answers m Finish = one-test m (m .running) _ _ _
+
+-- rows whose answers are numbered from suc i on
+unfoldable Numbered : ℕ → List Row → Type 0
+Numbered i [] = Unit
+Numbered i (r ∷ rs) = (numberOf (r .answer) ≡ suc i) × Numbered (suc i) rs
+
+-- whether the row with the number suc j applies; past the last none does
+unfoldable pub appliesAt : List Row → ℕ → Bool
+appliesAt [] j = false
+appliesAt (r ∷ rs) zero = r .applies
+appliesAt (r ∷ rs) (suc j) = appliesAt rs j
+
+-- the lowest answer is 0, or numbered above i
+lowest-above : (i : ℕ) (rs : List Row) → Numbered i rs → 0 < numberOf (lowest rs) → i < numberOf (lowest rs)
+unfolding Numbered lowest
+lowest-above i [] n h = absurd (not-suc-le-zero h)
+lowest-above i (r ∷ rs) n h = go (r .applies) (lowest-above (suc i) rs (n .1)) h
+  where
+    go : (b : Bool) → (0 < numberOf (lowest rs) → suc i < numberOf (lowest rs)) → 0 < numberOf (cond b (r .answer) (lowest rs)) →
+        i < numberOf (cond b (r .answer) (lowest rs))
+    go true f g = omega (arith, n .0)
+    go false f g = omega (arith, f g)
+
+-- the row applies, and no lower one does
+pub record First (rs : List Row) (j : ℕ) : Type 0 where
+  pub applies : appliesAt rs j ≡ true
+  pub none : (k : ℕ) → k < j → appliesAt rs k ≡ false
+
+lowest-is : (i : ℕ) (rs : List Row) (j : ℕ) → Numbered i rs → First rs j → numberOf (lowest rs) ≡ suc (i + j)
+unfolding Numbered lowest appliesAt
+lowest-is i [] j n f = absurd (let z : _≡_ {A = ℕ} 0 1 = cc (f .applies) in omega arith)
+lowest-is i (r ∷ rs) zero n f = ap numberOf (cond-true (r .applies) (r .answer) (lowest rs) (f .applies)) ∙ n .0 ∙ omega arith
+lowest-is i (r ∷ rs) (suc j) n f =
+    let rest : First rs j = record { applies = f .applies; none = λ k h. f .none (suc k) (omega arith) } in
+    ap numberOf (cond-false (r .applies) (r .answer) (lowest rs) (f .none 0 (omega arith))) ∙ lowest-is (suc i) rs j (n .1) rest ∙ omega arith
+
+-- a first row behind one that does not apply
+behind : (r : Row) (rs : List Row) (j : ℕ) → r .applies ≡ false → First rs j → First (r ∷ rs) (suc j)
+unfolding appliesAt
+behind r rs j a f = record { applies = f .applies; none = below }
+  where
+    below : (k : ℕ) → k < suc j → appliesAt (r ∷ rs) k ≡ false
+    below zero h = a
+    below (suc k) h = f .none k (omega arith)
+
+module _ (i : ℕ) (r : Row) (rs : List Row) (n : Numbered i (r ∷ rs)) where
+  first-there : (j : ℕ) → r .applies ≡ true → numberOf (r .answer) ≡ suc (i + j) → First (r ∷ rs) j
+  unfolding Numbered appliesAt
+  first-there zero a e = record { applies = a; none = λ k h. absurd (not-suc-le-zero h) }
+  first-there (suc j) a e = absurd (omega (arith, e, n .0))
+
+lowest-from : (i : ℕ) (rs : List Row) (j : ℕ) → Numbered i rs → numberOf (lowest rs) ≡ suc (i + j) → First rs j
+unfolding Numbered lowest
+lowest-from i [] j n e = absurd (omega arith)
+lowest-from i (r ∷ rs) zero n e =
+    both-ways (λ (a : Answer). numberOf a ≡ suc (i + 0) → First (r ∷ rs) 0) (r .applies) (r .answer) (lowest rs) (λ a. first-there i r rs n 0 a)
+    (λ a f. absurd (omega (arith, f, lowest-above (suc i) rs (n .1) (omega (arith, f))))) e
+lowest-from i (r ∷ rs) (suc j) n e =
+    both-ways (λ (a : Answer). numberOf a ≡ suc (i + suc j) → First (r ∷ rs) (suc j)) (r .applies) (r .answer) (lowest rs)
+    (λ a. first-there i r rs n (suc j) a) (λ a f. behind r rs j a (lowest-from (suc i) rs j (n .1) (f ∙ omega arith))) e
+
+numbered : (m : Model) (e : Event) → Numbered 0 (table m e)
+unfolding Numbered table
+numbered m e = (refl, (refl, (refl, (refl, (refl, (refl, (refl, (refl, (refl, tt)))))))))
+
+-- an event answers n, from 1 on, exactly when row n applies and no lower row does
+pub exactly-when : (m : Model) (e : Event) (j : ℕ) → (numberOf (apply m e .answer) ≡ suc j) ↔ First (table m e) j
+exactly-when m e j = (
+  λ h. lowest-from 0 (table m e) j (numbered m e) (sym (ap numberOf (answers m e)) ∙ h ∙ omega arith),
+  λ f. ap numberOf (answers m e) ∙ lowest-is 0 (table m e) j (numbered m e) f ∙ omega arith,
+)
+
+-- where row j applies there is a first that does
+firstOf : (rs : List Row) (j : ℕ) → (appliesAt rs j ≡ false) ⊎ ((k : ℕ) × First rs k)
+unfolding appliesAt
+firstOf [] j = inl refl
+firstOf (r ∷ rs) j = go (r .applies) refl (λ i. firstOf rs i) j
+  where
+    go : (b : Bool) → r .applies ≡ b → ((i : ℕ) → (appliesAt rs i ≡ false) ⊎ ((k : ℕ) × First rs k)) → (j : ℕ) →
+        (appliesAt (r ∷ rs) j ≡ false) ⊎ ((k : ℕ) × First (r ∷ rs) k)
+    go true a f j = inr (0, record { applies = a; none = λ k h. absurd (not-suc-le-zero h) })
+    go false a f zero = inl a
+    go false a f (suc j) = next (f j)
+      where
+        next : (appliesAt rs j ≡ false) ⊎ ((k : ℕ) × First rs k) → (appliesAt (r ∷ rs) (suc j) ≡ false) ⊎ ((k : ℕ) × First (r ∷ rs) k)
+        next (inl e) = inl e
+        next (inr e) = inr (suc (e .0), behind r rs (e .0) a (e .1))
+
+-- and 0 exactly when no row applies
+none-apply : (rs : List Row) → ((j : ℕ) → appliesAt rs j ≡ false) → lowest rs ≡ Done
+unfolding lowest appliesAt
+none-apply [] h = refl
+none-apply (r ∷ rs) h = cond-false (r .applies) (r .answer) (lowest rs) (h 0) ∙ none-apply rs (λ j. h (suc j))
+
+pub done-when : (m : Model) (e : Event) → ((j : ℕ) → appliesAt (table m e) j ≡ false) → apply m e .answer ≡ Done
+done-when m e h = answers m e ∙ none-apply (table m e) h
+
+pub done-only-when : (m : Model) (e : Event) → apply m e .answer ≡ Done → (j : ℕ) → appliesAt (table m e) j ≡ false
+done-only-when m e d j = go (firstOf (table m e) j)
+  where
+    z : numberOf (apply m e .answer) ≡ 0
+    z = ap numberOf d
+
+    go : (appliesAt (table m e) j ≡ false) ⊎ ((k : ℕ) × First (table m e) k) → appliesAt (table m e) j ≡ false
+    go (inl f) = f
+    go (inr f) = absurd (omega (arith, z, exactly-when m e (f .0) .1 (f .1)))
+
+-- "Any refusal returns the state unchanged."
+abbrev Unchanged : Model → Moved → Type 0
+Unchanged m r = (r .answer ≡ Done → ⊥) → r .model ≡ m
+
+same-done : (m n : Model) → Unchanged m (accepted n)
+unfolding accepted
+same-done m n f = absurd (f refl)
+
+same-unless : (m : Model) (b : Bool) (a : Answer) (r : Moved) → Unchanged m r → Unchanged m (cond b (refused m a) r)
+same-unless m b a r h = both-ways (Unchanged m) b (refused m a) r (λ e f. refl) (λ e. h)
+
+same-by : (m : Model) (w : Runner) (f : ℕ → Moved) → ((t : ℕ) → Unchanged m (f t)) → Unchanged m (byRunning m w f)
+unfolding byRunning
+same-by m Nobody f h = λ g. refl
+same-by m (Task t) f h = h t
+
+pub refused-same : (m : Model) (e : Event) → (apply m e .answer ≡ Done → ⊥) → apply m e .model ≡ m
+unfolding apply enter leave delay suspend release clock setBase work finish
+refused-same m (Enter o) =
+    same-unless m (noObject m o) _ _ (same-by m (m .running) _ (λ t.
+    same-unless m (holds (taskAt m t) o) _ _ (same-unless m (ltb (ceilingOf (m .ceilings) o) (active m t)) _ _ (same-done m _))))
+refused-same m (Leave o) =
+    same-unless m (noObject m o) _ _ (same-by m (m .running) _ (λ t. same-unless m (not (innermost (taskAt m t) o)) _ _ (same-done m _)))
+refused-same m (Delay d) = same-by m (m .running) _ (λ t. same-unless m (inside (taskAt m t)) _ _ (same-done m _))
+refused-same m Suspend = same-by m (m .running) _ (λ t. same-unless m (inside (taskAt m t)) _ _ (same-done m _))
+refused-same m (Release t) = same-unless m (noTask m t) _ _ (same-done m _)
+refused-same m (Clock r) = same-unless m (ltb r (m .now) || ltb lastReading r) _ _ (same-done m _)
+refused-same m (Set t p) =
+    same-unless m (noTask m t) _ _ (same-unless m (not (inRange (p .0))) _ _ (same-unless m (isEnded (taskAt m t .place)) _ _ (same-done m _)))
+refused-same m Work = same-by m (m .running) _ (λ t. same-done m _)
+refused-same m Finish = same-by m (m .running) _ (λ t. same-unless m (inside (taskAt m t)) _ _ (same-done m _))
