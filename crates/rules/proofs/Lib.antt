@@ -8,12 +8,15 @@ pub mod DispatchLaws
 pub mod Room
 pub mod HeldLaws
 pub mod WakingLaws
+pub mod WakeOrder
 pub mod Kept
 pub mod SoundLaws
 pub mod Soundness
 pub mod FreshLaws
 pub mod Histories
+pub mod MoveLaws
 pub mod Refusals
 pub mod EventLaws
+pub mod Effects
 pub mod Cases
 pub mod PriorityLaws

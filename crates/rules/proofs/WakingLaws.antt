@@ -94,7 +94,7 @@ unfoldable pub dues : ℕ → List TaskRecord → ℕ
 dues r [] = 0
 dues r (k ∷ ks) = isDue r (k .place) + dues r ks
 
-dues-set : (r : ℕ) (ts : List TaskRecord) (t : ℕ) (k : TaskRecord) → t < length ts →
+pub dues-set : (r : ℕ) (ts : List TaskRecord) (t : ℕ) (k : TaskRecord) → t < length ts →
     dues r (set ts t k) + isDue r (entry ts t .place) ≡ dues r ts + isDue r (k .place)
 unfolding dues
 dues-set r [] t k h = absurd (not-suc-le-zero h)
@@ -209,14 +209,14 @@ finds r i (k ∷ ks) =
     (finds-both r i k ks (dueAt r i (k .place)) (firstDue r nobody (suc i) ks) (finds-at r i (k .place)) (finds r (suc i) ks))
 
 -- what waking one task keeps: m before, n after
-record Woke (ord : Bool) (r : ℕ) (m n : Model) : Type 0 where
-  core : Core ord n taskLimit
-  now : n .now ≡ m .now
-  running : n .running ≡ m .running
-  count : length (n .tasks) ≡ length (m .tasks)
-  ceilings : n .ceilings ≡ m .ceilings
-  each : (u : ℕ) → awake r (taskAt n u) ≡ awake r (taskAt m u)
-  fewer : dues r (n .tasks) ≤ dues r (m .tasks) - 1
+pub record Woke (ord : Bool) (r : ℕ) (m n : Model) : Type 0 where
+  pub core : Core ord n taskLimit
+  pub now : n .now ≡ m .now
+  pub running : n .running ≡ m .running
+  pub count : length (n .tasks) ≡ length (m .tasks)
+  pub ceilings : n .ceilings ≡ m .ceilings
+  pub each : (u : ℕ) → awake r (taskAt n u) ≡ awake r (taskAt m u)
+  pub fewer : dues r (n .tasks) ≤ dues r (m .tasks) - 1
 
 woke-one : {ord : Bool} (r t d : ℕ) (m : Model) → Core ord m taskLimit → t < length (m .tasks) → taskAt m t .place ≡ Delayed d → d ≤ r →
     Woke ord r m (becomeReady m t)
@@ -232,7 +232,7 @@ woke-one r t d m c h p e = record {
   fewer = omega (arith, dues-set r (m .tasks) t (withPlace (taskAt m t) Ready) h, due-is r d (taskAt m t .place) p e);
 }
 
-woke : {ord : Bool} (r : ℕ) (m : Model) (f : Due) → Core ord m taskLimit → Finds r 0 (m .tasks) f → Woke ord r m (wake m f)
+pub woke : {ord : Bool} (r : ℕ) (m : Model) (f : Due) → Core ord m taskLimit → Finds r 0 (m .tasks) f → Woke ord r m (wake m f)
 unfolding wake
 woke r m nobody c s =
     record { core = c; now = refl; running = refl; count = refl; ceilings = refl; each = λ u. refl; fewer = omega arith }
