@@ -119,7 +119,8 @@ alike-by m c (Task t) e =
     let top = highest-is m (λ i. omega (arith, i, above)) in
     let h = highest-preempt m t (highest m) c top above (act-low m taskLimit c t (runner-in m c t r)) in
     let head = head-ready (preempt m t) (highest m) (core-preempt m c t r) h (none-preempt m t) in
-    alike-then (alike-preempt m t (running-upright _ (runner-place m t c e))) (alike-start (preempt m t) (highest m) (ready-upright _ head)))
+    alike-then (alike-preempt m t (running-upright _ (runner-place m t c e)))
+    (alike-start (preempt m t) (highest m) (ready-upright _ head)))
 
 pub alike-dispatch : {ord : Bool} (m : Model) → Core ord m taskLimit → Alike m (dispatch m)
 unfolding dispatch

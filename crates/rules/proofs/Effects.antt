@@ -11,7 +11,8 @@ use lib.Seq.{set-set}
 use Rattle.rules.specs.Limits.{lastReading, firstPriority, lastPriority}
 use Rattle.rules.specs.Priorities.{inRange}
 use Rattle.rules.specs.Answers.{numberOf}
-use Rattle.rules.specs.Model.{Model, TaskRecord, none, waits, blank, withPlace, withBase, withWaiting, withPermit, withNow, taskAt, withTask}
+use Rattle.rules.specs.Model.{Model, TaskRecord, none, waits, blank, withPlace, withBase, withWaiting, withPermit, withNow}
+use Rattle.rules.specs.Model.{taskAt, withTask}
 use Rattle.rules.specs.Model.{queue, withTasks, ceilingOf, activeOf, active}
 use Rattle.rules.specs.Moves.{stopped, becomeReady, dispatch}
 use Rattle.rules.specs.Moved.{Moved, refused, accepted, byRunning}
@@ -79,7 +80,8 @@ module _ (m : Model) where
 
   pub delay-does : (d : ℕ) → delay m d .answer ≡ Done → Does m (delay m d) (λ t. putOff (stopped m) t d)
   unfolding delay
-  delay-does d = does-by m _ _ (λ t. after-unless m _ (inside (taskAt m t)) InsideAction _ (omega arith) (after-accepted (putOff (stopped m) t d)))
+  delay-does d =
+      does-by m _ _ (λ t. after-unless m _ (inside (taskAt m t)) InsideAction _ (omega arith) (after-accepted (putOff (stopped m) t d)))
 
   pub suspend-does : suspend m .answer ≡ Done → Does m (suspend m) (rest m)
   unfolding suspend
@@ -88,7 +90,8 @@ module _ (m : Model) where
   pub finish-does : finish m .answer ≡ Done → Does m (finish m) (λ t. withTask (stopped m) t (withPlace (taskAt m t) Ended))
   unfolding finish
   finish-does = does-by m _ _ (λ t.
-      after-unless m _ (inside (taskAt m t)) InsideAction _ (omega arith) (after-accepted (withTask (stopped m) t (withPlace (taskAt m t) Ended))))
+      after-unless m _ (inside (taskAt m t)) InsideAction _ (omega arith)
+      (after-accepted (withTask (stopped m) t (withPlace (taskAt m t) Ended))))
 
   pub work-does : work m .answer ≡ Done → Does m (work m) (λ t. m)
   unfolding work
@@ -110,7 +113,8 @@ module _ (m : Model) where
 
 -- A Leave changes no queue before its dispatch while something is still held, or where no base waits: the task runs on
 module _ (m : Model) (t : ℕ) where
-  pub leave-holds-on : inside (taskAt (giveUp m t) t) ≡ true → (settle (giveUp m t) t .ready ≡ m .ready) × (settle (giveUp m t) t .running ≡ m .running)
+  pub leave-holds-on : inside (taskAt (giveUp m t) t) ≡ true →
+      (settle (giveUp m t) t .ready ≡ m .ready) × (settle (giveUp m t) t .running ≡ m .running)
   leave-holds-on e = let s = settle-inside (giveUp m t) t e in (ap (λ (n : Model). n .ready) s, ap (λ (n : Model). n .running) s)
 
   pub leave-runs-on : inside (taskAt (giveUp m t) t) ≡ false → taskAt (giveUp m t) t .waiting ≡ none →
@@ -118,7 +122,8 @@ module _ (m : Model) (t : ℕ) where
   leave-runs-on e w = let s = settle-none (giveUp m t) t e w in (ap (λ (n : Model). n .ready) s, ap (λ (n : Model). n .running) s)
 
   -- .. and otherwise the waiting base is its base, and it is the last in the queue for that
-  pub leave-last : (p : ℕ) → inside (taskAt (giveUp m t) t) ≡ false → taskAt (giveUp m t) t .waiting ≡ waits p → t < length (giveUp m t .tasks) →
+  pub leave-last : (p : ℕ) → inside (taskAt (giveUp m t) t) ≡ false → taskAt (giveUp m t) t .waiting ≡ waits p →
+      t < length (giveUp m t .tasks) →
       Queued m p → queue (settle (giveUp m t) t) p ≡ queue m p ++ (t ∷ [])
   unfolding stopped
   leave-last p e w h q =
@@ -133,7 +138,8 @@ module _ (m : Model) (t : ℕ) where
 
   -- A Set inside an action changes neither base nor queues, and a later one replaces it
   pub set-waits : (p : ℕ) → inside (taskAt m t) ≡ true → t < length (m .tasks) →
-      (taskAt (rebase m t p) t ≡ withWaiting (taskAt m t) (waits p)) × (rebase m t p .ready ≡ m .ready) × (rebase m t p .running ≡ m .running)
+      (taskAt (rebase m t p) t ≡ withWaiting (taskAt m t) (waits p)) × (rebase m t p .ready ≡ m .ready) ×
+      (rebase m t p .running ≡ m .running)
   set-waits p e h =
       let r = rebase-inside m t p e in (
         ap (λ (n : Model). taskAt n t) r ∙ at-same (λ (v : TaskRecord). v) blank (m .tasks) t (withWaiting (taskAt m t) (waits p)) t refl h,

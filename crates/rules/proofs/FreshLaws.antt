@@ -42,7 +42,8 @@ new-at (b ∷ bs) zero h = refl
 new-at (b ∷ bs) (suc u) h = new-at bs u (omega arith)
 
 -- none of them is anywhere yet
-new-off : (bs : List ℕ) (u : ℕ) → (ready (entry (newTasks bs) u) ≡ 0) × (running (entry (newTasks bs) u) ≡ 0) × (depth (entry (newTasks bs) u) ≡ 0)
+new-off : (bs : List ℕ) (u : ℕ) →
+    (ready (entry (newTasks bs) u) ≡ 0) × (running (entry (newTasks bs) u) ≡ 0) × (depth (entry (newTasks bs) u) ≡ 0)
 unfolding newTasks isReady isRunning
 new-off [] u = (refl, refl, refl)
 new-off (b ∷ bs) zero = (refl, refl, refl)
@@ -108,7 +109,8 @@ module _ (bs cs : List ℕ) (count : length bs ≤ taskLimit) (bases : allOf inR
   unfolding becomeReady
   join-one i m h a =
       let is : taskAt m i ≡ entry (newTasks bs) i = a .left i (omega arith) in
-      let off : ready (taskAt m i) + running (taskAt m i) ≡ 0 = omega (arith, ap ready is, ap running is, new-off bs i .0, new-off bs i .1) in
+      let off : ready (taskAt m i) + running (taskAt m i) ≡ 0 =
+      omega (arith, ap ready is, ap running is, new-off bs i .0, new-off bs i .1) in
       let k : TaskRecord = withPlace (taskAt m i) Ready in
       let l : i < length (m .tasks) = omega (arith, a .size) in
       record {
@@ -117,7 +119,8 @@ module _ (bs cs : List ℕ) (count : length bs ≤ taskLimit) (bases : allOf inR
         objects = a .objects;
         size = length-set (m .tasks) i k ∙ a .size;
         done = λ u g. split u i
-            (λ e. at-same (λ (v : TaskRecord). v) blank (m .tasks) i k u e l ∙ ap (λ (v : TaskRecord). withPlace v Ready) (is ∙ new-at bs i h) ∙
+            (λ e. at-same (λ (v : TaskRecord). v) blank (m .tasks) i k u e l ∙ ap (λ (v : TaskRecord). withPlace v Ready)
+            (is ∙ new-at bs i h) ∙
             ap (λ (v : ℕ). withPlace (newTask (getD bs v 0)) Ready) (sym e))
             (λ n. at-other (λ (v : TaskRecord). v) blank (m .tasks) i k u n ∙ a .done u (omega (arith, n)));
         left = λ u g. at-other (λ (v : TaskRecord). v) blank (m .tasks) i k u (λ e. omega arith) ∙ a .left u (omega arith);
@@ -187,17 +190,22 @@ module _ (bs cs : List ℕ) where
 
   on-counts : countsGood (length bs) (length cs) ≡ true → fresh bs cs ≡ counted
   unfolding fresh counted
-  on-counts e = cond-false (not (countsGood (length bs) (length cs))) (record { answer = BadCounts; model = refusedFresh }) counted (ap not e)
+  on-counts e = cond-false (not (countsGood (length bs) (length cs))) (record { answer = BadCounts; model = refusedFresh }) counted
+      (ap not e)
 
   pub fresh-15 : countsGood (length bs) (length cs) ≡ true → (allOf inRange bs && allOf inRange cs) ≡ false →
       fresh bs cs ≡ record { answer = BadBases; model = refusedFresh }
   unfolding counted
-  fresh-15 e f = on-counts e ∙ cond-true (not (allOf inRange bs && allOf inRange cs)) _ (record { answer = Done; model = freshModel bs cs }) (ap not f)
+  fresh-15 e f =
+      on-counts e ∙ cond-true (not (allOf inRange bs && allOf inRange cs)) _ (record { answer = Done; model = freshModel bs cs })
+      (ap not f)
 
   pub fresh-0 : countsGood (length bs) (length cs) ≡ true → (allOf inRange bs && allOf inRange cs) ≡ true →
       fresh bs cs ≡ record { answer = Done; model = freshModel bs cs }
   unfolding counted
-  fresh-0 e f = on-counts e ∙ cond-false (not (allOf inRange bs && allOf inRange cs)) (record { answer = BadBases; model = refusedFresh }) _ (ap not f)
+  fresh-0 e f =
+      on-counts e ∙ cond-false (not (allOf inRange bs && allOf inRange cs)) (record { answer = BadBases; model = refusedFresh }) _
+      (ap not f)
 
 -- in every one of them the Model is sound and in ceiling order
 pub refused-good : Good true refusedFresh

@@ -70,7 +70,8 @@ pub distinct-take : (n : ℕ) (l : List ℕ) → distinct l ≡ true → distinc
 distinct-take n l e = once-distinct (take n l) (λ u. omega (arith, times-take u n l, distinct-once l e u))
 
 -- ceilings that do not fall: with one more whose ceiling is not below the active priority, and of the first n
-pub rising-push : (cs : List ℕ) (b o : ℕ) (l : List ℕ) → rising cs b l ≡ true → highestOf cs b l ≤ ceilingOf cs o → rising cs b (l ++ (o ∷ [])) ≡ true
+pub rising-push : (cs : List ℕ) (b o : ℕ) (l : List ℕ) → rising cs b l ≡ true → highestOf cs b l ≤ ceilingOf cs o →
+    rising cs b (l ++ (o ∷ [])) ≡ true
 unfolding rising highestOf
 rising-push cs b o [] e g = and-make (leb b (ceilingOf cs o)) true (le-leb b (ceilingOf cs o) g) refl
 rising-push cs b o (x ∷ l) e g =

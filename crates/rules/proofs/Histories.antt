@@ -1,4 +1,4 @@
--- Histories from a fresh start, a Set from outside among the events: every one is sound and in ceiling order, and each object has one holder.
+-- Histories from a fresh start, a Set from outside among the events: each is sound and in ceiling order, and an object has one holder.
 use mathlib.Core.Path.{_≡_}
 use mathlib.Core.Bool.{Bool, true, false, _&&_}
 use mathlib.Core.List.{List, [], _∷_}

@@ -15,7 +15,8 @@ use Rattle.rules.specs.Model.{withNow, taskAt, queue, withTask, withQueu
 use Rattle.rules.specs.Moves.{stopped, becomeReady, dispatch}
 use Rattle.rules.specs.Moved.{Moved, refused, accepted, byRunning}
 use Rattle.rules.specs.Fresh.{allOf}
-use Rattle.rules.specs.Events.{timesIn, noTask, noObject, holds, inside, takeHold, enter, innermost, giveUp, settleWith, settle, leave}
+use Rattle.rules.specs.Events.{timesIn, noTask, noObject, holds, inside, takeHold, enter, innermost, giveUp, settleWith, settle}
+use Rattle.rules.specs.Events.{leave}
 use Rattle.rules.specs.Events.{putOff, delay, rest, suspend, permitOn, releaseFrom, release, wakeUp, clock, without}
 use Rattle.rules.specs.Events.{requeue, rebase, isEnded, setBase, work, finish, apply}
 use Rattle.rules.specs.Sound.{isReady, isRunning, runs, waitingGood, distinct, rising, dueGood}
@@ -246,7 +247,8 @@ module _ {ord : Bool} (m : Model) (t : ℕ) (h : Good ord m) (e : m .running ≡
   unfolding stopped
   pending-away x z g d =
       let k = withPlace (taskAt m t) x in
-      let c = core-put (stopped m) t (core-out m (h .pending .core) t t-runs g) k t-in g (h .pending .core .low t t-in) (h .pending .core .high t t-in) in
+      let c = core-put (stopped m) t (core-out m (h .pending .core) t t-runs g) k t-in g (h .pending .core .low t t-in)
+      (h .pending .core .high t t-in) in
       let is-ready = at-same ready blank (m .tasks) t k t refl t-in in
       let is-running = at-same running blank (m .tasks) t k t refl t-in in
       pending-set m t k (m .ready) Nobody (core-away _ t c (omega (arith, z, is-ready, is-running))) (h .pending .sizes) others t-in
@@ -389,7 +391,8 @@ unfolding finish isReady isRunning dueGood
 keep-finish m h =
     keep-by m _ h (λ t e.
     keep-unless m (inside (taskAt m t)) _ _ h (λ z.
-    keep-accepted (withTask (stopped m) t (withPlace (taskAt m t) Ended)) (pending-away m t h e Ended refl (hold-none (taskAt m t) z) refl)))
+    keep-accepted (withTask (stopped m) t (withPlace (taskAt m t) Ended))
+    (pending-away m t h e Ended refl (hold-none (taskAt m t) z) refl)))
 
 -- Release
 pub keep-release : {ord : Bool} (m : Model) (t : ℕ) → Good ord m → Keeps ord (release m t)
@@ -432,7 +435,9 @@ pub keep-clock : {ord : Bool} (m : Model) (r : ℕ) → Good ord m → Keeps ord
 unfolding clock
 keep-clock {ord} m r h =
     keep-unless m (ltb r (m .now) || ltb lastReading r) _ _ h (λ z.
-    keep-accepted n (read (ltb-false r (m .now) (or-none-left (ltb r (m .now)) (ltb lastReading r) z)) (ltb-false lastReading r (or-none-right (ltb r (m .now)) (ltb lastReading r) z))))
+    keep-accepted n
+    (read (ltb-false r (m .now) (or-none-left (ltb r (m .now)) (ltb lastReading r) z))
+    (ltb-false lastReading r (or-none-right (ltb r (m .now)) (ltb lastReading r) z))))
   where
     p : Pending ord m
     p = h .pending
@@ -474,7 +479,8 @@ keep-clock {ord} m r h =
 abbrev based : Model → ℕ → ℕ → TaskRecord
 based m t p = withBase (taskAt m t) p
 
-module _ {ord : Bool} (m : Model) (t p : ℕ) (h : Pending ord m) (l : t < length (m .tasks)) (z : depth (taskAt m t) ≡ 0) (g : inRange p ≡ true) where
+module _ {ord : Bool} (m : Model) (t p : ℕ) (h : Pending ord m) (l : t < length (m .tasks)) (z : depth (taskAt m t) ≡ 0)
+    (g : inRange p ≡ true) where
   rest-fair : FairBut m t
   rest-fair u n i = h .fair u i
 
@@ -486,7 +492,8 @@ module _ {ord : Bool} (m : Model) (t p : ℕ) (h : Pending ord m) (l : t < lengt
       let c = core-put m t (core-wake m (h .core) t o) (based m t p) l z (b .0) (b .1) in
       let is-ready = at-same ready blank (m .tasks) t (based m t p) t refl l in
       let is-running = at-same running blank (m .tasks) t (based m t p) t refl l in
-      pending-set m t (based m t p) (m .ready) (m .running) (core-away _ t c (omega (arith, o, is-ready, is-running))) (h .sizes) rest-fair l
+      pending-set m t (based m t p) (m .ready) (m .running) (core-away _ t c (omega (arith, o, is-ready, is-running)))
+      (h .sizes) rest-fair l
       (fair-bare (m .ceilings) (m .now) (based m t p) z (f .calm z) (f .due))
 
   -- it runs, or stands in the queue for its active priority: it goes to the tail
@@ -536,13 +543,21 @@ keep-set {ord} m t p h =
     (λ z. both-ways (Pending ord) (eqb (taskAt m t .base) p) _ _ (λ i. h .pending)
     (λ i. pending-based m t p (h .pending) (leb-false _ t l) (hold-none (taskAt m t) z) (not-false _ g) (taskAt m t .place) refl))))))
   where
-    later : t < length (m .tasks) → inRange p ≡ true → 0 < depth (taskAt m t) → Pending ord (withTask m t (withWaiting (taskAt m t) (waits p)))
+    later : t < length (m .tasks) → inRange p ≡ true → 0 < depth (taskAt m t) →
+        Pending ord (withTask m t (withWaiting (taskAt m t) (waits p)))
     later l g z =
         let k = withWaiting (taskAt m t) (waits p) in
         let c = h .pending in
         let f = c .fair t l in
         pending-set m t k (m .ready) (m .running) (core-same m (c .core) t k l refl refl refl refl refl) (c .sizes) (λ u n i. c .fair u i) l
-        (record { waiting = g; listing = f .listing; once = f .once; rises = f .rises; calm = λ i. absurd (omega (arith, i, z)); due = f .due })
+        (record {
+          waiting = g;
+          listing = f .listing;
+          once = f .once;
+          rises = f .rises;
+          calm = λ i. absurd (omega (arith, i, z));
+          due = f .due;
+        })
 
 -- a Delay has 16 bits
 unfoldable pub delayFits : Event → Bool

@@ -81,7 +81,8 @@ module _ (m : Model) (p : ℕ) where
 
   pub start-task : headOf m p < length (m .tasks) → taskAt (start m p) (headOf m p) ≡ withPlace (taskAt m (headOf m p)) Running
   unfolding start
-  start-task h = at-same (λ (k : TaskRecord). k) blank (m .tasks) (headOf m p) (withPlace (taskAt m (headOf m p)) Running) (headOf m p) refl h
+  start-task h = at-same (λ (k : TaskRecord). k) blank (m .tasks) (headOf m p) (withPlace (taskAt m (headOf m p)) Running)
+      (headOf m p) refl h
 
   pub start-tasks : (u : ℕ) → (u ≡ headOf m p → ⊥) → taskAt (start m p) u ≡ taskAt m u
   unfolding start
@@ -114,7 +115,8 @@ module _ (m : Model) where
   dispatch-switch t w e = ap (dispatchBy m) w ∙ cond-false (leb (highest m) (active m t)) m _ e
 
   -- a preempted task is the head of its queue after the dispatch, and nobody else of that queue has moved
-  pub preempted-head : (t : ℕ) → m .running ≡ Task t → active m t < highest m → firstPriority ≤ active m t → length (m .ready) ≡ lastPriority →
+  pub preempted-head : (t : ℕ) → m .running ≡ Task t → active m t < highest m → firstPriority ≤ active m t →
+      length (m .ready) ≡ lastPriority →
       queue (dispatch m) (active m t) ≡ t ∷ queue m (active m t)
   preempted-head t w above low len =
       let top : highest m ≤ lastPriority = highest-most m in

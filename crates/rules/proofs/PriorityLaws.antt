@@ -33,7 +33,8 @@ checked-bad n e = ap (λ (b : Bool). cond b (Good (record { 0 = n })) OutOfRange
 pub subrange-none : (p : Priority) → inRange (p .0) ≡ false → subrangeOf p ≡ Neither
 subrange-none p e = ap (λ (b : Bool). cond b (cond (ltb (p .0) firstInterrupt) Ordinary InterruptPriority) Neither) e
 
-pub subrange-known : (p : Priority) (low : Bool) → inRange (p .0) ≡ true → ltb (p .0) firstInterrupt ≡ low → subrangeOf p ≡ cond low Ordinary InterruptPriority
+pub subrange-known : (p : Priority) (low : Bool) → inRange (p .0) ≡ true → ltb (p .0) firstInterrupt ≡ low →
+    subrangeOf p ≡ cond low Ordinary InterruptPriority
 subrange-known p low e f =
     ap (λ (b : Bool). cond b (cond (ltb (p .0) firstInterrupt) Ordinary InterruptPriority) Neither) e ∙
     ap (λ (b : Bool). cond b Ordinary InterruptPriority) f

@@ -245,7 +245,8 @@ lowest-is i [] j n f = absurd (let z : _≡_ {A = ℕ} 0 1 = cc (f .applies) in 
 lowest-is i (r ∷ rs) zero n f = ap numberOf (cond-true (r .applies) (r .answer) (lowest rs) (f .applies)) ∙ n .0 ∙ omega arith
 lowest-is i (r ∷ rs) (suc j) n f =
     let rest : First rs j = record { applies = f .applies; none = λ k h. f .none (suc k) (omega arith) } in
-    ap numberOf (cond-false (r .applies) (r .answer) (lowest rs) (f .none 0 (omega arith))) ∙ lowest-is (suc i) rs j (n .1) rest ∙ omega arith
+    ap numberOf (cond-false (r .applies) (r .answer) (lowest rs) (f .none 0 (omega arith))) ∙ lowest-is (suc i) rs j (n .1) rest ∙
+    omega arith
 
 -- a first row behind one that does not apply
 behind : (r : Row) (rs : List Row) (j : ℕ) → r .applies ≡ false → First rs j → First (r ∷ rs) (suc j)
@@ -266,7 +267,8 @@ lowest-from : (i : ℕ) (rs : List Row) (j : ℕ) → Numbered i rs → numberOf
 unfolding Numbered lowest
 lowest-from i [] j n e = absurd (omega arith)
 lowest-from i (r ∷ rs) zero n e =
-    both-ways (λ (a : Answer). numberOf a ≡ suc (i + 0) → First (r ∷ rs) 0) (r .applies) (r .answer) (lowest rs) (λ a. first-there i r rs n 0 a)
+    both-ways (λ (a : Answer). numberOf a ≡ suc (i + 0) → First (r ∷ rs) 0) (r .applies) (r .answer) (lowest rs)
+    (λ a. first-there i r rs n 0 a)
     (λ a f. absurd (omega (arith, f, lowest-above (suc i) rs (n .1) (omega (arith, f))))) e
 lowest-from i (r ∷ rs) (suc j) n e =
     both-ways (λ (a : Answer). numberOf a ≡ suc (i + suc j) → First (r ∷ rs) (suc j)) (r .applies) (r .answer) (lowest rs)
@@ -346,6 +348,7 @@ refused-same m Suspend = same-by m (m .running) _ (λ t. same-unless m (inside (
 refused-same m (Release t) = same-unless m (noTask m t) _ _ (same-done m _)
 refused-same m (Clock r) = same-unless m (ltb r (m .now) || ltb lastReading r) _ _ (same-done m _)
 refused-same m (Set t p) =
-    same-unless m (noTask m t) _ _ (same-unless m (not (inRange (p .0))) _ _ (same-unless m (isEnded (taskAt m t .place)) _ _ (same-done m _)))
+    same-unless m (noTask m t) _ _
+    (same-unless m (not (inRange (p .0))) _ _ (same-unless m (isEnded (taskAt m t .place)) _ _ (same-done m _)))
 refused-same m Work = same-by m (m .running) _ (λ t. same-done m _)
 refused-same m Finish = same-by m (m .running) _ (λ t. same-unless m (inside (taskAt m t)) _ _ (same-done m _))

@@ -1,4 +1,5 @@
--- Room: a list of distinct numbers below n has at most n of them, so that a ready queue never outgrows the tasks, nor a held list the objects.
+-- Room: a list of distinct numbers below n has at most n of them, so that a ready queue never outgrows the tasks,
+-- nor a held list the objects.
 use mathlib.Core.Path.{_≡_, refl, ap, _∙_, sym}
 use mathlib.Core.Bool.{Bool, true, false}
 use mathlib.Core.List.{List, [], _∷_}

@@ -59,7 +59,8 @@ pub record Sound (m : Model) : Type 0 where
   pub rises : (t i : ℕ) → t < length (m .tasks) → i < length (taskAt m t .held) →
       getD (taskAt m t .base ∷ map (ceilingOf (m .ceilings)) (taskAt m t .held)) i 0 ≤ ceilingOf (m .ceilings) (getD (taskAt m t .held) i 0)
   -- "a holder neither ready nor running"
-  pub present : (t : ℕ) → t < length (m .tasks) → 0 < length (taskAt m t .held) → isReady (taskAt m t .place) + isRunning (taskAt m t .place) ≡ 1
+  pub present : (t : ℕ) → t < length (m .tasks) → 0 < length (taskAt m t .held) → isReady (taskAt m t .place) + isRunning
+      (taskAt m t .place) ≡ 1
   -- "a waiting base outside an action"
   pub calm : (t : ℕ) → t < length (m .tasks) → length (taskAt m t .held) ≡ 0 → taskAt m t .waiting ≡ none
 
@@ -173,7 +174,8 @@ runner-make m (Task t) h = ap not (lt-leb (length (m .tasks)) t (h t refl))
 
 -- whoever is queued is at most at the highest queue
 pub under-highest : (m : Model) (u : ℕ) → length (m .ready) ≡ lastPriority →
-    ((p t : ℕ) → p < lastPriority → 0 < timesIn t (getD (m .ready) p []) → active m t ≡ suc p) → 0 < queued (m .ready) u → active m u ≤ highest m
+    ((p t : ℕ) → p < lastPriority → 0 < timesIn t (getD (m .ready) p []) → active m t ≡ suc p) → 0 < queued (m .ready) u →
+    active m u ≤ highest m
 unfolding highest
 under-highest m u e f g =
     let v : Row (m .ready) u = row-of (m .ready) u g in
@@ -183,7 +185,8 @@ under-highest m u e f g =
     (λ i. omega (arith, f (v .at) u low (v .has)))
 
 -- and somebody stands in the highest queue
-highest-has : (m : Model) → 0 < highest m → (t : ℕ) × ((highest m - 1 < lastPriority) × (0 < timesIn t (getD (m .ready) (highest m - 1) [])))
+highest-has : (m : Model) → 0 < highest m →
+    (t : ℕ) × ((highest m - 1 < lastPriority) × (0 < timesIn t (getD (m .ready) (highest m - 1) [])))
 unfolding highest timesIn
 highest-has m h = first (getD (m .ready) (highestTo (m .ready) lastPriority - 1) []) (highest-full (m .ready) lastPriority h)
   where
@@ -199,16 +202,19 @@ module _ (m : Model) (e : sound m ≡ true) where
   clauses : (numbersGood m ≡ true) × (onePlace m ≡ true) × (ownQueue m ≡ true) × (dueAhead m ≡ true) × (highestRuns m (m .running) ≡ true) ×
       (heldGood m ≡ true) × (holdersHere m ≡ true) × (waitingInside m ≡ true)
   unfolding sound
-  clauses = eight (numbersGood m) (onePlace m) (ownQueue m) (dueAhead m) (highestRuns m (m .running)) (heldGood m) (holdersHere m) (waitingInside m) e
+  clauses = eight (numbersGood m) (onePlace m) (ownQueue m) (dueAhead m) (highestRuns m (m .running)) (heldGood m) (holdersHere m)
+      (waitingInside m) e
 
-  number-tests : (sizesGood m ≡ true) × (below (length (m .tasks)) (λ t. recordGood m (taskAt m t)) ≡ true) × (runnerGood m (m .running) ≡ true) ×
+  number-tests : (sizesGood m ≡ true) × (below (length (m .tasks)) (λ t. recordGood m (taskAt m t)) ≡ true) ×
+      (runnerGood m (m .running) ≡ true) ×
       (below lastPriority (λ q. allOf (λ t. not (noTask m t)) (queue m (suc q))) ≡ true)
   unfolding numbersGood
   number-tests =
       four (sizesGood m) (below (length (m .tasks)) (λ t. recordGood m (taskAt m t))) (runnerGood m (m .running))
       (below lastPriority (λ q. allOf (λ t. not (noTask m t)) (queue m (suc q)))) (clauses .0)
 
-  size-tests : (leb 1 (length (m .tasks)) ≡ true) × (leb (length (m .tasks)) taskLimit ≡ true) × (leb (length (m .ceilings)) objectLimit ≡ true) ×
+  size-tests : (leb 1 (length (m .tasks)) ≡ true) × (leb (length (m .tasks)) taskLimit ≡ true) ×
+      (leb (length (m .ceilings)) objectLimit ≡ true) ×
       (eqb (length (m .ready)) lastPriority ≡ true) × (leb (m .now) lastReading ≡ true) × (allOf inRange (m .ceilings) ≡ true)
   size-tests =
       six (leb 1 (length (m .tasks))) (leb (length (m .tasks)) taskLimit) (leb (length (m .ceilings)) objectLimit)
@@ -217,7 +223,8 @@ module _ (m : Model) (e : sound m ≡ true) where
   record-tests : (t : ℕ) → t < length (m .tasks) → (inRange (taskAt m t .base) ≡ true) × (waitingGood (taskAt m t .waiting) ≡ true) ×
       (allOf (λ o. not (leb (length (m .ceilings)) o)) (taskAt m t .held) ≡ true)
   record-tests t h =
-      three (inRange (taskAt m t .base)) (waitingGood (taskAt m t .waiting)) (allOf (λ o. not (leb (length (m .ceilings)) o)) (taskAt m t .held))
+      three (inRange (taskAt m t .base)) (waitingGood (taskAt m t .waiting))
+      (allOf (λ o. not (leb (length (m .ceilings)) o)) (taskAt m t .held))
       (below-at (length (m .tasks)) (λ u. recordGood m (taskAt m u)) (number-tests .1) t h)
 
   numbers-are : Numbers m
@@ -230,7 +237,8 @@ module _ (m : Model) (e : sound m ≡ true) where
     ceiling = all-at inRange (m .ceilings) (size-tests .5);
     base = λ t h. record-tests t h .0;
     waiting = λ t p h q. waiting-is (taskAt m t .waiting) (record-tests t h .1) p q;
-    held = λ t o h g. leb-false (length (m .ceilings)) o (not-true _ (all-at (λ x. not (leb (length (m .ceilings)) x)) _ (record-tests t h .2) o g));
+    held = λ t o h g. leb-false (length (m .ceilings)) o
+        (not-true _ (all-at (λ x. not (leb (length (m .ceilings)) x)) _ (record-tests t h .2) o g));
     runner = runner-is m (m .running) (number-tests .2);
     queued = λ p t l h.
         let f = below-at lastPriority (λ q. allOf (λ u. not (noTask m u)) (queue m (suc q))) (number-tests .3) p l in
@@ -257,7 +265,8 @@ module _ (m : Model) (e : sound m ≡ true) where
 
   due-are : (t d : ℕ) → t < length (m .tasks) → taskAt m t .place ≡ Delayed d → (m .now < d) × (d ≤ m .now + lastDelay)
   unfolding dueAhead
-  due-are t d h q = due-is (m .now) (taskAt m t .place) (below-at (length (m .tasks)) (λ u. dueGood (m .now) (taskAt m u .place)) (clauses .3) t h) d q
+  due-are t d h q =
+      due-is (m .now) (taskAt m t .place) (below-at (length (m .tasks)) (λ u. dueGood (m .now) (taskAt m u .place)) (clauses .3) t h) d q
 
   highest-is : (t u : ℕ) → m .running ≡ Task t → 0 < queued (m .ready) u → active m u ≤ active m t
   unfolding highestRuns
@@ -273,7 +282,8 @@ module _ (m : Model) (e : sound m ≡ true) where
       let l : v .at < lastPriority = omega (arith, v .low, numbers-are .queues) in
       omega (arith, eqb-true (highest m) 0 f, under-highest m u (numbers-are .queues) level-at g, level-at (v .at) u l (v .has))
 
-  held-tests : (t : ℕ) → t < length (m .tasks) → (distinct (taskAt m t .held) ≡ true) × (rising (m .ceilings) (taskAt m t .base) (taskAt m t .held) ≡ true)
+  held-tests : (t : ℕ) → t < length (m .tasks) →
+      (distinct (taskAt m t .held) ≡ true) × (rising (m .ceilings) (taskAt m t .base) (taskAt m t .held) ≡ true)
   unfolding heldGood
   held-tests t h =
       let a = distinct (taskAt m t .held) in
@@ -310,7 +320,8 @@ module _ (m : Model) (s : Sound m) where
       let k = s .numbers in
       let c = and-make _ _ (and-make _ _ (le-leb 1 (length (m .tasks)) (k .some)) (le-leb (length (m .tasks)) taskLimit (k .count)))
       (le-leb (length (m .ceilings)) objectLimit (k .objects)) in
-      and-make _ _ (and-make _ _ (and-make _ _ c (eq-eqb (length (m .ready)) lastPriority (k .queues))) (le-leb (m .now) lastReading (k .reading)))
+      and-make _ _
+      (and-make _ _ (and-make _ _ c (eq-eqb (length (m .ready)) lastPriority (k .queues))) (le-leb (m .now) lastReading (k .reading)))
       (all-make inRange (m .ceilings) (k .ceiling))
 
   make-numbers : numbersGood m ≡ true
@@ -320,12 +331,14 @@ module _ (m : Model) (s : Sound m) where
       (below-make (length (m .tasks)) (λ t. recordGood m (taskAt m t)) each))
       (runner-make m (m .running) (s .numbers .runner)))
       (below-make lastPriority (λ q. allOf (λ t. not (noTask m t)) (queue m (suc q)))
-      (λ p l. all-make (λ t. not (noTask m t)) (queue m (suc p)) (λ t h. ap not (lt-leb (length (m .tasks)) t (s .numbers .queued p t l h)))))
+      (λ p l. all-make (λ t. not (noTask m t)) (queue m (suc p))
+      (λ t h. ap not (lt-leb (length (m .tasks)) t (s .numbers .queued p t l h)))))
     where
       each : (t : ℕ) → t < length (m .tasks) → recordGood m (taskAt m t) ≡ true
       each t h =
           and-make _ _ (and-make _ _ (s .numbers .base t h) (waiting-make (taskAt m t .waiting) (λ p q. s .numbers .waiting t p h q)))
-          (all-make (λ o. not (leb (length (m .ceilings)) o)) (taskAt m t .held) (λ o g. ap not (lt-leb (length (m .ceilings)) o (s .numbers .held t o h g))))
+          (all-make (λ o. not (leb (length (m .ceilings)) o)) (taskAt m t .held)
+          (λ o g. ap not (lt-leb (length (m .ceilings)) o (s .numbers .held t o h g))))
 
   make-placed : onePlace m ≡ true
   unfolding onePlace
@@ -341,7 +354,8 @@ module _ (m : Model) (s : Sound m) where
   unfolding dueAhead
   make-due = below-make (length (m .tasks)) _ (λ t h. due-make (m .now) (taskAt m t .place) (λ d q. s .due t d h q))
 
-  standing : (t : ℕ) → highest m - 1 < lastPriority → 0 < timesIn t (getD (m .ready) (highest m - 1) []) → 0 < highest m → active m t ≡ highest m
+  standing : (t : ℕ) → highest m - 1 < lastPriority → 0 < timesIn t (getD (m .ready) (highest m - 1) []) → 0 < highest m →
+      active m t ≡ highest m
   standing t l h g =
       let e : active m t ≡ suc (highest m - 1) =
       s .level (highest m - 1) t l (subst (λ (v : ℕ). 0 < timesIn t (getD (m .ready) v [])) (sym (one-less (highest m - 1))) h) in
@@ -378,5 +392,7 @@ module _ (m : Model) (s : Sound m) where
   pub sound-make : sound m ≡ true
   unfolding sound
   sound-make =
-      and-make _ _ (and-make _ _ (and-make _ _ (and-make _ _ (and-make _ _ (and-make _ _ (and-make _ _ make-numbers make-placed) make-level) make-due)
+      and-make _ _
+      (and-make _ _
+      (and-make _ _ (and-make _ _ (and-make _ _ (and-make _ _ (and-make _ _ make-numbers make-placed) make-level) make-due)
       (make-highest (m .running) refl)) make-held) make-present) make-calm

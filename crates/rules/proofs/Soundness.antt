@@ -150,7 +150,8 @@ module _ {ord : Bool} (m : Model) (g : Good ord m) where
     base = λ t h. bounds-in _ (c .low t h) (c .high t h);
     waiting = λ t p h q. waiting-is (taskAt m t .waiting) (g .pending .fair t h .waiting) p q;
     held = λ t o h i.
-        leb-false (length (m .ceilings)) o (not-true _ (all-at (listed (m .ceilings)) (taskAt m t .held) (g .pending .fair t h .listing) o i));
+        leb-false (length (m .ceilings)) o
+        (not-true _ (all-at (listed (m .ceilings)) (taskAt m t .held) (g .pending .fair t h .listing) o i));
     runner = λ t e. runner-in m c t (runs-named (m .running) t e);
     queued = λ p t l h. queued-in t (omega (arith, at-row p t h, queued-at (m .ready) p t));
   }

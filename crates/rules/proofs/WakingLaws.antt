@@ -117,7 +117,8 @@ earlier-assoc : (a b c : Due) → earlier (earlier a b) c ≡ earlier a (earlier
 unfolding earlier
 earlier-assoc nobody b c = refl
 earlier-assoc (task t d) nobody c = refl
-earlier-assoc (task t d) (task u e) nobody = both-ways (λ (x : Due). earlier x nobody ≡ x) (leb d e) (task t d) (task u e) (λ i. refl) (λ i. refl)
+earlier-assoc (task t d) (task u e) nobody =
+    both-ways (λ (x : Due). earlier x nobody ≡ x) (leb d e) (task t d) (task u e) (λ i. refl) (λ i. refl)
 earlier-assoc (task t d) (task u e) (task v f) =
     compare d e
     (λ i. compare e f
