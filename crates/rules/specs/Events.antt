@@ -83,9 +83,7 @@ putOff m t d = cond (eqb d 0) (becomeReady m t) (withTask m t (withPlace (taskAt
 -- 5; 7, "Delay (also 0) .. inside a protected action"
 unfoldable pub delay : Model → ℕ → Moved
 delay m d =
-    byRunning m (m .running) (λ t.
-    refuseIf m (inside (taskAt m t)) InsideAction
-    (accepted (putOff (stopped m) t d)))
+    byRunning m (m .running) (λ t. refuseIf m (inside (taskAt m t)) InsideAction (accepted (putOff (stopped m) t d)))
 
 -- "Suspend: with a permit, the permit goes and the task runs on; else it is suspended."
 unfoldable pub rest : Model → ℕ → Model
@@ -97,9 +95,7 @@ rest m t =
 -- 5; 7, "Suspend .. inside a protected action"
 unfoldable pub suspend : Model → Moved
 suspend m =
-    byRunning m (m .running) (λ t.
-    refuseIf m (inside (taskAt m t)) InsideAction
-    (accepted (rest m t)))
+    byRunning m (m .running) (λ t. refuseIf m (inside (taskAt m t)) InsideAction (accepted (rest m t)))
 
 -- "Release t: a suspended t becomes ready; otherwise t's permit is on (once)."
 abbrev pub permitOn : Model → ℕ → Model
@@ -198,12 +194,14 @@ setBase m t p =
 unfoldable pub work : Model → Moved
 work m = byRunning m (m .running) (λ t. accepted m)
 
--- 5; 7, "Finish inside a protected action"; "Finish: the running task is ended."
+-- "Finish: the running task is ended."
+abbrev pub end : Model → ℕ → Model
+end m t = withTask (stopped m) t (withPlace (taskAt m t) Ended)
+
+-- 5; 7, "Finish inside a protected action"
 unfoldable pub finish : Model → Moved
 finish m =
-    byRunning m (m .running) (λ t.
-    refuseIf m (inside (taskAt m t)) InsideAction
-    (accepted (withTask (stopped m) t (withPlace (taskAt m t) Ended))))
+    byRunning m (m .running) (λ t. refuseIf m (inside (taskAt m t)) InsideAction (accepted (end m t)))
 
 -- any of the nine
 unfoldable pub apply : Model → Event → Moved

@@ -1,0 +1,4 @@
+# The commands of this repository.
+.PHONY: test
+test:
+	.ci/run
