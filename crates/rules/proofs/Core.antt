@@ -1,16 +1,15 @@
 -- The moves keep a Model's standing, and a dispatch puts a task of the highest priority on the processor.
 use mathlib.Core.Path.{_≡_, refl, ap, _∙_, sym, subst}
-use mathlib.Core.Bool.{Bool, true, false}
-use mathlib.Core.List.{List, [], _∷_, _++_}
-use Prim.Native.Nat.{ℕ, zero, suc, _+_, _-_, _≤_, _<_}
-use native.Mathlib.Nat.{not-suc-le-zero}
+use mathlib.Core.Bool.{Bool, true}
+use mathlib.Core.List.{List, [], _∷_}
+use Prim.Native.Nat.{ℕ, _+_, _-_, _≤_, _<_}
 use native.Mathlib.Omega.{arith}
 use borrow.Author.Tests.{eqb-true, eqb-false, leb-true, leb-false}
 use lib.Dec.{eqb, leb}
 use lib.ListN.{length, getD, set, drop, length-set}
 use Rattle.rules.specs.Limits.{taskLimit, firstPriority, lastPriority}
-use Rattle.rules.specs.Model.{Model, TaskRecord, blank, ceilingOf, activeOf, withPlace, taskAt, queue, withTask, active}
-use Rattle.rules.specs.Moves.{highestTo, highest, stopped, becomeReady, preempt, start, dispatchBy, dispatch}
+use Rattle.rules.specs.Model.{Model, TaskRecord, ceilingOf, activeOf, withPlace, taskAt, queue, withTask, active}
+use Rattle.rules.specs.Moves.{highest, stopped, becomeReady, preempt, start, dispatchBy, dispatch}
 use Rattle.rules.specs.Events.{timesIn}
 use Rattle.rules.specs.Sound.{queued, isReady, isRunning, runs}
 use Rattle.rules.specs.declared.Place.the-variants.{Running, Ready}
@@ -19,7 +18,7 @@ use Rattle.rules.specs.declared.Runner.the-variants.{Nobody, Task}
 use Rattle.rules.proofs.Choices.{split, compare, both-ways}
 use Rattle.rules.proofs.Counts.{times-same, times-behind, times-head, times-none, queued-at, Row, row-of}
 use Rattle.rules.proofs.Levels.{highest-top, highest-above, highest-full, active-low, active-high}
-use Rattle.rules.proofs.TaskLaws.{entry, ready, running, depth, baseOf, one-place, runs-self, runs-apart, runs-one}
+use Rattle.rules.proofs.TaskLaws.{ready, running, depth, baseOf, one-place, runs-self, runs-apart, runs-one}
 use Rattle.rules.proofs.TaskLaws.{put-same, put-other, put-keeps, row-same, row-other, out-of}
 use Rattle.rules.proofs.Standing.{Stand, all-runs, all-queueing, stand-out, stand-wake, stand-put, stand-away}
 use Rattle.rules.proofs.Standing.{stand-ready, stand-preempt, stand-start, stand-held, stand-same}

@@ -1,14 +1,14 @@
 -- What a dispatch leaves alone: all but who of the ready and running tasks runs.
 use mathlib.Core.Path.{_≡_, refl, ap, _∙_, sym}
-use mathlib.Core.Bool.{Bool, true, false}
+use mathlib.Core.Bool.{Bool}
 use mathlib.Core.List.{List}
-use Prim.Native.Nat.{ℕ, suc, _+_, _≤_, _<_}
+use Prim.Native.Nat.{ℕ}
 use native.Mathlib.Omega.{arith}
 use borrow.Author.Tests.{eqb-false, leb-false}
 use lib.Dec.{eqb, leb}
-use lib.ListN.{length, getD, set, length-set}
+use lib.ListN.{length, set, length-set}
 use Rattle.rules.specs.Limits.{taskLimit}
-use Rattle.rules.specs.Model.{Model, TaskRecord, blank, withPlace, taskAt, queue, active}
+use Rattle.rules.specs.Model.{Model, TaskRecord, blank, withPlace, taskAt, active}
 use Rattle.rules.specs.Moves.{highest, headOf, stopped, becomeReady, preempt, start, dispatchBy, dispatch}
 use Rattle.rules.specs.Sound.{isReady, isRunning, runs}
 use Rattle.rules.specs.declared.Place.{Place}

@@ -1,17 +1,17 @@
 -- What each accepted event does before its one dispatch, read off its answer; and the points at which dispatchers have slipped.
 use mathlib.Core.Path.{_≡_, refl, ap, _∙_, sym, subst}
 use mathlib.Core.Bool.{Bool, true, false, cond, not, _||_}
-use mathlib.Core.List.{List, [], _∷_, _++_}
-use Prim.Native.Nat.{ℕ, _+_, _-_, _≤_, _<_}
+use mathlib.Core.List.{[], _∷_, _++_}
+use Prim.Native.Nat.{ℕ, _+_, _-_, _<_}
 use native.Mathlib.Omega.{arith}
-use borrow.Author.Tests.{not-true, not-false, ltb-false}
-use lib.Dec.{eqb, ltb}
-use lib.ListN.{length, getD, set}
+use borrow.Author.Tests.{ltb-false}
+use lib.Dec.{ltb}
+use lib.ListN.{length}
 use lib.Seq.{set-set}
-use Rattle.rules.specs.Limits.{lastReading, firstPriority, lastPriority}
+use Rattle.rules.specs.Limits.{lastReading}
 use Rattle.rules.specs.Priorities.{inRange}
 use Rattle.rules.specs.Answers.{numberOf}
-use Rattle.rules.specs.Model.{Model, TaskRecord, none, waits, blank, withPlace, withBase, withWaiting, withPermit, withNow}
+use Rattle.rules.specs.Model.{Model, TaskRecord, none, waits, blank, withPlace, withBase, withWaiting, withNow}
 use Rattle.rules.specs.Model.{taskAt, withTask}
 use Rattle.rules.specs.Model.{queue, withTasks, ceilingOf, activeOf, active}
 use Rattle.rules.specs.Moves.{stopped, becomeReady, dispatch}
@@ -24,7 +24,6 @@ use Rattle.rules.specs.declared.Runner.the-variants.{Nobody, Task}
 use Rattle.rules.specs.declared.Answer.{Answer}
 use Rattle.rules.specs.declared.Answer.the-variants.{Done, NoSuchTask, NoSuchObject, BadPriority, BadReading, NobodyRuns, EndedTask}
 use Rattle.rules.specs.declared.Answer.the-variants.{InsideAction, AboveCeiling, NotInnermost}
-use Rattle.rules.proofs.Choices.{both-ways}
 use Rattle.rules.proofs.TaskLaws.{depth, at-same}
 use Rattle.rules.proofs.Levels.{bare}
 use Rattle.rules.proofs.MoveLaws.{Queued, ready-tail}

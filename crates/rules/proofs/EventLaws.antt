@@ -1,23 +1,21 @@
 -- The ways of each event, in plain variables: which refusal, or what is accepted.
-use mathlib.Core.Path.{_≡_, refl, ap, _∙_}
-use mathlib.Core.Bool.{Bool, true, false, cond, not, _||_}
+use mathlib.Core.Path.{_≡_, ap, _∙_}
+use mathlib.Core.Bool.{true, false, cond, not, _||_}
 use Prim.Native.Nat.{ℕ, _+_}
 use lib.Dec.{eqb, ltb}
 use lib.ListN.{length}
 use Rattle.rules.specs.Limits.{lastReading}
 use Rattle.rules.specs.Priorities.{inRange}
-use Rattle.rules.specs.Model.{Model, Waiting, none, waits, withPlace, withBase, withWaiting, withPermit, withNow, taskAt, withTask}
+use Rattle.rules.specs.Model.{Model, none, waits, withPlace, withBase, withWaiting, withPermit, withNow, taskAt, withTask}
 use Rattle.rules.specs.Model.{ceilingOf, active}
 use Rattle.rules.specs.Moves.{stopped, becomeReady}
 use Rattle.rules.specs.Moved.{Moved, refused, accepted, byRunning}
 use Rattle.rules.specs.Events.{noTask, noObject, holds, inside, takeHold, enter, innermost, giveUp, settleWith, settle, leave}
-use Rattle.rules.specs.Events.{putOff, delay, rest, suspend, permitOn, releaseFrom, release, wakeUp, clock}
+use Rattle.rules.specs.Events.{putOff, delay, rest, suspend, releaseFrom, release, wakeUp, clock}
 use Rattle.rules.specs.Events.{requeue, rebase, isEnded, setBase, work, finish}
-use Rattle.rules.specs.declared.Place.{Place}
 use Rattle.rules.specs.declared.Place.the-variants.{Delayed, Suspended, Ended}
 use Rattle.rules.specs.declared.Runner.{Runner}
 use Rattle.rules.specs.declared.Runner.the-variants.{Nobody, Task}
-use Rattle.rules.specs.declared.Answer.{Answer}
 use Rattle.rules.specs.declared.Answer.the-variants.{NoSuchTask, NoSuchObject, BadPriority, BadReading, NobodyRuns, EndedTask}
 use Rattle.rules.specs.declared.Answer.the-variants.{InsideAction, AboveCeiling, NotInnermost}
 use Rattle.rules.proofs.Choices.{cond-true, cond-false}

@@ -1,32 +1,31 @@
 -- The fresh start is sound and keeps the ceiling order, for every count, base and ceiling in range; so is the state beside a refused one.
 use mathlib.Core.Path.{_≡_, refl, ap, _∙_, sym, subst}
-use mathlib.Core.Bool.{Bool, true, false, cond, not, _&&_}
+use mathlib.Core.Bool.{true, false, cond, not, _&&_}
 use mathlib.Core.List.{List, [], _∷_}
 use Prim.Native.Nat.{ℕ, zero, suc, _+_, _≤_, _<_}
 use native.Mathlib.Nat.{not-suc-le-zero}
 use native.Mathlib.Omega.{arith}
 use borrow.Author.Tests.{leb-true, not-false}
 use lib.Dec.{leb}
-use lib.ListN.{length, getD, set, drop, replicate, length-set, length-replicate}
-use Rattle.rules.specs.Limits.{taskLimit, objectLimit, firstPriority, lastPriority, lastReading}
+use lib.ListN.{length, getD, drop, replicate, length-set, length-replicate}
+use Rattle.rules.specs.Limits.{taskLimit, objectLimit, lastPriority}
 use Rattle.rules.specs.Priorities.{inRange}
-use Rattle.rules.specs.Model.{Model, TaskRecord, none, blank, withPlace, taskAt, ceilingOf}
-use Rattle.rules.specs.Moves.{becomeReady, dispatch}
+use Rattle.rules.specs.Model.{Model, TaskRecord, blank, withPlace, taskAt}
+use Rattle.rules.specs.Moves.{becomeReady}
 use Rattle.rules.specs.Moved.{Moved}
 use Rattle.rules.specs.Fresh.{allOf, newTask, newTasks, unstarted, joinFrom, freshModel, refusedFresh, countsGood, fresh}
 use Rattle.rules.specs.Events.{timesIn}
-use Rattle.rules.specs.Sound.{queued, runs, isReady, isRunning, dueGood, sound}
-use Rattle.rules.specs.declared.Place.the-variants.{Ready, Suspended}
-use Rattle.rules.specs.declared.Runner.the-variants.{Nobody}
-use Rattle.rules.specs.declared.Answer.{Answer}
+use Rattle.rules.specs.Sound.{runs, isReady, isRunning, dueGood, sound}
+use Rattle.rules.specs.declared.Place.the-variants.{Ready}
 use Rattle.rules.specs.declared.Answer.the-variants.{Done, BadCounts, BadBases}
-use Rattle.rules.proofs.Choices.{split, compare, both-ways, cond-true, cond-false, and-left, and-right, and-make}
+use Rattle.rules.proofs.Choices.{split, both-ways, cond-true, cond-false, and-left, and-right}
 use Rattle.rules.proofs.PriorityLaws.{in-bounds}
 use Rattle.rules.proofs.Counts.{queued-empty}
-use Rattle.rules.proofs.TaskLaws.{entry, ready, running, depth, baseOf, at-same, at-other}
+use Rattle.rules.proofs.TaskLaws.{entry, ready, running, depth, at-same, at-other}
 use Rattle.rules.proofs.Core.{Core, core-wake, core-ready}
 use Rattle.rules.proofs.DispatchLaws.{unplaced, upright, alike-dispatch}
-use Rattle.rules.proofs.Kept.{Fair, Sizes, Pending, Good, fair-bare, good-dispatch}
+use Rattle.rules.proofs.Pending.{Fair, Good, fair-bare}
+use Rattle.rules.proofs.Kept.{good-dispatch}
 use Rattle.rules.proofs.Soundness.{ceilings-high, good-sound}
 
 -- the tasks before they join

@@ -1,6 +1,6 @@
 -- Histories from a fresh start, a Set from outside among the events: each is sound and in ceiling order, and an object has one holder.
 use mathlib.Core.Path.{_≡_}
-use mathlib.Core.Bool.{Bool, true, false, _&&_}
+use mathlib.Core.Bool.{Bool, true, _&&_}
 use mathlib.Core.List.{List, [], _∷_}
 use Prim.Native.Nat.{ℕ, _<_}
 use Rattle.rules.specs.Model.{Model, taskAt}
@@ -9,7 +9,8 @@ use Rattle.rules.specs.Events.{timesIn, apply}
 use Rattle.rules.specs.Sound.{sound}
 use Rattle.rules.specs.declared.Event.{Event}
 use Rattle.rules.proofs.Choices.{and-left, and-right}
-use Rattle.rules.proofs.Kept.{Good, delayFits, keep, one-holder}
+use Rattle.rules.proofs.Pending.{Good}
+use Rattle.rules.proofs.Kept.{delayFits, keep, one-holder}
 use Rattle.rules.proofs.Soundness.{good-sound}
 use Rattle.rules.proofs.FreshLaws.{start-good}
 

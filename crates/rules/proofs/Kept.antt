@@ -1,168 +1,36 @@
 -- Every event keeps what is sound, and with ord the ceiling order too: any Model, any event, refused or not.
 use mathlib.Core.Path.{_≡_, refl, ap, _∙_, sym, subst}
-use mathlib.Core.Bool.{Bool, true, false, cond, not, _&&_, _||_}
-use mathlib.Core.List.{List, [], _∷_, _++_}
-use Prim.Native.Nat.{ℕ, zero, suc, _+_, _-_, _≤_, _<_}
-use native.Mathlib.Nat.{not-suc-le-zero}
+use mathlib.Core.Bool.{Bool, true, false, cond, not, _||_}
+use mathlib.Core.List.{List}
+use Prim.Native.Nat.{ℕ, _-_, _≤_, _<_}
 use native.Mathlib.Omega.{arith}
-use borrow.Author.Tests.{eqb-false, leb-true, leb-false, ltb-true, ltb-false, lt-ltb, le-leb, not-false}
-use lib.Dec.{eqb, leb, ltb}
-use lib.ListN.{length, getD, set, take, length-set, length-append}
-use Rattle.rules.specs.Limits.{taskLimit, objectLimit, lastReading, lastDelay, firstPriority, lastPriority}
+use borrow.Author.Tests.{leb-true, leb-false, ltb-false, not-false}
+use lib.Dec.{leb, ltb}
+use lib.ListN.{length}
+use Rattle.rules.specs.Limits.{lastReading, lastDelay}
 use Rattle.rules.specs.Priorities.{inRange}
-use Rattle.rules.specs.Model.{Model, TaskRecord, Waiting, none, waits, blank, withPlace, withBase, withWaiting, withPermit, withHeld}
-use Rattle.rules.specs.Model.{withNow, taskAt, queue, withTask, withQueue, ceilingOf, activeOf, active}
-use Rattle.rules.specs.Moves.{stopped, becomeReady, dispatch}
+use Rattle.rules.specs.Model.{Model, TaskRecord}
+use Rattle.rules.specs.Model.{taskAt, ceilingOf, active}
+use Rattle.rules.specs.Moves.{stopped, dispatch}
 use Rattle.rules.specs.Moved.{Moved, refused, accepted, byRunning}
 use Rattle.rules.specs.Fresh.{allOf}
-use Rattle.rules.specs.Events.{timesIn, noTask, noObject, holds, inside, takeHold, enter, innermost, giveUp, settleWith, settle}
+use Rattle.rules.specs.Events.{timesIn, noTask, noObject, holds, inside, takeHold, enter, innermost, giveUp, settle}
 use Rattle.rules.specs.Events.{leave}
-use Rattle.rules.specs.Events.{putOff, delay, rest, suspend, permitOn, releaseFrom, release, wakeUp, clock, without}
-use Rattle.rules.specs.Events.{requeue, rebase, isEnded, setBase, work, finish, apply}
-use Rattle.rules.specs.Sound.{isReady, isRunning, runs, waitingGood, distinct, rising, dueGood}
-use Rattle.rules.specs.declared.Priority.{Priority}
-use Rattle.rules.specs.declared.Place.{Place}
-use Rattle.rules.specs.declared.Place.the-variants.{Running, Ready, Delayed, Suspended, Ended}
+use Rattle.rules.specs.Events.{putOff, delay, rest, suspend, end, release, clock}
+use Rattle.rules.specs.Events.{isEnded, setBase, work, finish, apply}
 use Rattle.rules.specs.declared.Runner.{Runner}
 use Rattle.rules.specs.declared.Runner.the-variants.{Nobody, Task}
 use Rattle.rules.specs.declared.Answer.{Answer}
 use Rattle.rules.specs.declared.Event.{Event}
 use Rattle.rules.specs.declared.Event.the-variants.{Enter, Leave, Delay, Suspend, Release, Clock, Set, Work, Finish}
-use Rattle.rules.proofs.Choices.{split, compare, both-ways, and-left, and-right, and-make, or-none-left, or-none-right}
-use Rattle.rules.proofs.PriorityLaws.{in-bounds, bounds-in}
-use Rattle.rules.proofs.TaskLaws.{entry, ready, running, depth, baseOf, runs-named, runs-is, at-same, at-other, out-of}
-use Rattle.rules.proofs.Standing.{Stand, all-runs, stand-unqueued, exclusive}
-use Rattle.rules.proofs.Core.{Core, Top, dispatched, runner-in, act-low, act-high, core-out, core-wake, core-put, core-away}
-use Rattle.rules.proofs.Core.{core-ready, core-held, core-same}
-use Rattle.rules.proofs.DispatchLaws.{upright, unplaced, Alike, alike-dispatch}
-use Rattle.rules.proofs.HeldLaws.{all-push, all-take, all-none, distinct-push, distinct-take, distinct-none}
-use Rattle.rules.proofs.HeldLaws.{rising-push, rising-take, rising-none, rising-covers}
-use Rattle.rules.proofs.WakingLaws.{awakeAt, awake, Awake, wakes, core-now, dues-most}
-
--- an object is listed
-abbrev pub listed : List ℕ → ℕ → Bool
-listed cs o = not (leb (length cs) o)
-
--- what a task's own record keeps to
-pub record Fair (cs : List ℕ) (now : ℕ) (k : TaskRecord) : Type 0 where
-  pub waiting : waitingGood (k .waiting) ≡ true
-  pub listing : allOf (listed cs) (k .held) ≡ true
-  pub once : distinct (k .held) ≡ true
-  pub rises : rising cs (k .base) (k .held) ≡ true
-  pub calm : depth k ≡ 0 → k .waiting ≡ none
-  pub due : dueGood now (k .place) ≡ true
-
--- counts, reading and ceilings in range
-pub record Sizes (m : Model) : Type 0 where
-  pub some : 1 ≤ length (m .tasks)
-  pub objects : length (m .ceilings) ≤ objectLimit
-  pub reading : m .now ≤ lastReading
-  pub ceilings : allOf inRange (m .ceilings) ≡ true
-
--- all records but that of the task t are fair
-abbrev FairBut : Model → ℕ → Type 0
-FairBut m t = (u : ℕ) → (u ≡ t → ⊥) → u < length (m .tasks) → Fair (m .ceilings) (m .now) (taskAt m u)
-
--- before the dispatch of an accepted event, and after it
-pub record Pending (ord : Bool) (m : Model) : Type 0 where
-  pub core : Core ord m taskLimit
-  pub sizes : Sizes m
-  pub fair : (u : ℕ) → u < length (m .tasks) → Fair (m .ceilings) (m .now) (taskAt m u)
-
-pub record Good (ord : Bool) (m : Model) : Type 0 where
-  pub pending : Pending ord m
-  pub top : Top m
-
--- a place that is no longer away is fair; so is one after a dispatch
-due-upright : (now : ℕ) (x : Place) → dueGood now (upright x) ≡ dueGood now x
-unfolding dueGood upright
-due-upright now Running = refl
-due-upright now Ready = refl
-due-upright now (Delayed d) = refl
-due-upright now Suspended = refl
-due-upright now Ended = refl
-
-fair-unplaced : (cs : List ℕ) (now : ℕ) (k : TaskRecord) → Fair cs now k → Fair cs now (unplaced k)
-fair-unplaced cs now k f = record {
-  waiting = f .waiting;
-  listing = f .listing;
-  once = f .once;
-  rises = f .rises;
-  calm = f .calm;
-  due = due-upright now (k .place) ∙ f .due;
-}
-
-fair-placed : (cs : List ℕ) (now : ℕ) (k : TaskRecord) → Fair cs now (unplaced k) → Fair cs now k
-fair-placed cs now k f = record {
-  waiting = f .waiting;
-  listing = f .listing;
-  once = f .once;
-  rises = f .rises;
-  calm = f .calm;
-  due = sym (due-upright now (k .place)) ∙ f .due;
-}
-
-fair-at : (cs : List ℕ) (now : ℕ) (k : TaskRecord) (x : Place) → Fair cs now k → dueGood now x ≡ true → Fair cs now (withPlace k x)
-fair-at cs now k x f d = record { waiting = f .waiting; listing = f .listing; once = f .once; rises = f .rises; calm = f .calm; due = d }
-
-fair-permit : (cs : List ℕ) (now : ℕ) (k : TaskRecord) (b : Bool) → Fair cs now k → Fair cs now (withPermit k b)
-fair-permit cs now k b f =
-    record { waiting = f .waiting; listing = f .listing; once = f .once; rises = f .rises; calm = f .calm; due = f .due }
-
--- a task that holds nothing, with any base and none waiting
-pub fair-bare : (cs : List ℕ) (now : ℕ) (k : TaskRecord) → depth k ≡ 0 → k .waiting ≡ none → dueGood now (k .place) ≡ true → Fair cs now k
-unfolding waitingGood
-fair-bare cs now k z w d = record {
-  waiting = ap waitingGood w;
-  listing = all-none (k .held) z (listed cs);
-  once = distinct-none (k .held) z;
-  rises = rising-none (k .held) z cs (k .base);
-  calm = λ i. w;
-  due = d;
-}
-
--- one record is replaced, with other queues and another runner
-abbrev replaced : Model → ℕ → TaskRecord → List (List ℕ) → Runner → Model
-replaced m t k qs w = record { now = m .now; running = w; tasks = set (m .tasks) t k; ceilings = m .ceilings; ready = qs }
-
-module _ (m : Model) (t : ℕ) (k : TaskRecord) (qs : List (List ℕ)) (w : Runner) where
-  sizes-set : Sizes m → Sizes (replaced m t k qs w)
-  sizes-set s = record {
-    some = omega (arith, s .some, length-set (m .tasks) t k);
-    objects = s .objects;
-    reading = s .reading;
-    ceilings = s .ceilings;
-  }
-
-  pending-set : {ord : Bool} → Core ord (replaced m t k qs w) taskLimit → Sizes m → FairBut m t → t < length (m .tasks) →
-      Fair (m .ceilings) (m .now) k → Pending ord (replaced m t k qs w)
-  pending-set c s b l f = record { core = c; sizes = sizes-set s; fair = λ u h. every u (omega (arith, h, length-set (m .tasks) t k)) }
-    where
-      every : (u : ℕ) → u < length (m .tasks) → Fair (m .ceilings) (m .now) (entry (set (m .tasks) t k) u)
-      every u h =
-          split u t
-          (λ e. subst (Fair (m .ceilings) (m .now)) (sym (at-same (λ (v : TaskRecord). v) blank (m .tasks) t k u e l)) f)
-          (λ n. subst (Fair (m .ceilings) (m .now)) (sym (at-other (λ (v : TaskRecord). v) blank (m .tasks) t k u n)) (b u n h))
-
--- the task t, on its way, becomes ready
-pending-ready : {ord : Bool} (m : Model) (t : ℕ) → Core ord m t → Sizes m → FairBut m t → t < length (m .tasks) →
-    Fair (m .ceilings) (m .now) (withPlace (taskAt m t) Ready) → Pending ord (becomeReady m t)
-unfolding becomeReady
-pending-ready m t c s b l f = pending-set m t (withPlace (taskAt m t) Ready) _ (m .running) (core-ready m t c l) s b l f
-
--- .. with another record k of its own, that holds nothing
-pending-rejoin : {ord : Bool} (m : Model) (t : ℕ) (k : TaskRecord) → Core ord m t → Sizes m → FairBut m t → t < length (m .tasks) →
-    depth k ≡ 0 → k .waiting ≡ none → inRange (k .base) ≡ true → Pending ord (becomeReady (withTask m t k) t)
-unfolding dueGood
-pending-rejoin m t k c s b l z w r =
-    let at : taskAt (withTask m t k) t ≡ k = at-same (λ (v : TaskRecord). v) blank (m .tasks) t k t refl l in
-    let g = in-bounds (k .base) r in
-    pending-ready (withTask m t k) t (core-put m t c k l z (g .0) (g .1)) (sizes-set m t k (m .ready) (m .running) s)
-    (λ u n h. subst (Fair (m .ceilings) (m .now)) (sym (at-other (λ (v : TaskRecord). v) blank (m .tasks) t k u n))
-    (b u n (omega (arith, h, length-set (m .tasks) t k))))
-    (omega (arith, l, length-set (m .tasks) t k))
-    (subst (λ (v : TaskRecord). Fair (m .ceilings) (m .now) (withPlace v Ready)) (sym at)
-    (fair-bare (m .ceilings) (m .now) (withPlace k Ready) z w refl))
+use Rattle.rules.proofs.Choices.{split, compare, both-ways, or-none-left, or-none-right}
+use Rattle.rules.proofs.TaskLaws.{running, out-of}
+use Rattle.rules.proofs.Standing.{exclusive}
+use Rattle.rules.proofs.Core.{dispatched}
+use Rattle.rules.proofs.DispatchLaws.{unplaced, Alike, alike-dispatch}
+use Rattle.rules.proofs.HeldLaws.{rising-covers}
+use Rattle.rules.proofs.Pending.{Fair, Pending, Good, fair-unplaced, fair-placed, pending-enter, pending-leave, pending-delay}
+use Rattle.rules.proofs.Pending.{pending-rest, pending-end, pending-release, pending-clock, pending-rebase}
 
 -- a dispatch
 pub good-dispatch : {ord : Bool} (m : Model) → Pending ord m → Good ord (dispatch m)
@@ -213,58 +81,6 @@ keep-by {ord} m f h g = go (m .running) refl
     go Nobody e = h
     go (Task t) e = g t e
 
-hold-none : (k : TaskRecord) → inside k ≡ false → depth k ≡ 0
-hold-none k z = omega (arith, ltb-false 0 (depth k) z)
-
--- places that are neither ready nor running
-suspended-off : (x : Place) → x ≡ Suspended → isReady x + isRunning x ≡ 0
-unfolding isReady isRunning
-suspended-off x e = ap (λ (v : Place). isReady v + isRunning v) e
-
--- the running task t of a good Model
-module _ {ord : Bool} (m : Model) (t : ℕ) (h : Good ord m) (e : m .running ≡ Task t) where
-  t-runs : 0 < runs (m .running) t
-  t-runs = runs-named (m .running) t e
-
-  t-in : t < length (m .tasks)
-  t-in = runner-in m (h .pending .core) t t-runs
-
-  t-fair : Fair (m .ceilings) (m .now) (taskAt m t)
-  t-fair = h .pending .fair t t-in
-
-  others : FairBut m t
-  others u n g = h .pending .fair u g
-
-  -- gets another record with its place and base
-  pending-held : (k : TaskRecord) → ready k ≡ ready (taskAt m t) → running k ≡ running (taskAt m t) → baseOf k ≡ baseOf (taskAt m t) →
-      Fair (m .ceilings) (m .now) k → Pending ord (withTask m t k)
-  pending-held k a b c f =
-      pending-set m t k (m .ready) (m .running) (core-held m (h .pending .core) t k t-runs a b c) (h .pending .sizes) others t-in f
-
-  -- goes away, to the place x
-  pending-away : (x : Place) → isReady x + isRunning x ≡ 0 → depth (taskAt m t) ≡ 0 → dueGood (m .now) x ≡ true →
-      Pending ord (withTask (stopped m) t (withPlace (taskAt m t) x))
-  unfolding stopped
-  pending-away x z g d =
-      let k = withPlace (taskAt m t) x in
-      let c = core-put (stopped m) t (core-out m (h .pending .core) t t-runs g) k t-in g (h .pending .core .low t t-in)
-      (h .pending .core .high t t-in) in
-      let is-ready = at-same ready blank (m .tasks) t k t refl t-in in
-      let is-running = at-same running blank (m .tasks) t k t refl t-in in
-      pending-set m t k (m .ready) Nobody (core-away _ t c (omega (arith, z, is-ready, is-running))) (h .pending .sizes) others t-in
-      (fair-at (m .ceilings) (m .now) (taskAt m t) x t-fair d)
-
-  -- goes to the tail of its queue
-  pending-tail : depth (taskAt m t) ≡ 0 → Pending ord (becomeReady (stopped m) t)
-  unfolding stopped dueGood
-  pending-tail z =
-      pending-ready (stopped m) t (core-out m (h .pending .core) t t-runs z)
-      (record { some = s .some; objects = s .objects; reading = s .reading; ceilings = s .ceilings }) others t-in
-      (fair-at (m .ceilings) (m .now) (taskAt m t) Ready t-fair refl)
-    where
-      s : Sizes m
-      s = h .pending .sizes
-
 -- Work
 pub keep-work : {ord : Bool} (m : Model) → Good ord m → Keeps ord (work m)
 unfolding work
@@ -278,286 +94,59 @@ keep-enter m o h =
     keep-by m _ h (λ t e.
     keep-unless m (holds (taskAt m t) o) _ _ h (λ z.
     keep-unless m (ltb (ceilingOf (m .ceilings) o) (active m t)) _ _ h (λ y.
-    keep-accepted (takeHold m o t) (pending-held m t h e (withHeld (taskAt m t) (taskAt m t .held ++ (o ∷ []))) refl refl refl
-    (entered (taskAt m t) (t-fair m t h e) l (omega (arith, ltb-false 0 (timesIn o (taskAt m t .held)) z)) (ltb-false _ _ y)))))))
-  where
-    entered : (k : TaskRecord) → Fair (m .ceilings) (m .now) k → noObject m o ≡ false → timesIn o (k .held) ≡ 0 →
-        activeOf (m .ceilings) k ≤ ceilingOf (m .ceilings) o → Fair (m .ceilings) (m .now) (withHeld k (k .held ++ (o ∷ [])))
-    entered k f l z g = record {
-      waiting = f .waiting;
-      listing = all-push (listed (m .ceilings)) (k .held) o (f .listing) (ap not l);
-      once = distinct-push (k .held) o (f .once) z;
-      rises = rising-push (m .ceilings) (k .base) o (k .held) (f .rises) g;
-      calm = λ i. absurd (omega (arith, i, length-append (k .held) (o ∷ [])));
-      due = f .due;
-    }
+    keep-accepted (takeHold m o t) (pending-enter m o t h e l z y)))))
 
 -- Leave
-taken : (cs : List ℕ) (now n : ℕ) (k : TaskRecord) → Fair cs now k → (length (take n (k .held)) ≡ 0 → k .waiting ≡ none) →
-    Fair cs now (withHeld k (take n (k .held)))
-taken cs now n k f c = record {
-  waiting = f .waiting;
-  listing = all-take (listed cs) n (k .held) (f .listing);
-  once = distinct-take n (k .held) (f .once);
-  rises = rising-take cs (k .base) n (k .held) (f .rises);
-  calm = c;
-  due = f .due;
-}
-
--- the task's record with the innermost object given up
-abbrev left : Model → ℕ → TaskRecord
-left m t = withHeld (taskAt m t) (take (length (taskAt m t .held) - 1) (taskAt m t .held))
-
-module _ {ord : Bool} (m : Model) (t : ℕ) (h : Good ord m) (e : m .running ≡ Task t) where
-  left-at : taskAt (giveUp m t) t ≡ left m t
-  left-at = at-same (λ (v : TaskRecord). v) blank (m .tasks) t (left m t) t refl (t-in m t h e)
-
-  left-core : Core ord (giveUp m t) taskLimit
-  left-core = core-held m (h .pending .core) t (left m t) (t-runs m t h e) refl refl refl
-
-  -- no base is due: the task runs on
-  left-on : (length ((left m t) .held) ≡ 0 → taskAt m t .waiting ≡ none) → Pending ord (giveUp m t)
-  left-on c =
-      pending-set m t (left m t) (m .ready) (m .running) left-core (h .pending .sizes) (others m t h e) (t-in m t h e)
-      (taken (m .ceilings) (m .now) (length (taskAt m t .held) - 1) (taskAt m t) (t-fair m t h e) c)
-
-  left-others : FairBut (giveUp m t) t
-  left-others u n g =
-      subst (Fair (m .ceilings) (m .now)) (sym (at-other (λ (v : TaskRecord). v) blank (m .tasks) t (left m t) u n))
-      (others m t h e u n (omega (arith, g, length-set (m .tasks) t (left m t))))
-
-  -- a base p is due: it takes effect, and the task goes to the tail
-  left-rebased : (p : ℕ) → taskAt (giveUp m t) t .waiting ≡ waits p → depth (taskAt (giveUp m t) t) ≡ 0 →
-      Pending ord (settleWith (giveUp m t) t (waits p))
-  unfolding settleWith stopped waitingGood
-  left-rebased p w z =
-      let k = withWaiting (withBase (taskAt (giveUp m t) t) p) none in
-      let own : taskAt m t .waiting ≡ waits p = sym (ap (λ (v : TaskRecord). v .waiting) left-at) ∙ w in
-      let good : inRange p ≡ true = sym (ap waitingGood own) ∙ t-fair m t h e .waiting in
-      let s = sizes-set m t (left m t) (m .ready) Nobody (h .pending .sizes) in
-      pending-rejoin (stopped (giveUp m t)) t k (core-out (giveUp m t) left-core t (t-runs m t h e) z) s left-others
-      (omega (arith, t-in m t h e, length-set (m .tasks) t (left m t))) z refl good
-
-  left-runs : (length ((left m t) .held) ≡ 0 → taskAt m t .waiting ≡ none) → Pending ord (settleWith (giveUp m t) t none)
-  unfolding settleWith
-  left-runs c = left-on c
-
-  left-settled : Pending ord (settle (giveUp m t) t)
-  unfolding settle
-  left-settled =
-      both-ways (Pending ord) (inside (taskAt (giveUp m t) t)) _ _
-      (λ z. left-on (λ i. absurd (omega (arith, i, ltb-true 0 (depth (taskAt (giveUp m t) t)) z, ap depth left-at))))
-      (λ z. by-waiting (taskAt (giveUp m t) t .waiting) refl (hold-none (taskAt (giveUp m t) t) z))
-    where
-      by-waiting : (w : Waiting) → taskAt (giveUp m t) t .waiting ≡ w → depth (taskAt (giveUp m t) t) ≡ 0 →
-          Pending ord (settleWith (giveUp m t) t w)
-      by-waiting none w z = left-runs (λ i. sym (ap (λ (v : TaskRecord). v .waiting) left-at) ∙ w)
-      by-waiting (waits p) w z = left-rebased p w z
-
 pub keep-leave : {ord : Bool} (m : Model) (o : ℕ) → Good ord m → Keeps ord (leave m o)
 unfolding leave
 keep-leave m o h =
     keep-unless m (noObject m o) _ _ h (λ l.
     keep-by m _ h (λ t e.
     keep-unless m (not (innermost (taskAt m t) o)) _ _ h (λ i.
-    keep-accepted (settle (giveUp m t) t) (left-settled m t h e))))
+    keep-accepted (settle (giveUp m t) t) (pending-leave m t h e))))
 
 -- Delay
 pub keep-delay : {ord : Bool} (m : Model) (d : ℕ) → d ≤ lastDelay → Good ord m → Keeps ord (delay m d)
-unfolding delay putOff stopped isReady isRunning dueGood
-keep-delay {ord} m d l h =
-    keep-by m _ h (λ t e.
-    keep-unless m (inside (taskAt m t)) _ _ h (λ z.
-    keep-accepted (putOff (stopped m) t d) (both-ways (Pending ord) (eqb d 0) _ _
-    (λ i. pending-tail m t h e (hold-none (taskAt m t) z))
-    (λ i. pending-away m t h e (Delayed (m .now + d)) refl (hold-none (taskAt m t) z) (ahead (eqb-false d 0 i))))))
-  where
-    ahead : (d ≡ 0 → ⊥) → (ltb (m .now) (m .now + d) && leb (m .now + d) (m .now + lastDelay)) ≡ true
-    ahead n = and-make _ _ (lt-ltb (m .now) (m .now + d) (omega (arith, n))) (le-leb (m .now + d) (m .now + lastDelay) (omega arith))
+unfolding delay
+keep-delay m d l h =
+    keep-by m _ h
+    (λ t e. keep-unless m (inside (taskAt m t)) _ _ h (λ z. keep-accepted (putOff (stopped m) t d) (pending-delay m d t l h e z)))
 
 -- Suspend
 pub keep-suspend : {ord : Bool} (m : Model) → Good ord m → Keeps ord (suspend m)
-unfolding suspend rest isReady isRunning dueGood
-keep-suspend {ord} m h =
-    keep-by m _ h (λ t e.
-    keep-unless m (inside (taskAt m t)) _ _ h (λ z.
-    keep-accepted (rest m t) (both-ways (Pending ord) (taskAt m t .permit) _ _
-    (λ i. pending-held m t h e (withPermit (taskAt m t) false) refl refl refl (fair-permit _ _ (taskAt m t) false (t-fair m t h e)))
-    (λ i. pending-away m t h e Suspended refl (hold-none (taskAt m t) z) refl))))
+unfolding suspend
+keep-suspend m h =
+    keep-by m _ h (λ t e. keep-unless m (inside (taskAt m t)) _ _ h (λ z. keep-accepted (rest m t) (pending-rest m t h e z)))
 
 -- Finish
 pub keep-finish : {ord : Bool} (m : Model) → Good ord m → Keeps ord (finish m)
-unfolding finish isReady isRunning dueGood
+unfolding finish
 keep-finish m h =
-    keep-by m _ h (λ t e.
-    keep-unless m (inside (taskAt m t)) _ _ h (λ z.
-    keep-accepted (withTask (stopped m) t (withPlace (taskAt m t) Ended))
-    (pending-away m t h e Ended refl (hold-none (taskAt m t) z) refl)))
+    keep-by m _ h (λ t e. keep-unless m (inside (taskAt m t)) _ _ h (λ z. keep-accepted (end m t) (pending-end m t h e z)))
 
 -- Release
 pub keep-release : {ord : Bool} (m : Model) (t : ℕ) → Good ord m → Keeps ord (release m t)
-unfolding release releaseFrom dueGood
-keep-release {ord} m t h =
-    keep-unless m (noTask m t) _ _ h (λ l. keep-accepted _ (go (leb-false _ t l) (taskAt m t .place) refl))
-  where
-    p : Pending ord m
-    p = h .pending
+unfolding release
+keep-release m t h =
+    keep-unless m (noTask m t) _ _ h (λ l. keep-accepted _ (pending-release m t (h .pending) (leb-false (length (m .tasks)) t l)))
 
-    on : t < length (m .tasks) → Pending ord (permitOn m t)
-    on l =
-        let k = withPermit (taskAt m t) true in
-        pending-set m t k (m .ready) (m .running) (core-same m (p .core) t k l refl refl refl refl refl) (p .sizes)
-        (λ u n g. p .fair u g) l (fair-permit _ _ (taskAt m t) true (p .fair t l))
-
-    go : t < length (m .tasks) → (x : Place) → taskAt m t .place ≡ x → Pending ord (releaseFrom m t x)
-    go l Running e = on l
-    go l Ready e = on l
-    go l (Delayed d) e = on l
-    go l Suspended e =
-        pending-ready m t (core-wake m (p .core) t (suspended-off (taskAt m t .place) e)) (p .sizes) (λ u n g. p .fair u g) l
-        (fair-at _ _ (taskAt m t) Ready (p .fair t l) refl)
-    go l Ended e = on l
-
--- Clock: a task that still waits is due after the reading
-due-awake : (now r : ℕ) (x : Place) → now ≤ r → dueGood now x ≡ true → dueGood r (awakeAt r x) ≡ true
-unfolding dueGood awakeAt
-due-awake now r Running l e = refl
-due-awake now r Ready l e = refl
-due-awake now r (Delayed d) l e =
-    both-ways (λ (x : Place). dueGood r x ≡ true) (leb d r) Ready (Delayed d) (λ i. refl)
-    (λ i.
-    let near = leb-true d (now + lastDelay) (and-right (ltb now d) (leb d (now + lastDelay)) e) in
-    and-make _ _ (lt-ltb r d (leb-false d r i)) (le-leb d (r + lastDelay) (omega (arith, near))))
-due-awake now r Suspended l e = refl
-due-awake now r Ended l e = refl
-
+-- Clock
 pub keep-clock : {ord : Bool} (m : Model) (r : ℕ) → Good ord m → Keeps ord (clock m r)
 unfolding clock
-keep-clock {ord} m r h =
+keep-clock m r h =
     keep-unless m (ltb r (m .now) || ltb lastReading r) _ _ h (λ z.
-    keep-accepted n
-    (read (ltb-false r (m .now) (or-none-left (ltb r (m .now)) (ltb lastReading r) z))
-    (ltb-false lastReading r (or-none-right (ltb r (m .now)) (ltb lastReading r) z))))
-  where
-    p : Pending ord m
-    p = h .pending
+    let low = ltb-false r (m .now) (or-none-left (ltb r (m .now)) (ltb lastReading r) z) in
+    let high = ltb-false lastReading r (or-none-right (ltb r (m .now)) (ltb lastReading r) z) in
+    keep-accepted _ (pending-clock m r (h .pending) low high))
 
-    n : Model
-    n = wakeUp r (length (m .tasks)) (withNow m r)
-
-    a : Awake ord r (withNow m r) n
-    a = wakes r (length (m .tasks)) (withNow m r) (core-now m r (p .core)) (dues-most r (m .tasks))
-
-    every : m .now ≤ r → (u : ℕ) → u < length (n .tasks) → Fair (n .ceilings) (n .now) (taskAt n u)
-    every l u g =
-        let f = p .fair u (omega (arith, g, a .count)) in
-        let f₁ : Fair (m .ceilings) r (awake r (taskAt m u)) = record {
-          waiting = f .waiting;
-          listing = f .listing;
-          once = f .once;
-          rises = f .rises;
-          calm = f .calm;
-          due = due-awake (m .now) r (taskAt m u .place) l (f .due);
-        } in
-        let f₂ = subst (Fair (m .ceilings) r) (sym (a .each u)) f₁ in
-        let f₃ = subst (λ (v : ℕ). Fair (m .ceilings) v (taskAt n u)) (sym (a .now)) f₂ in
-        subst (λ (cs : List ℕ). Fair cs (n .now) (taskAt n u)) (sym (a .ceilings)) f₃
-
-    read : m .now ≤ r → r ≤ lastReading → Pending ord n
-    read l g = record {
-      core = a .core;
-      sizes = record {
-        some = omega (arith, a .count, p .sizes .some);
-        objects = omega (arith, ap length (a .ceilings), p .sizes .objects);
-        reading = omega (arith, a .now, g);
-        ceilings = ap (allOf inRange) (a .ceilings) ∙ p .sizes .ceilings;
-      };
-      fair = every l;
-    }
-
--- Set of a task outside any action: its record with the new base
-abbrev based : Model → ℕ → ℕ → TaskRecord
-based m t p = withBase (taskAt m t) p
-
-module _ {ord : Bool} (m : Model) (t p : ℕ) (h : Pending ord m) (l : t < length (m .tasks)) (z : depth (taskAt m t) ≡ 0)
-    (g : inRange p ≡ true) where
-  rest-fair : FairBut m t
-  rest-fair u n i = h .fair u i
-
-  -- it is away: nobody moves
-  away-based : ready (taskAt m t) + running (taskAt m t) ≡ 0 → Pending ord (withTask m t (based m t p))
-  away-based o =
-      let f = h .fair t l in
-      let b = in-bounds p g in
-      let c = core-put m t (core-wake m (h .core) t o) (based m t p) l z (b .0) (b .1) in
-      let is-ready = at-same ready blank (m .tasks) t (based m t p) t refl l in
-      let is-running = at-same running blank (m .tasks) t (based m t p) t refl l in
-      pending-set m t (based m t p) (m .ready) (m .running) (core-away _ t c (omega (arith, o, is-ready, is-running)))
-      (h .sizes) rest-fair l
-      (fair-bare (m .ceilings) (m .now) (based m t p) z (f .calm z) (f .due))
-
-  -- it runs, or stands in the queue for its active priority: it goes to the tail
-  running-based : m .running ≡ Task t → Pending ord (becomeReady (stopped (withTask m t (based m t p))) t)
-  unfolding stopped
-  running-based e =
-      let s = h .sizes in
-      pending-rejoin (stopped m) t (based m t p) (core-out m (h .core) t (runs-named (m .running) t e) z)
-      (record { some = s .some; objects = s .objects; reading = s .reading; ceilings = s .ceilings }) rest-fair l z (h .fair t l .calm z) g
-
-  ready-based : ready (taskAt m t) ≡ 1 →
-      Pending ord (becomeReady (withQueue (withTask m t (based m t p)) (active m t) (without t (queue m (active m t)))) t)
-  ready-based o =
-      let c = h .core in
-      let low = act-low m taskLimit c t l in
-      let high = act-high m taskLimit c t l in
-      let s = stand-unqueued _ _ _ _ taskLimit (c .stand) t (active m t - 1) (c .queues) (omega arith) (c .count) (omega arith) o z in
-      let c₁ : Core ord (withQueue m (active m t) (without t (queue m (active m t)))) t = record {
-        stand = s;
-        count = c .count;
-        queues = length-set (m .ready) _ _ ∙ c .queues;
-        ceils = c .ceils;
-        low = c .low;
-        high = c .high;
-      } in
-      let y = h .sizes in
-      pending-rejoin (withQueue m (active m t) (without t (queue m (active m t)))) t (based m t p) c₁
-      (record { some = y .some; objects = y .objects; reading = y .reading; ceilings = y .ceilings }) rest-fair l z (h .fair t l .calm z) g
-
-  pending-based : (x : Place) → taskAt m t .place ≡ x → Pending ord (requeue (withTask m t (based m t p)) t (active m t) x)
-  unfolding requeue isReady isRunning
-  pending-based Running e =
-      running-based (runs-is (m .running) t (omega (arith, all-runs _ _ _ _ taskLimit (h .core .stand) (h .core .count) t, ap isRunning e)))
-  pending-based Ready e = ready-based (ap isReady e)
-  pending-based (Delayed d) e = away-based (ap (λ (v : Place). isReady v + isRunning v) e)
-  pending-based Suspended e = away-based (ap (λ (v : Place). isReady v + isRunning v) e)
-  pending-based Ended e = away-based (ap (λ (v : Place). isReady v + isRunning v) e)
-
+-- Set
 pub keep-set : {ord : Bool} (m : Model) (t p : ℕ) → Good ord m → Keeps ord (setBase m t p)
-unfolding setBase rebase waitingGood
-keep-set {ord} m t p h =
+unfolding setBase
+keep-set m t p h =
     keep-unless m (noTask m t) _ _ h (λ l.
     keep-unless m (not (inRange p)) _ _ h (λ g.
     keep-unless m (isEnded (taskAt m t .place)) _ _ h (λ y.
-    keep-accepted _ (both-ways (Pending ord) (inside (taskAt m t)) _ _
-    (λ z. later (leb-false _ t l) (not-false _ g) (ltb-true 0 _ z))
-    (λ z. both-ways (Pending ord) (eqb (taskAt m t .base) p) _ _ (λ i. h .pending)
-    (λ i. pending-based m t p (h .pending) (leb-false _ t l) (hold-none (taskAt m t) z) (not-false _ g) (taskAt m t .place) refl))))))
-  where
-    later : t < length (m .tasks) → inRange p ≡ true → 0 < depth (taskAt m t) →
-        Pending ord (withTask m t (withWaiting (taskAt m t) (waits p)))
-    later l g z =
-        let k = withWaiting (taskAt m t) (waits p) in
-        let c = h .pending in
-        let f = c .fair t l in
-        pending-set m t k (m .ready) (m .running) (core-same m (c .core) t k l refl refl refl refl refl) (c .sizes) (λ u n i. c .fair u i) l
-        (record {
-          waiting = g;
-          listing = f .listing;
-          once = f .once;
-          rises = f .rises;
-          calm = λ i. absurd (omega (arith, i, z));
-          due = f .due;
-        })
+    keep-accepted _ (pending-rebase m t p (h .pending) (leb-false (length (m .tasks)) t l) (not-false (inRange p) g)))))
 
 -- a Delay has 16 bits
 unfoldable pub delayFits : Event → Bool

@@ -9,6 +9,7 @@ pub mod Room
 pub mod HeldLaws
 pub mod WakingLaws
 pub mod WakeOrder
+pub mod Pending
 pub mod Kept
 pub mod SoundLaws
 pub mod Soundness

@@ -1,14 +1,13 @@
 -- The table of refusals: every event answers with the first row of document 01's table that applies to it, and with 0 if none does;
 -- and a refused event gives back the Model that it got.
 use mathlib.Core.Path.{_≡_, refl, ap, _∙_, sym}
-use mathlib.Core.Bool.{Bool, true, false, cond, not, _&&_, _||_}
+use mathlib.Core.Bool.{Bool, true, false, cond, not, _||_}
 use mathlib.Core.List.{List, [], _∷_}
 use Prim.Native.Nat.{ℕ, zero, suc, _+_, _<_}
 use native.Mathlib.Nat.{not-suc-le-zero}
 use native.Mathlib.Omega.{arith}
 use mathlib.Core.Logic.{_↔_, _⊎_, inl, inr}
-use lib.Dec.{leb, ltb}
-use lib.ListN.{length}
+use lib.Dec.{ltb}
 use Rattle.rules.specs.Limits.{lastReading}
 use Rattle.rules.specs.Priorities.{inRange}
 use Rattle.rules.specs.Answers.{numberOf}
@@ -16,7 +15,6 @@ use Rattle.rules.specs.Model.{Model, taskAt, ceilingOf, active}
 use Rattle.rules.specs.Moved.{Moved, refused, accepted, byRunning}
 use Rattle.rules.specs.Events.{noTask, noObject, holds, inside, innermost, isEnded, apply}
 use Rattle.rules.specs.Events.{enter, leave, delay, suspend, release, clock, setBase, work, finish}
-use Rattle.rules.specs.declared.Priority.{Priority}
 use Rattle.rules.specs.declared.Runner.{Runner}
 use Rattle.rules.specs.declared.Runner.the-variants.{Nobody, Task}
 use Rattle.rules.specs.declared.Event.{Event}

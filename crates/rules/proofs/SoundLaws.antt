@@ -1,18 +1,18 @@
 -- Soundness as a proposition, a field for each clause of document 01's list, and that the test says just this.
 use mathlib.Core.Path.{_≡_, refl, ap, _∙_, sym, subst}
-use mathlib.Core.Bool.{Bool, true, false, not, _&&_, _||_}
+use mathlib.Core.Bool.{Bool, true, not, _&&_, _||_}
 use mathlib.Core.List.{List, [], _∷_, map}
 use Prim.Native.Nat.{ℕ, zero, suc, _+_, _-_, _≤_, _<_}
 use native.Mathlib.Nat.{not-suc-le-zero}
 use native.Mathlib.Omega.{arith}
-use borrow.Author.Tests.{eqb-true, eq-eqb, leb-true, leb-false, le-leb, lt-leb, ltb-true, ltb-false, lt-ltb, le-ltb, not-true}
+use borrow.Author.Tests.{eqb-true, eq-eqb, leb-true, leb-false, le-leb, lt-leb, ltb-true, lt-ltb, le-ltb, not-true}
 use lib.Dec.{eqb, leb, ltb}
-use lib.ListN.{length, getD, List·getD-eq-default}
-use Rattle.rules.specs.Limits.{taskLimit, objectLimit, lastReading, lastDelay, firstPriority, lastPriority}
+use lib.ListN.{length, getD}
+use Rattle.rules.specs.Limits.{taskLimit, objectLimit, lastReading, lastDelay, lastPriority}
 use Rattle.rules.specs.Priorities.{inRange}
 use Rattle.rules.specs.Model.{Model, TaskRecord, Waiting, none, waits, taskAt, queue, ceilingOf, active}
 use Rattle.rules.specs.Moves.{highestTo, highest}
-use Rattle.rules.specs.Fresh.{allOf, countsGood}
+use Rattle.rules.specs.Fresh.{allOf}
 use Rattle.rules.specs.Events.{timesIn, noTask, inside}
 use Rattle.rules.specs.Sound.{below, sizesGood, waitingGood, recordGood, runnerGood, numbersGood, isRunning, isReady, runs, queued}
 use Rattle.rules.specs.Sound.{onePlace, ownQueue, dueGood, dueAhead, highestRuns, distinct, rising, heldGood, holdersHere, isNone}
@@ -22,11 +22,10 @@ use Rattle.rules.specs.declared.Place.the-variants.{Running, Ready, Dela
 use Rattle.rules.specs.declared.Runner.{Runner}
 use Rattle.rules.specs.declared.Runner.the-variants.{Nobody, Task}
 use Rattle.rules.proofs.Choices.{split, compare, and-left, and-right, and-make, or-right, or-first, or-second}
-use Rattle.rules.proofs.PriorityLaws.{in-bounds, bounds-in}
-use Rattle.rules.proofs.Counts.{times-same, times-cons, times-none, queued-at, queued-none, Row, row-of}
+use Rattle.rules.proofs.Counts.{times-same, times-cons, times-none, queued-at, Row, row-of}
 use Rattle.rules.proofs.Levels.{highest-top, highest-above, highest-full}
-use Rattle.rules.proofs.TaskLaws.{ready, running, depth, runs-self, runs-apart, runs-is, runs-named, out-of}
-use Rattle.rules.proofs.HeldLaws.{all-at, all-make, distinct-once, once-distinct, listed-under}
+use Rattle.rules.proofs.TaskLaws.{ready, running, depth}
+use Rattle.rules.proofs.HeldLaws.{all-at, all-make, distinct-once, once-distinct}
 
 -- "a count or number out of range": none is
 pub record Numbers (m : Model) : Type 0 where

@@ -1,31 +1,30 @@
 -- Every accepted event of a sound Model gives a sound Model, whose running task is one of the highest active priority.
 use mathlib.Core.Path.{_≡_, refl, ap, _∙_, sym, subst}
-use mathlib.Core.Bool.{Bool, true, false, not, _&&_}
+use mathlib.Core.Bool.{Bool, true, false, not}
 use mathlib.Core.List.{List, [], _∷_}
-use Prim.Native.Nat.{ℕ, zero, suc, _+_, _-_, _≤_, _<_}
-use native.Mathlib.Nat.{not-suc-le-zero}
+use Prim.Native.Nat.{ℕ, zero, suc, _-_, _≤_, _<_}
 use native.Mathlib.Omega.{arith}
 use borrow.Author.Tests.{leb-false, lt-leb, not-true}
-use lib.Dec.{leb}
 use lib.ListN.{length, getD, List·getD-eq-default}
-use Rattle.rules.specs.Limits.{taskLimit, objectLimit, firstPriority, lastPriority}
+use Rattle.rules.specs.Limits.{taskLimit, lastPriority}
 use Rattle.rules.specs.Priorities.{inRange}
-use Rattle.rules.specs.Model.{Model, TaskRecord, taskAt, queue, ceilingOf, active}
+use Rattle.rules.specs.Model.{Model, taskAt, queue, ceilingOf, active}
 use Rattle.rules.specs.Fresh.{allOf}
 use Rattle.rules.specs.Events.{timesIn, apply}
-use Rattle.rules.specs.Sound.{runs, queued, isRunning, isReady, distinct, rising, sound}
+use Rattle.rules.specs.Sound.{runs, queued, isRunning, isReady, sound}
 use Rattle.rules.specs.declared.Event.{Event}
 use Rattle.rules.specs.declared.Runner.{Runner}
 use Rattle.rules.specs.declared.Runner.the-variants.{Nobody, Task}
 use Rattle.rules.proofs.Choices.{compare, and-left, and-right}
 use Rattle.rules.proofs.PriorityLaws.{in-bounds, bounds-in}
 use Rattle.rules.proofs.Counts.{times-none, queued-at, queued-none}
-use Rattle.rules.proofs.TaskLaws.{entry, ready, running, depth, runs-self, runs-apart, runs-is, runs-named, out-of}
-use Rattle.rules.proofs.Standing.{Stand, all-runs, all-queueing}
+use Rattle.rules.proofs.TaskLaws.{ready, running, depth, runs-apart, runs-is, runs-named, out-of}
+use Rattle.rules.proofs.Standing.{all-runs, all-queueing}
 use Rattle.rules.proofs.Core.{Core, Top, runner-in}
 use Rattle.rules.proofs.Room.{queue-most}
 use Rattle.rules.proofs.HeldLaws.{all-at, all-make, distinct-once, once-distinct, held-most}
-use Rattle.rules.proofs.Kept.{listed, Fair, Sizes, Pending, Good, delayFits, keep}
+use Rattle.rules.proofs.Pending.{listed, Fair, Good}
+use Rattle.rules.proofs.Kept.{delayFits, keep}
 use Rattle.rules.proofs.SoundLaws.{Numbers, Sound, sound-is, sound-make, one-less, waiting-is, waiting-make}
 use Rattle.rules.proofs.SoundLaws.{due-is, due-make, rising-is, rising-make}
 

@@ -1,16 +1,15 @@
 -- Where the tasks stand, and the ceiling order: the invariant on the components of a Model, and what each move keeps of it.
 use mathlib.Core.Path.{_≡_, refl, ap, _∙_, sym, subst}
-use mathlib.Core.Bool.{Bool, true, false}
+use mathlib.Core.Bool.{Bool, true}
 use mathlib.Core.List.{List, [], _∷_, _++_}
-use Prim.Native.Nat.{ℕ, zero, suc, _+_, _-_, _≤_, _<_}
+use Prim.Native.Nat.{ℕ, suc, _+_, _-_, _≤_, _<_}
 use native.Mathlib.Nat.{not-suc-le-zero}
 use native.Mathlib.Omega.{arith}
 use lib.ListN.{length, getD, set, drop}
 use Rattle.rules.specs.Limits.{lastPriority}
-use Rattle.rules.specs.Model.{TaskRecord, blank, ceilingOf, activeOf, withPlace}
+use Rattle.rules.specs.Model.{TaskRecord, ceilingOf, activeOf, withPlace}
 use Rattle.rules.specs.Events.{timesIn, without}
 use Rattle.rules.specs.Sound.{queued, isReady, isRunning, runs}
-use Rattle.rules.specs.declared.Place.{Place}
 use Rattle.rules.specs.declared.Place.the-variants.{Running, Ready}
 use Rattle.rules.specs.declared.Runner.{Runner}
 use Rattle.rules.specs.declared.Runner.the-variants.{Nobody, Task}

@@ -1,22 +1,22 @@
 -- A clock reading: every task that is due becomes ready, no other changes, and the soonest goes first.
 use mathlib.Core.Path.{_≡_, refl, ap, _∙_, sym, subst}
 use mathlib.Core.Bool.{Bool, true, false, cond}
-use mathlib.Core.List.{List, [], _∷_, _++_}
+use mathlib.Core.List.{List, [], _∷_}
 use Prim.Native.Nat.{ℕ, zero, suc, _+_, _-_, _≤_, _<_}
 use native.Mathlib.Nat.{not-suc-le-zero}
 use native.Mathlib.Omega.{arith}
 use borrow.Author.Tests.{leb-true, leb-false, le-leb, lt-leb}
 use lib.Dec.{leb}
-use lib.ListN.{length, getD, set, length-set}
+use lib.ListN.{length, set, length-set}
 use Rattle.rules.specs.Limits.{taskLimit}
-use Rattle.rules.specs.Model.{Model, TaskRecord, blank, withPlace, withNow, taskAt, active}
+use Rattle.rules.specs.Model.{Model, TaskRecord, blank, withPlace, withNow, taskAt}
 use Rattle.rules.specs.Moves.{becomeReady}
 use Rattle.rules.specs.Events.{Due, nobody, task, dueAt, earlier, firstDue, wake, wakeUp}
 use Rattle.rules.specs.Sound.{isReady, isRunning}
 use Rattle.rules.specs.declared.Place.{Place}
 use Rattle.rules.specs.declared.Place.the-variants.{Running, Ready, Delayed, Suspended, Ended}
-use Rattle.rules.proofs.Choices.{split, compare, both-ways}
-use Rattle.rules.proofs.TaskLaws.{entry, ready, running, at-keeps}
+use Rattle.rules.proofs.Choices.{compare, both-ways}
+use Rattle.rules.proofs.TaskLaws.{entry, running, at-keeps}
 use Rattle.rules.proofs.Core.{Core, core-wake, core-ready}
 
 -- the place of a task once the tasks due at r are awake, and the task with it

@@ -9,8 +9,7 @@ use Rattle.rules.specs.Priorities.{inRange}
 use Rattle.rules.specs.Model.{TaskRecord, Model, Waiting, none, waits, withPlace, withBase, withWaiting, withPermit, withHeld}
 use Rattle.rules.specs.Model.{withNow, taskAt, withTask, queue, withQueue, ceilingOf, active}
 use Rattle.rules.specs.Moves.{becomeReady, stopped}
-use Rattle.rules.specs.Moved.{Moved, refused, accepted, refuseIf, byRunning}
-use Rattle.rules.specs.declared.Priority.{Priority}
+use Rattle.rules.specs.Moved.{Moved, accepted, refuseIf, byRunning}
 use Rattle.rules.specs.declared.Place.{Place}
 use Rattle.rules.specs.declared.Place.the-variants.{Running, Ready, Delayed, Suspended, Ended}
 use Rattle.rules.specs.declared.Event.{Event}
