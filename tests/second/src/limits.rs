@@ -1,0 +1,30 @@
+//! The sizes of document 01, each named once.
+
+use std::ops::RangeInclusive;
+
+/// How many tasks a state or a roster has.
+pub const TASKS: RangeInclusive<usize> = 1..=32;
+
+/// How many protected objects a state or a roster has at most.
+pub const MAX_OBJECTS: usize = 16;
+
+/// The priorities that a base, a ceiling or a Set may name.
+pub const PRIORITIES: RangeInclusive<u64> = 1..=32;
+
+/// How many ready queues there are: one for each priority.
+pub const QUEUES: usize = 32;
+
+/// The largest reading of the clock (48 bits).
+pub const LARGEST_READING: u64 = 281_474_976_710_655;
+
+/// The longest Delay (16 bits).
+pub const LONGEST_DELAY: u64 = 65_535;
+
+/// How many bytes a roster has.
+pub const ROSTER_BYTES: RangeInclusive<usize> = 14..=32_768;
+
+/// How many bytes the events of a run have at most.
+pub const MAX_EVENT_BYTES: usize = 32_768;
+
+/// How many rows a board has at most when it is asked for its next task.
+pub const MAX_ROWS: usize = 32;

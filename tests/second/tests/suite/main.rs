@@ -1,0 +1,15 @@
+//! The tests of the second program, gathered in one crate so that they share their helpers.
+
+mod board;
+mod check;
+mod events;
+mod form;
+mod fresh;
+mod marked_cases;
+mod program;
+mod random;
+mod run;
+mod soundness;
+mod support;
+mod vectors;
+mod whole_case;

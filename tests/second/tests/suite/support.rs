@@ -1,0 +1,172 @@
+//! Helpers of the tests: rosters and events from parts, states from events, random numbers.
+
+use second::machine::{apply, Event};
+use second::roster::{admit, Refusal};
+use second::run;
+use second::state::{self, State};
+
+/// The largest reading, written out as in document 01.
+pub const LARGEST: u64 = 281474976710655;
+
+/// A step as its four bytes.
+pub type RawStep = [u8; 4];
+
+/// An event of a run as its eight bytes.
+pub type Record = [u8; 8];
+
+pub const WORK: RawStep = [4, 0, 0, 0];
+pub const SUSPEND: RawStep = [5, 0, 0, 0];
+pub const AGAIN: RawStep = [8, 0, 0, 0];
+pub const STEP: Record = [3, 0, 0, 0, 0, 0, 0, 0];
+
+pub fn enter(o: u8) -> RawStep {
+    [1, o, 0, 0]
+}
+
+pub fn leave(o: u8) -> RawStep {
+    [2, o, 0, 0]
+}
+
+pub fn delay(d: u16) -> RawStep {
+    let [low, high] = d.to_le_bytes();
+    [3, 0, low, high]
+}
+
+pub fn release(t: u8) -> RawStep {
+    [6, t, 0, 0]
+}
+
+pub fn set(t: u8, p: u16) -> RawStep {
+    let [low, high] = p.to_le_bytes();
+    [7, t, low, high]
+}
+
+pub fn clock_event(value: u64) -> Record {
+    record(1, 0, value)
+}
+
+pub fn release_event(t: u8) -> Record {
+    record(2, t, 0)
+}
+
+pub fn set_event(t: u8, value: u64) -> Record {
+    record(4, t, value)
+}
+
+pub fn record(kind: u8, a: u8, value: u64) -> Record {
+    let v = value.to_le_bytes();
+    [kind, a, v[0], v[1], v[2], v[3], v[4], v[5]]
+}
+
+/// A roster laid out as document 01 says, from bases, scripts and ceilings that may be wrong.
+pub fn roster(tasks: &[(u8, Vec<RawStep>)], ceilings: &[u8]) -> Vec<u8> {
+    let mut bytes: Vec<u8> = tasks
+        .iter()
+        .flat_map(|(_, script)| script.concat())
+        .collect();
+    let task_table = bytes.len() as u16;
+    let mut start = 0u16;
+    for (base, script) in tasks {
+        let length = script.len() as u16 * 4;
+        bytes.extend([*base, 0]);
+        bytes.extend(start.to_le_bytes());
+        bytes.extend(length.to_le_bytes());
+        start += length;
+    }
+    let object_table = bytes.len() as u16;
+    for &ceiling in ceilings {
+        bytes.extend([ceiling, 0]);
+    }
+    bytes.extend([0x52, 0x35, tasks.len() as u8, ceilings.len() as u8]);
+    bytes.extend(object_table.to_le_bytes());
+    bytes.extend(task_table.to_le_bytes());
+    bytes
+}
+
+/// The number and place with which a roster is refused; 0, 0, 0 when it passes.
+pub fn verdict(roster: &[u8]) -> (u8, usize, usize) {
+    place(admit(roster).map(|_| ()))
+}
+
+/// A refusal as number, task and step; 0, 0, 0 for none.
+pub fn place(result: Result<(), Refusal>) -> (u8, usize, usize) {
+    match result {
+        Ok(()) => (0, 0, 0),
+        Err(refusal) => (refusal.number, refusal.task, refusal.step),
+    }
+}
+
+/// The pairs that a run writes for a roster that passes.
+pub fn pairs(roster: &[u8], events: &[Record]) -> Vec<(u8, u8)> {
+    let mut buffer = vec![0xEE; 2 * events.len()];
+    assert_eq!(run::run(roster, &events.concat(), &mut buffer), Ok(()));
+    buffer
+        .chunks_exact(2)
+        .map(|pair| (pair[0], pair[1]))
+        .collect()
+}
+
+/// The fresh state of bases and ceilings that are good.
+pub fn fresh(bases: &[u64], ceilings: &[u64]) -> State {
+    let (answer, state) = state::fresh(bases, ceilings);
+    assert_eq!(answer, 0);
+    state
+}
+
+/// The state after events that are all accepted.
+pub fn play(state: State, events: &[Event]) -> State {
+    events.iter().fold(state, |state, &event| {
+        let (answer, state) = apply(state, event);
+        assert_eq!(answer, 0, "{event:?}");
+        state
+    })
+}
+
+/// The answer to an event, having seen that a refusal hands the same state back.
+pub fn answer(state: &State, event: Event) -> u8 {
+    let (answer, after) = apply(state.clone(), event);
+    assert!(answer == 0 || after == *state, "{event:?}");
+    answer
+}
+
+/// The tasks in the ready queue for a priority, its head first.
+pub fn queue(state: &State, priority: u64) -> Vec<usize> {
+    let queue = state.queue(priority).expect("a priority");
+    queue.iter().copied().collect()
+}
+
+/// The bytes that hexadecimal digits stand for; blanks between them do not count.
+pub fn hex(text: &str) -> Vec<u8> {
+    let digits: Vec<u32> = text
+        .chars()
+        .filter(|c| !c.is_whitespace())
+        .map(|c| c.to_digit(16).expect("a hexadecimal digit"))
+        .collect();
+    assert_eq!(digits.len() % 2, 0);
+    digits
+        .chunks_exact(2)
+        .map(|pair| (pair[0] * 16 + pair[1]) as u8)
+        .collect()
+}
+
+/// A small generator of numbers that repeat with their seed.
+pub struct Random(u64);
+
+impl Random {
+    pub fn new(seed: u64) -> Random {
+        Random(seed.wrapping_mul(0x9E37_79B9_7F4A_7C15) | 1)
+    }
+
+    /// A number below `bound`.
+    pub fn below(&mut self, bound: u64) -> u64 {
+        self.0 ^= self.0 << 13;
+        self.0 ^= self.0 >> 7;
+        self.0 ^= self.0 << 17;
+        (self.0 >> 16) % bound
+    }
+
+    /// An index below `bound`.
+    pub fn index(&mut self, bound: usize) -> usize {
+        self.below(bound as u64) as usize
+    }
+}
