@@ -33,7 +33,7 @@ timesIn x (y ∷ ys) = cond (eqb y x) (suc (timesIn x ys)) (timesIn x ys)
 abbrev pub holds : TaskRecord → ℕ → Bool
 holds k o = ltb 0 (timesIn o (k .held))
 
--- "inside a protected action": the task holds something
+-- "inside a protected action": the task holds something, whether it runs or was preempted (D.3 and D.5, 000)
 abbrev pub inside : TaskRecord → Bool
 inside k = ltb 0 (length (k .held))
 

@@ -9,7 +9,7 @@ taskLimit = 32
 abbrev pub objectLimit : ℕ
 objectLimit = 16
 
--- "readings 0 to 281474976710655"
+-- "readings 0 to 281474976710655": the clock counts ticks and is not the time of day (001, on D.9)
 abbrev pub lastReading : ℕ
 lastReading = 281474976710655
 

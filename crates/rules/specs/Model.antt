@@ -84,7 +84,7 @@ unfoldable pub highestOf : List ℕ → ℕ → List ℕ → ℕ
 highestOf cs p [] = p
 highestOf cs p (o ∷ os) = highestOf cs (max p (ceilingOf cs o)) os
 
--- "Its active priority is the highest of its base and the ceilings of objects it holds."
+-- "Its active priority is the highest of its base and the ceilings of objects it holds." (D.1, 003; D.3, 000)
 abbrev pub activeOf : List ℕ → TaskRecord → ℕ
 activeOf cs k = highestOf cs (k .base) (k .held)
 
