@@ -1,0 +1,69 @@
+// The roster file: its kinds. Reading, form and check stand in the modules.
+ghost use mathlib.Core.Path.{_≡_};
+ghost use Rattle.roster.specs.Answers.{numberOf};
+use rules::Priority;
+
+// The sizes of a roster, all of this kind.
+pub struct Limits {
+    pub largest: usize,
+}
+
+impl Limits {
+    pub const SMALLEST: usize = 14;
+
+    pub const LARGEST: usize = 32768;
+
+    pub const TASKS: usize = 32;
+
+    pub const OBJECTS: usize = 16;
+}
+
+// A step of a script. Finish is what is asked at the script's end; bytes that are no step read as it, and form refuses them.
+pub enum Step {
+    Enter(u8),
+    Leave(u8),
+    Delay(u16),
+    Work,
+    Suspend,
+    Release(u8),
+    Set(u8, Priority),
+    Again,
+    Finish,
+}
+
+// What the form, the check and a reader answer, a fault of a step with its task and step.
+pub enum Verdict {
+    Passed,
+    NoSuchTask,
+    BadLength,
+    BadMark,
+    BadCounts,
+    BadLayout,
+    BadValues,
+    BadStep(usize, usize),
+    WhileHeld(usize, usize),
+    LowCeiling(usize, usize),
+    NotInnermost(usize, usize),
+    OtherTask(usize, usize),
+}
+
+impl Verdict {
+    pub fn number(self) -> u8
+        ensures { λ r. ⌜ r ≡ numberOf self ⌝ }
+    {
+        match self {
+            Verdict::Passed => 0,
+            Verdict::NoSuchTask => 1,
+            Verdict::BadLength => 11,
+            Verdict::BadMark => 12,
+            Verdict::BadCounts => 13,
+            Verdict::BadLayout => 14,
+            Verdict::BadValues => 15,
+            Verdict::BadStep(_, _) => 16,
+            Verdict::WhileHeld(_, _) => 17,
+            Verdict::LowCeiling(_, _) => 18,
+            Verdict::NotInnermost(_, _) => 19,
+            Verdict::OtherTask(_, _) => 20,
+        }
+    }
+}
