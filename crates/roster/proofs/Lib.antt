@@ -1,1 +1,4 @@
 pub mod Cases
+pub mod ListLaws
+pub mod StepLaws
+pub mod FormatLaws

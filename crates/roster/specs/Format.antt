@@ -1,6 +1,6 @@
 -- The layout of a roster: where its bytes have each number. What lies past the last byte reads as 0.
 use mathlib.Core.List.{List}
-use Prim.Native.Nat.{ℕ, suc, _+_, _*_, _-_}
+use Prim.Native.Nat.{ℕ, _+_, _*_, _-_}
 use lib.ListN.{length, getD, take, drop}
 use Rattle.roster.specs.Limits.{trailerSize, taskRowSize, objectRowSize}
 
@@ -9,7 +9,7 @@ byteAt s i = getD s i 0
 
 -- "Little-endian"
 unfoldable pub wordAt : List ℕ → ℕ → ℕ
-wordAt s i = byteAt s i + 256 * byteAt s (suc i)
+wordAt s i = byteAt s i + 256 * byteAt s (i + 1)
 
 -- "then an 8-byte trailer that points back"
 unfoldable pub trailer : List ℕ → ℕ

@@ -3,6 +3,9 @@ ghost use mathlib.Core.Path.{_≡_};
 ghost use Rattle.roster.specs.Answers.{numberOf};
 use rules::Priority;
 
+pub mod format;
+pub mod steps;
+
 // The sizes of a roster, all of this kind.
 pub struct Limits {
     pub largest: usize,
@@ -16,6 +19,14 @@ impl Limits {
     pub const TASKS: usize = 32;
 
     pub const OBJECTS: usize = 16;
+
+    pub const TRAILER: usize = 8;
+
+    pub const TASK_ROW: u32 = 6;
+
+    pub const OBJECT_ROW: u32 = 2;
+
+    pub const STEP: usize = 4;
 }
 
 // A step of a script. Finish is what is asked at the script's end; bytes that are no step read as it, and form refuses them.
@@ -40,11 +51,11 @@ pub enum Verdict {
     BadCounts,
     BadLayout,
     BadValues,
-    BadStep(usize, usize),
-    WhileHeld(usize, usize),
-    LowCeiling(usize, usize),
-    NotInnermost(usize, usize),
-    OtherTask(usize, usize),
+    BadStep(u8, usize),
+    WhileHeld(u8, usize),
+    LowCeiling(u8, usize),
+    NotInnermost(u8, usize),
+    OtherTask(u8, usize),
 }
 
 impl Verdict {

@@ -1,0 +1,128 @@
+// Reads the parts of a roster. Internal: pub for this project's own crates; what has a `requires` wants a roster that passed form.
+ghost use mathlib.Core.Path.{_≡_};
+ghost use Prim.Native.Nat.{_+_, _≤_};
+ghost use lib.ListN.{length};
+ghost use Rattle.rules.specs.Model.{ceilingOf};
+ghost use Rattle.roster.specs.Format.{byteAt, wordAt, trailer, taskCount, objectCount, taskTable, objectTable};
+ghost use Rattle.roster.specs.Format.{taskRow, objectRow, baseAt, startAt, lengthAt, ceilingAt, partAt};
+ghost use Rattle.roster.specs.Roster.{rosterOf};
+use crate::Limits;
+
+// The byte at i, or 0 past the end.
+pub fn byte_at(s: &[u8], i: usize) -> u8
+    ensures { λ r. ⌜ r ≡ byteAt (now (s .entry)) i ⌝ }
+{
+    if i < s.len() {
+        return s[i];
+    }
+    0
+}
+
+// The two bytes at i.
+pub fn word_at(s: &[u8], i: usize) -> u16
+    ensures { λ r. ⌜ r ≡ wordAt (now (s .entry)) i ⌝ }
+{
+    let low = byte_at(s, i) as u16;
+    if i < s.len() {
+        let high = byte_at(s, i + 1) as u16;
+        return low + 256 * high;
+    }
+    low
+}
+
+// Where the trailer starts.
+pub fn trailer_of(s: &[u8]) -> usize
+    ensures { λ r. ⌜ r ≡ trailer (now (s .entry)) ⌝ }
+{
+    let n = s.len();
+    if n < Limits::TRAILER {
+        return 0;
+    }
+    n - Limits::TRAILER
+}
+
+pub fn task_count(s: &[u8]) -> u8
+    ensures { λ r. ⌜ r ≡ taskCount (now (s .entry)) ⌝ }
+{
+    let at = trailer_of(s);
+    byte_at(s, at + 2)
+}
+
+pub fn object_count(s: &[u8]) -> u8
+    ensures { λ r. ⌜ r ≡ objectCount (now (s .entry)) ⌝ }
+{
+    let at = trailer_of(s);
+    byte_at(s, at + 3)
+}
+
+pub fn object_table(s: &[u8]) -> u16
+    ensures { λ r. ⌜ r ≡ objectTable (now (s .entry)) ⌝ }
+{
+    let at = trailer_of(s);
+    word_at(s, at + 4)
+}
+
+pub fn task_table(s: &[u8]) -> u16
+    ensures { λ r. ⌜ r ≡ taskTable (now (s .entry)) ⌝ }
+{
+    let at = trailer_of(s);
+    word_at(s, at + 6)
+}
+
+pub fn task_row(s: &[u8], t: u8) -> u32
+    ensures { λ r. ⌜ r ≡ taskRow (now (s .entry)) t ⌝ }
+{
+    let table = task_table(s) as u32;
+    table + Limits::TASK_ROW * (t as u32)
+}
+
+pub fn object_row(s: &[u8], o: u8) -> u32
+    ensures { λ r. ⌜ r ≡ objectRow (now (s .entry)) o ⌝ }
+{
+    let table = object_table(s) as u32;
+    table + Limits::OBJECT_ROW * (o as u32)
+}
+
+pub fn base_at(s: &[u8], t: u8) -> u8
+    ensures { λ r. ⌜ r ≡ baseAt (now (s .entry)) t ⌝ }
+{
+    let row = task_row(s, t) as usize;
+    byte_at(s, row)
+}
+
+pub fn start_at(s: &[u8], t: u8) -> u16
+    ensures { λ r. ⌜ r ≡ startAt (now (s .entry)) t ⌝ }
+{
+    let row = task_row(s, t) as usize;
+    word_at(s, row + 2)
+}
+
+pub fn length_at(s: &[u8], t: u8) -> u16
+    ensures { λ r. ⌜ r ≡ lengthAt (now (s .entry)) t ⌝ }
+{
+    let row = task_row(s, t) as usize;
+    word_at(s, row + 4)
+}
+
+// The ceiling of an object; of one that is not listed, 0.
+pub fn ceiling_of(s: &[u8], o: u8) -> u8
+    ensures { λ r. ⌜ r ≡ ceilingOf (rosterOf (now (s .entry)) .ceilings) o ⌝ }
+{
+    let n = object_count(s);
+    if o < n {
+        let row = object_row(s, o) as usize;
+        return byte_at(s, row);
+    }
+    0
+}
+
+// The bytes of a task's script.
+pub fn script_part(s: &[u8], t: u8) -> &[u8]
+    requires { ⌜ startAt (now s) t + lengthAt (now s) t ≤ length (now s) ⌝ }
+    ensures { λ r. ⌜ now r ≡ partAt (now (s .entry)) t ⌝ }
+{
+    let start = start_at(s, t) as usize;
+    let size = length_at(s, t) as usize;
+    let end = start + size;
+    &s[start..end]
+}
