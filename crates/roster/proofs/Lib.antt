@@ -1,4 +1,6 @@
 pub mod Cases
 pub mod ListLaws
+pub mod TestLaws
 pub mod StepLaws
 pub mod FormatLaws
+pub mod FormLaws

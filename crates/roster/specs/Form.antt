@@ -38,9 +38,12 @@ unfoldable pub scriptsEnd : List ℕ → ℕ → ℕ
 scriptsEnd s zero = 0
 scriptsEnd s (suc t) = scriptsEnd s t + lengthAt s t
 
--- "script length in bytes (2, a multiple of 4)"
+-- a script that starts there; "script length in bytes (2, a multiple of 4)"
+unfoldable pub laidFrom : List ℕ → ℕ → ℕ → Bool
+laidFrom s start t = eqb (startAt s t) start && eqb (lengthAt s t % stepSize) 0
+
 unfoldable pub scriptLaid : List ℕ → ℕ → Bool
-scriptLaid s t = eqb (startAt s t) (scriptsEnd s t) && eqb (lengthAt s t % stepSize) 0
+scriptLaid s t = laidFrom s (scriptsEnd s t) t
 
 unfoldable pub scriptsLaid : List ℕ → Bool
 scriptsLaid s = below (taskCount s) (scriptLaid s) && eqb (scriptsEnd s (taskCount s)) (taskTable s)

@@ -1,10 +1,11 @@
 // The roster file: its kinds. Reading, form and check stand in the modules.
 ghost use mathlib.Core.Path.{_≡_};
-ghost use Rattle.roster.specs.Answers.{numberOf};
+ghost use Rattle.roster.specs.Answers.{numberOf, passed};
 use rules::Priority;
 
 pub mod format;
 pub mod steps;
+mod form;
 
 // The sizes of a roster, all of this kind.
 pub struct Limits {
@@ -27,6 +28,10 @@ impl Limits {
     pub const OBJECT_ROW: u32 = 2;
 
     pub const STEP: usize = 4;
+
+    pub const FIRST_MARK: u8 = 82;
+
+    pub const SECOND_MARK: u8 = 53;
 }
 
 // A step of a script. Finish is what is asked at the script's end; bytes that are no step read as it, and form refuses them.
@@ -59,6 +64,12 @@ pub enum Verdict {
 }
 
 impl Verdict {
+    pub fn passed(self) -> bool
+        ensures { λ r. ⌜ r ≡ passed self ⌝ }
+    {
+        self.number() == 0
+    }
+
     pub fn number(self) -> u8
         ensures { λ r. ⌜ r ≡ numberOf self ⌝ }
     {

@@ -1,0 +1,152 @@
+-- Laws of the form's tests, by the ways of the code: each rule from what was read.
+use mathlib.Core.Path.{_≡_, refl, ap, sym, _∙_}
+use mathlib.Core.Bool.{Bool, true, false, cond, not, _&&_}
+use mathlib.Core.List.{List}
+use Prim.Native.Nat.{ℕ, zero, suc, _+_, _*_, _%_, _≤_, _<_}
+use native.Mathlib.Omega.{arith}
+use native.Mathlib.Numerals.{add-one}
+use borrow.Author.Tests.{eq-eqb, ne-eqb, lt-leb, le-leb}
+use lib.Dec.{eqb, leb}
+use lib.ListN.{length}
+use Rattle.rules.specs.Limits.{taskLimit, objectLimit}
+use Rattle.rules.specs.Priorities.{inRange}
+use Rattle.rules.specs.Sound.{below}
+use Rattle.roster.specs.Limits.{smallestRoster, largestRoster, firstMark, secondMark, stepSize}
+use Rattle.roster.specs.Answers.{passed, first}
+use Rattle.roster.specs.Format.{byteAt, trailer, taskCount, objectCount, taskTable, objectTable}
+use Rattle.roster.specs.Format.{taskRow, objectRow, baseAt, ceilingAt, startAt, lengthAt, partAt}
+use Rattle.roster.specs.Steps.{aAt, bAt, stepAt, stepCount}
+use Rattle.roster.specs.Form.{lengthGood, markGood, countsKept, tablesGood, scriptsEnd, laidFrom, scriptLaid, scriptsLaid}
+use Rattle.roster.specs.Form.{taskRowGood, objectRowGood, unusedZero, namesListed, standsRight, stepGood, stepForm}
+use Rattle.roster.specs.declared.Step.{Step}
+use Rattle.roster.specs.declared.Verdict.{Verdict}
+use Rattle.roster.specs.declared.Verdict.the-variants.{Passed, BadStep}
+use Rattle.roster.proofs.TestLaws.{and-no, and-yes, three-first, three-second, three-third}
+use Rattle.roster.proofs.TestLaws.{below-at, below-more, below-fails}
+
+module _ (s : List ℕ) where
+  -- 12
+  pub mark-no : (at a : ℕ) → at ≡ trailer s → a ≡ byteAt s at → (a ≡ firstMark → ⊥) → false ≡ markGood s
+  unfolding markGood
+  mark-no at a e f h = and-no _ _ (ap (λ (x : ℕ). eqb (byteAt s x) firstMark) (sym e) ∙ (ap (λ (x : ℕ). eqb x firstMark) (sym f) ∙ ne-eqb a firstMark h))
+
+  pub mark-yes : (at a b : ℕ) → at ≡ trailer s → a ≡ byteAt s at → b ≡ byteAt s (at + 1) → a ≡ firstMark → eqb b secondMark ≡ markGood s
+  unfolding markGood
+  mark-yes at a b e f g h =
+    let x : byteAt s (trailer s) ≡ firstMark = cc in
+    let y : eqb b secondMark ≡ eqb (byteAt s (trailer s + 1)) secondMark = cc in
+    and-yes (eqb (byteAt s (trailer s)) firstMark) (eqb (byteAt s (trailer s + 1)) secondMark) _ (eq-eqb _ firstMark x) y
+
+  -- 13
+  pub counts-few : (n : ℕ) → n ≡ taskCount s → n < 1 → false ≡ countsKept s
+  counts-few n e h = three-first _ _ _ (lt-leb 1 (taskCount s) (omega arith))
+
+  pub counts-many : (n : ℕ) → n ≡ taskCount s → 1 ≤ n → taskLimit < n → false ≡ countsKept s
+  counts-many n e g h =
+    three-second _ _ _ (le-leb 1 (taskCount s) (omega arith)) (lt-leb (taskCount s) taskLimit (omega arith))
+
+  pub counts-rest : (n m : ℕ) → n ≡ taskCount s → m ≡ objectCount s → 1 ≤ n → n ≤ taskLimit → leb m objectLimit ≡ countsKept s
+  counts-rest n m e f g h =
+    three-third _ _ _ _ (le-leb 1 (taskCount s) (omega arith)) (le-leb (taskCount s) taskLimit (omega arith))
+    (ap (λ (x : ℕ). leb x objectLimit) f)
+
+  -- 14
+  pub tables-no : (n row table : ℕ) → n ≡ taskCount s → row ≡ taskRow s n → table ≡ objectTable s → (row ≡ table → ⊥) → false ≡ tablesGood s
+  unfolding tablesGood
+  tables-no n row table e f g h =
+    and-no _ _ (ne-eqb (taskRow s (taskCount s)) (objectTable s) (λ x. h (let y : row ≡ table = cc in y)))
+
+  pub tables-yes : (n m row end table at : ℕ) → n ≡ taskCount s → m ≡ objectCount s → row ≡ taskRow s n → end ≡ objectRow s m →
+    table ≡ objectTable s → at ≡ trailer s → row ≡ table → eqb end at ≡ tablesGood s
+  unfolding tablesGood
+  tables-yes n m row end table at e f g h i j k =
+    let x : taskRow s (taskCount s) ≡ objectTable s = cc in
+    let y : eqb end at ≡ eqb (objectRow s (objectCount s)) (trailer s) = cc in
+    and-yes _ _ _ (eq-eqb (taskRow s (taskCount s)) (objectTable s) x) y
+
+  pub laid-no : (t start at : ℕ) → at ≡ startAt s t → (at ≡ start → ⊥) → false ≡ laidFrom s start t
+  unfolding laidFrom
+  laid-no t start at e h = and-no _ _ (ne-eqb (startAt s t) start (λ x. h (e ∙ x)))
+
+  pub laid-yes : (t start at size : ℕ) → at ≡ startAt s t → size ≡ lengthAt s t → at ≡ start → eqb (size % stepSize) 0 ≡ laidFrom s start t
+  unfolding laidFrom
+  laid-yes t start at size e f g =
+    and-yes _ _ _ (eq-eqb (startAt s t) start (sym e ∙ g)) (ap (λ (x : ℕ). eqb (x % stepSize) 0) f)
+
+  -- 15
+  pub task-no : (t base : ℕ) (b : Bool) → base ≡ baseAt s t → b ≡ inRange base → b ≡ false → false ≡ taskRowGood s t
+  unfolding taskRowGood
+  task-no t base b e f g = and-no _ _ (ap inRange (sym e) ∙ (sym f ∙ g))
+
+  pub task-yes : (t base row z : ℕ) (b : Bool) → base ≡ baseAt s t → row ≡ taskRow s t → z ≡ byteAt s (row + 1) → b ≡ inRange base →
+    b ≡ true → eqb z 0 ≡ taskRowGood s t
+  unfolding taskRowGood
+  task-yes t base row z b e f g h i =
+    and-yes _ _ _ (ap inRange (sym e) ∙ (sym h ∙ i)) (ap (λ (x : ℕ). eqb x 0) (g ∙ ap (λ (x : ℕ). byteAt s (x + 1)) f))
+
+  pub object-no : (o ceiling row : ℕ) (b : Bool) → row ≡ objectRow s o → ceiling ≡ byteAt s row → b ≡ inRange ceiling → b ≡ false →
+    false ≡ objectRowGood s o
+  unfolding objectRowGood ceilingAt
+  object-no o ceiling row b e f g h =
+    and-no _ _ (ap inRange (ap (byteAt s) (sym e) ∙ sym f) ∙ (sym g ∙ h))
+
+  pub object-yes : (o ceiling row z : ℕ) (b : Bool) → row ≡ objectRow s o → ceiling ≡ byteAt s row → z ≡ byteAt s (row + 1) →
+    b ≡ inRange ceiling → b ≡ true → eqb z 0 ≡ objectRowGood s o
+  unfolding objectRowGood ceilingAt
+  object-yes o ceiling row z b e f g h i =
+    and-yes _ _ _ (ap inRange (ap (byteAt s) (sym e) ∙ sym f) ∙ (sym h ∙ i))
+    (ap (λ (x : ℕ). eqb x 0) (g ∙ ap (λ (x : ℕ). byteAt s (x + 1)) e))
+
+-- 16
+module _ (n m : ℕ) (last : Bool) (a b : ℕ) (x : Step) where
+  pub good-unused : (u : Bool) → u ≡ unusedZero a b x → u ≡ false → false ≡ stepGood n m last a b x
+  unfolding stepGood
+  good-unused u e f = three-first _ _ _ (sym e ∙ f)
+
+  pub good-unlisted : (u v : Bool) → u ≡ unusedZero a b x → u ≡ true → v ≡ namesListed n m x → v ≡ false → false ≡ stepGood n m last a b x
+  unfolding stepGood
+  good-unlisted u v e f g h = three-second _ _ _ (sym e ∙ f) (sym g ∙ h)
+
+  pub good-rest : (u v w : Bool) → u ≡ unusedZero a b x → u ≡ true → v ≡ namesListed n m x → v ≡ true → w ≡ standsRight last x →
+    w ≡ stepGood n m last a b x
+  unfolding stepGood
+  good-rest u v w e f g h i = three-third _ _ _ _ (sym e ∙ f) (sym g ∙ h) i
+
+module _ (n m t : ℕ) (part : List ℕ) (k a b : ℕ) (x : Step) (last good : Bool) where
+  pub form-good : a ≡ aAt part k → b ≡ bAt part k → x ≡ stepAt part k → last ≡ eqb (suc k) (stepCount part) →
+    good ≡ stepGood n m last a b x → good ≡ true → Passed ≡ stepForm n m t part k
+  unfolding stepForm
+  form-good e f g h i j =
+    let z : stepGood n m (eqb (suc k) (stepCount part)) (aAt part k) (bAt part k) (stepAt part k) ≡ true = cc in
+    sym (ap (λ (y : Bool). cond y Passed (BadStep t k)) z)
+
+  pub form-broken : a ≡ aAt part k → b ≡ bAt part k → x ≡ stepAt part k → last ≡ eqb (suc k) (stepCount part) →
+    good ≡ stepGood n m last a b x → good ≡ false → BadStep t k ≡ stepForm n m t part k
+  unfolding stepForm
+  form-broken e f g h i j =
+    let z : stepGood n m (eqb (suc k) (stepCount part)) (aAt part k) (bAt part k) (stepAt part k) ≡ false = cc in
+    sym (ap (λ (y : Bool). cond y Passed (BadStep t k)) z)
+
+-- the loop over the scripts' places
+module _ (s : List ℕ) where
+  pub ends-more : (t end size : ℕ) → end ≡ scriptsEnd s t → size ≡ lengthAt s t → end + size ≡ scriptsEnd s (t + 1)
+  unfolding scriptsEnd
+  ends-more t end size e f =
+    let z : end + size ≡ scriptsEnd s t + lengthAt s t = cc in
+    z ∙ ap (scriptsEnd s) (sym (add-one t))
+
+  pub laid-here : (t end : ℕ) (b : Bool) → end ≡ scriptsEnd s t → b ≡ laidFrom s end t → b ≡ scriptLaid s t
+  unfolding scriptLaid
+  laid-here t end b e f = f ∙ ap (λ (x : ℕ). laidFrom s x t) e
+
+  pub scripts-no : false ≡ below (taskCount s) (scriptLaid s) → false ≡ scriptsLaid s
+  unfolding scriptsLaid
+  scripts-no e = and-no _ _ (sym e)
+
+  pub scripts-end : (n t end table : ℕ) → n ≡ taskCount s → t ≤ n → n ≤ t → end ≡ scriptsEnd s t → below t (scriptLaid s) ≡ true →
+    table ≡ taskTable s → eqb end table ≡ scriptsLaid s
+  unfolding scriptsLaid
+  scripts-end n t end table e g h i k l =
+    let z : t ≡ taskCount s = omega arith in
+    let y : eqb end table ≡ eqb (scriptsEnd s (taskCount s)) (taskTable s) = cc in
+    and-yes _ _ _ (ap (λ (x : ℕ). below x (scriptLaid s)) (sym z) ∙ k) y
