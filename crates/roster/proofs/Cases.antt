@@ -31,9 +31,10 @@ pub whole-case : (answered (wholeCase 20) ++ answered (wholeCase 19)) ≡ (0 ∷
 unfolding Answers.first Format.wordAt Format.trailer Format.taskCount Format.objectCount Format.objectTable Format.taskTable
     Format.taskRow Format.baseAt Format.startAt Format.lengthAt Format.objectRow Format.ceilingAt Format.partAt
     Steps.tabulate Steps.setStep Steps.stepOf Steps.codeAt Steps.aAt Steps.bAt Steps.stepAt Steps.stepsOf Roster.rosterOf
-    Form.lengthGood Form.markGood Form.tablesGood Form.scriptsEnd Form.laidFrom Form.scriptLaid Form.scriptsLaid Form.taskRowGood
+    Form.lengthGood Form.markGood Form.tablesGood Form.scriptsEnd Form.laidFrom Form.scriptLaid Form.scriptsLaid Form.countsKept Form.layoutGood
+    Form.valuesGood Form.taskRowGood
     Form.objectRowGood Form.unusedZero Form.namesListed Form.standsRight Form.stepGood Form.stepForm Form.stepsForm
-    Form.scriptsForm Form.formOf Form.scriptAnswer Form.scriptPart Check.heldAfter Check.heldBefore Check.ownSet Check.topOf
+    Form.scriptForm Form.scriptsForm Form.formOf Form.scriptAnswer Form.scriptPart Check.heldAfter Check.heldBefore Check.ownSet Check.topOf
     Check.whileHeld Check.lowCeiling Check.notInnermost Check.otherTask Check.faultOf Check.faultIn Check.stepsFault
     Check.topAt Check.scriptFault Check.rosterFault Check.checkOf Events.timesIn Model.highestOf Sound.below
 whole-case = refl

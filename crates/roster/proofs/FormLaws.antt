@@ -5,7 +5,7 @@ use mathlib.Core.List.{List}
 use Prim.Native.Nat.{ℕ, zero, suc, _+_, _*_, _%_, _≤_, _<_}
 use native.Mathlib.Omega.{arith}
 use native.Mathlib.Numerals.{add-one}
-use borrow.Author.Tests.{eq-eqb, ne-eqb, lt-leb, le-leb}
+use borrow.Author.Tests.{eqb-true, eqb-false, eq-eqb, ne-eqb, lt-leb, le-leb}
 use lib.Dec.{eqb, leb}
 use lib.ListN.{length}
 use Rattle.rules.specs.Limits.{taskLimit, objectLimit}
@@ -17,11 +17,12 @@ use Rattle.roster.specs.Format.{byteAt, trailer, taskCount, objectCount,
 use Rattle.roster.specs.Format.{taskRow, objectRow, baseAt, ceilingAt, startAt, lengthAt, partAt}
 use Rattle.roster.specs.Steps.{aAt, bAt, stepAt, stepCount}
 use Rattle.roster.specs.Form.{lengthGood, markGood, countsKept, tablesGood, scriptsEnd, laidFrom, scriptLaid, scriptsLaid}
+use Rattle.roster.specs.Form.{layoutGood, valuesGood, stepsForm, scriptForm, scriptsForm, formOf}
 use Rattle.roster.specs.Form.{taskRowGood, objectRowGood, unusedZero, namesListed, standsRight, stepGood, stepForm}
 use Rattle.roster.specs.declared.Step.{Step}
 use Rattle.roster.specs.declared.Verdict.{Verdict}
-use Rattle.roster.specs.declared.Verdict.the-variants.{Passed, BadStep}
-use Rattle.roster.proofs.TestLaws.{and-no, and-yes, three-first, three-second, three-third}
+use Rattle.roster.specs.declared.Verdict.the-variants.{Passed, BadLength, BadMark, BadCounts, BadLayout, BadValues, BadStep}
+use Rattle.roster.proofs.TestLaws.{and-no, and-yes, and-left, and-right, by-test, three-first, three-second, three-third}
 use Rattle.roster.proofs.TestLaws.{below-at, below-more, below-fails}
 
 module _ (s : List ℕ) where
@@ -39,13 +40,16 @@ module _ (s : List ℕ) where
 
   -- 13
   pub counts-few : (n : ℕ) → n ≡ taskCount s → n < 1 → false ≡ countsKept s
+  unfolding countsKept
   counts-few n e h = three-first _ _ _ (lt-leb 1 (taskCount s) (omega arith))
 
   pub counts-many : (n : ℕ) → n ≡ taskCount s → 1 ≤ n → taskLimit < n → false ≡ countsKept s
+  unfolding countsKept
   counts-many n e g h =
     three-second _ _ _ (le-leb 1 (taskCount s) (omega arith)) (lt-leb (taskCount s) taskLimit (omega arith))
 
   pub counts-rest : (n m : ℕ) → n ≡ taskCount s → m ≡ objectCount s → 1 ≤ n → n ≤ taskLimit → leb m objectLimit ≡ countsKept s
+  unfolding countsKept
   counts-rest n m e f g h =
     three-third _ _ _ _ (le-leb 1 (taskCount s) (omega arith)) (le-leb (taskCount s) taskLimit (omega arith))
     (ap (λ (x : ℕ). leb x objectLimit) f)
@@ -150,3 +154,100 @@ module _ (s : List ℕ) where
     let z : t ≡ taskCount s = omega arith in
     let y : eqb end table ≡ eqb (scriptsEnd s (taskCount s)) (taskTable s) = cc in
     and-yes _ _ _ (ap (λ (x : ℕ). below x (scriptLaid s)) (sym z) ∙ k) y
+
+  pub layout-tables : (b : Bool) → b ≡ tablesGood s → b ≡ false → false ≡ layoutGood s
+  unfolding layoutGood
+  layout-tables b e f = and-no _ _ (sym e ∙ f)
+
+  pub layout-scripts : (b d : Bool) → b ≡ tablesGood s → b ≡ true → d ≡ scriptsLaid s → d ≡ layoutGood s
+  unfolding layoutGood
+  layout-scripts b d e f g = and-yes _ _ _ (sym e ∙ f) g
+
+  pub values-tasks : (b : Bool) → b ≡ below (taskCount s) (taskRowGood s) → b ≡ false → false ≡ valuesGood s
+  unfolding valuesGood
+  values-tasks b e f = and-no _ _ (sym e ∙ f)
+
+  pub values-objects : (b d : Bool) → b ≡ below (taskCount s) (taskRowGood s) → b ≡ true → d ≡ below (objectCount s) (objectRowGood s) →
+    d ≡ valuesGood s
+  unfolding valuesGood
+  values-objects b d e f g = and-yes _ _ _ (sym e ∙ f) g
+
+  pub script-form : (n m t : ℕ) (part : List ℕ) (v : Verdict) → n ≡ taskCount s → m ≡ objectCount s → part ≡ partAt s t →
+    v ≡ stepsForm n m t part → v ≡ scriptForm s t
+  unfolding scriptForm
+  script-form n m t part v e f g h = cc
+
+  -- the scripts of more tasks end no earlier
+  pub ends-rise : (t n : ℕ) → t ≤ n → scriptsEnd s t ≤ scriptsEnd s n
+  unfolding scriptsEnd
+  ends-rise t zero h = ap≤ (let z : t ≡ 0 = omega arith in z)
+    where
+      ap≤ : t ≡ 0 → scriptsEnd s t ≤ scriptsEnd s 0
+      ap≤ e = omega (arith, ap (scriptsEnd s) e)
+  ends-rise t (suc n) h =
+    by-test (eqb t (suc n))
+    (λ g. omega (arith, ap (scriptsEnd s) (eqb-true t (suc n) g)))
+    (λ g. let d : t ≡ suc n → ⊥ = eqb-false t (suc n) g in omega (arith, ends-rise t n (omega arith)))
+
+  -- what the layout says of a script: it stands inside the roster, and is whole steps
+  module _ (good : layoutGood s ≡ true) where
+    pub tables-laid : (taskRow s (taskCount s) ≡ objectTable s) × (objectRow s (objectCount s) ≡ trailer s)
+    unfolding layoutGood tablesGood
+    tables-laid =
+      let e : tablesGood s ≡ true = and-left (tablesGood s) (scriptsLaid s) good in
+      let a = eqb (taskRow s (taskCount s)) (objectTable s) in
+      let b = eqb (objectRow s (objectCount s)) (trailer s) in
+      (eqb-true _ _ (and-left a b e), eqb-true _ _ (and-right a b e))
+
+    scripts-are : scriptsLaid s ≡ true
+    unfolding layoutGood
+    scripts-are = and-right (tablesGood s) (scriptsLaid s) good
+
+    pub script-starts : (t : ℕ) → t < taskCount s → startAt s t ≡ scriptsEnd s t
+    unfolding scriptsLaid scriptLaid laidFrom
+    script-starts t h =
+      let e = below-at (scriptLaid s) (taskCount s) t (and-left (below (taskCount s) (scriptLaid s)) _ scripts-are) h in
+      eqb-true _ _ (and-left (eqb (startAt s t) (scriptsEnd s t)) (eqb (lengthAt s t % stepSize) 0) e)
+
+    pub script-whole : (t : ℕ) → t < taskCount s → lengthAt s t % stepSize ≡ 0
+    unfolding scriptsLaid scriptLaid laidFrom
+    script-whole t h =
+      let e = below-at (scriptLaid s) (taskCount s) t (and-left (below (taskCount s) (scriptLaid s)) _ scripts-are) h in
+      eqb-true _ _ (and-right (eqb (startAt s t) (scriptsEnd s t)) (eqb (lengthAt s t % stepSize) 0) e)
+
+    pub scripts-close : scriptsEnd s (taskCount s) ≡ taskTable s
+    unfolding scriptsLaid
+    scripts-close = eqb-true _ _ (and-right (below (taskCount s) (scriptLaid s)) (eqb (scriptsEnd s (taskCount s)) (taskTable s)) scripts-are)
+
+    pub script-inside : (t : ℕ) → t < taskCount s → startAt s t + lengthAt s t ≤ length s
+    unfolding scriptsEnd taskRow objectRow trailer
+    script-inside t h =
+      omega (arith, script-starts t h, ends-rise (suc t) (taskCount s) h, scripts-close, tables-laid .0, tables-laid .1)
+
+-- the ways of the form: each rule is kept up to the one that is not
+module _ (s : List ℕ) where
+  pub form-1 : lengthGood s ≡ false → BadLength ≡ formOf s
+  unfolding formOf
+  form-1 e1 = simp e1
+
+  pub form-2 : lengthGood s ≡ true → markGood s ≡ false → BadMark ≡ formOf s
+  unfolding formOf
+  form-2 e1 e2 = simp (e1, e2)
+
+  pub form-3 : lengthGood s ≡ true → markGood s ≡ true → countsKept s ≡ false → BadCounts ≡ formOf s
+  unfolding formOf
+  form-3 e1 e2 e3 = simp (e1, e2, e3)
+
+  pub form-4 : lengthGood s ≡ true → markGood s ≡ true → countsKept s ≡ true → layoutGood s ≡ false → BadLayout ≡ formOf s
+  unfolding formOf
+  form-4 e1 e2 e3 e4 = simp (e1, e2, e3, e4)
+
+  pub form-5 : lengthGood s ≡ true → markGood s ≡ true → countsKept s ≡ true → layoutGood s ≡ true → valuesGood s ≡ false →
+    BadValues ≡ formOf s
+  unfolding formOf
+  form-5 e1 e2 e3 e4 e5 = simp (e1, e2, e3, e4, e5)
+
+  pub form-6 : lengthGood s ≡ true → markGood s ≡ true → countsKept s ≡ true → layoutGood s ≡ true → valuesGood s ≡ true →
+    scriptsForm s ≡ formOf s
+  unfolding formOf
+  form-6 e1 e2 e3 e4 e5 = simp (e1, e2, e3, e4, e5)

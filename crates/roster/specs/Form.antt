@@ -26,7 +26,7 @@ unfoldable pub markGood : List ℕ → Bool
 markGood s = eqb (byteAt s (trailer s)) firstMark && eqb (byteAt s (trailer s + 1)) secondMark
 
 -- 13 "counts": "tasks 1 to 32, objects 0 to 16"
-abbrev pub countsKept : List ℕ → Bool
+unfoldable pub countsKept : List ℕ → Bool
 countsKept s = countsGood (taskCount s) (objectCount s)
 
 -- 14 "starts or lengths off the layout": "with no gaps", each table ends where the next part starts
@@ -48,7 +48,7 @@ scriptLaid s t = laidFrom s (scriptsEnd s t) t
 unfoldable pub scriptsLaid : List ℕ → Bool
 scriptsLaid s = below (taskCount s) (scriptLaid s) && eqb (scriptsEnd s (taskCount s)) (taskTable s)
 
-abbrev pub layoutGood : List ℕ → Bool
+unfoldable pub layoutGood : List ℕ → Bool
 layoutGood s = tablesGood s && scriptsLaid s
 
 -- 15 "a base, ceiling or zero byte wrong"
@@ -58,7 +58,7 @@ taskRowGood s t = inRange (baseAt s t) && eqb (byteAt s (taskRow s t + 1)) 0
 unfoldable pub objectRowGood : List ℕ → ℕ → Bool
 objectRowGood s o = inRange (ceilingAt s o) && eqb (byteAt s (objectRow s o + 1)) 0
 
-abbrev pub valuesGood : List ℕ → Bool
+unfoldable pub valuesGood : List ℕ → Bool
 valuesGood s = below (taskCount s) (taskRowGood s) && below (objectCount s) (objectRowGood s)
 
 -- 16 "a step that breaks the lines above": "Unused operands are 0."
@@ -108,9 +108,12 @@ stepForm n m t part k =
 unfoldable pub stepsForm : ℕ → ℕ → ℕ → List ℕ → Verdict
 stepsForm n m t part = first (stepCount part) (stepForm n m t part)
 
+unfoldable pub scriptForm : List ℕ → ℕ → Verdict
+scriptForm s t = stepsForm (taskCount s) (objectCount s) t (partAt s t)
+
 -- "16 .. the first fault in task and step order"
 unfoldable pub scriptsForm : List ℕ → Verdict
-scriptsForm s = first (taskCount s) (λ t. stepsForm (taskCount s) (objectCount s) t (partAt s t))
+scriptsForm s = first (taskCount s) (scriptForm s)
 
 -- "11 to 15: lowest wins."
 unfoldable pub formOf : List ℕ → Verdict

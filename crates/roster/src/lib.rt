@@ -5,7 +5,9 @@ use rules::Priority;
 
 pub mod format;
 pub mod steps;
-mod form;
+mod forms;
+
+pub use forms::form;
 
 // The sizes of a roster, all of this kind.
 pub struct Limits {

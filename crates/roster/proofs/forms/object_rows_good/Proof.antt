@@ -1,0 +1,64 @@
+-- `roster::forms::object_rows_good` meets its contract.
+use native.Mathlib.Omega.{arith}
+use borrow.Author.Tests.{not-true, not-false}
+use mathlib.Core.Path.{_≡_, refl, _∙_}
+use mathlib.Core.Bool.{true}
+use Prim.Native.Nat.{_≤_, _-_}
+use Rattle.rules.specs.Sound.{below}
+use borrow.Author.Needs.{needs}
+use Rattle.roster.specs.Form.{objectRowGood}
+use Rattle.roster.proofs.TestLaws.{turn-fails, turn-on, turns-end}
+use Rattle.roster.proofs.forms.object_rows_good.Statement.{statement}
+use Rattle.roster.proofs.forms.object_rows_good.Tie as tie
+
+abbrev Inv-loop : tie.InvT-loop
+Inv-loop s n o₀ o = (o ≤ n) × (below o (objectRowGood s) ≡ true)
+
+abbrev μ-loop : tie.MeasureT-loop
+μ-loop s n o₀ o = n - o
+
+object-count-requires : tie.Need-object-count-requires Inv-loop μ-loop
+object-count-requires c κs = search needs
+
+loop-holds : tie.Need-loop-holds Inv-loop μ-loop
+unfolding below
+loop-holds c = (omega arith, refl)
+
+object-row-good-requires : tie.Need-object-row-good-requires Inv-loop μ-loop
+object-row-good-requires c κs = search needs
+
+returns : tie.Need-returns Inv-loop μ-loop
+returns c =
+    turn-fails (objectRowGood (c .before .before .before .before .before .before .args .s .now)) _ _ _ _ (c .before .before .before .before .object-count .ensures) (c .before .before .loop-test .taken)
+    (c .before .object-row-good .ensures) (not-true _ (c .if1 .taken))
+
+add-o : tie.Need-add-o Inv-loop μ-loop
+add-o c = search needs
+
+loop-less : tie.Need-loop-less Inv-loop μ-loop
+loop-less c = omega arith
+
+loop-again : tie.Need-loop-again Inv-loop μ-loop
+loop-again c =
+    (omega arith, turn-on (objectRowGood (c .before .before .before .before .before .before .args .s .now)) _ _ (c .before .before .before .loop .inv .1)
+    (c .before .object-row-good .ensures) (not-false _ (c .if1 .left)))
+
+returns-2 : tie.Need-returns-2 Inv-loop μ-loop
+returns-2 c =
+    turns-end (objectRowGood (c .before .before .before .before .args .s .now)) _ _ _ (c .before .before .object-count .ensures) (c .before .loop .inv .0) (c .loop-test .left)
+    (c .before .loop .inv .1)
+
+pub object-rows-good-spec : {M : Type 1} → statement M
+object-rows-good-spec =
+    tie.close
+    (tie.spec
+    Inv-loop
+    μ-loop
+    object-count-requires
+    loop-holds
+    object-row-good-requires
+    returns
+    add-o
+    loop-less
+    loop-again
+    returns-2)

@@ -1,0 +1,80 @@
+-- `roster::forms::scripts_form` meets its contract.
+use native.Mathlib.Omega.{arith}
+use borrow.Author.Tests.{not-true, not-false}
+use mathlib.Core.Path.{_≡_, refl}
+use Prim.Native.Nat.{_≤_, _-_}
+use borrow.Author.Needs.{needs}
+use Rattle.roster.specs.Answers.{first}
+use Rattle.roster.specs.Form.{scriptForm, scriptsForm}
+use Rattle.roster.specs.declared.Verdict.the-variants.{Passed}
+use Rattle.roster.proofs.TestLaws.{turn-finds, turn-passes, turns-pass}
+use Rattle.roster.proofs.FormLaws.{script-form, script-inside}
+use Rattle.roster.proofs.forms.scripts_form.Statement.{statement}
+use Rattle.roster.proofs.forms.scripts_form.Tie as tie
+
+abbrev Inv-loop : tie.InvT-loop
+Inv-loop s n m t₀ t = (t ≤ n) × (first t (scriptForm s) ≡ Passed)
+
+abbrev μ-loop : tie.MeasureT-loop
+μ-loop s n m t₀ t = n - t
+
+task-count-requires : tie.Need-task-count-requires Inv-loop μ-loop
+task-count-requires c κs = search needs
+
+object-count-requires : tie.Need-object-count-requires Inv-loop μ-loop
+object-count-requires c κs = search needs
+
+loop-holds : tie.Need-loop-holds Inv-loop μ-loop
+unfolding first
+loop-holds c = (omega arith, refl)
+
+script-part-requires : tie.Need-script-part-requires Inv-loop μ-loop
+script-part-requires c κs = script-inside (c .before .before .before .before .before .args .s .now) (c .before .before .before .before .before .pre) (c .before .loop .t) (omega arith)
+
+steps-form-requires : tie.Need-steps-form-requires Inv-loop μ-loop
+steps-form-requires c κs = search needs
+
+passed-requires : tie.Need-passed-requires Inv-loop μ-loop
+passed-requires c κs = search needs
+
+returns : tie.Need-returns Inv-loop μ-loop
+unfolding scriptsForm
+returns c =
+    let v = script-form (c .before .before .before .before .before .before .before .before .before .args .s .now) _ _ _ _ _ (c .before .before .before .before .before .before .before .task-count .ensures) (c .before .before .before .before .before .before .object-count .ensures) (c .before .before .before .script-part .ensures) (c .before .before .steps-form .ensures) in
+    turn-finds (scriptForm (c .before .before .before .before .before .before .before .before .before .args .s .now)) _ _ _ _ _ (c .before .before .before .before .before .before .before .task-count .ensures) (c .before .before .before .before .loop-test .taken)
+    (c .before .before .before .before .before .loop .inv .1) v (c .before .passed .ensures) (not-true _ (c .if1 .taken))
+
+add-t : tie.Need-add-t Inv-loop μ-loop
+add-t c = search needs
+
+loop-less : tie.Need-loop-less Inv-loop μ-loop
+loop-less c = omega arith
+
+loop-again : tie.Need-loop-again Inv-loop μ-loop
+loop-again c =
+    let v = script-form (c .before .before .before .before .before .before .before .before .before .args .s .now) _ _ _ _ _ (c .before .before .before .before .before .before .before .task-count .ensures) (c .before .before .before .before .before .before .object-count .ensures) (c .before .before .before .script-part .ensures) (c .before .before .steps-form .ensures) in
+    (omega arith, turn-passes (scriptForm (c .before .before .before .before .before .before .before .before .before .args .s .now)) _ _ _ (c .before .before .before .before .before .loop .inv .1) v (c .before .passed .ensures) (not-false _ (c .if1 .left)))
+
+returns-2 : tie.Need-returns-2 Inv-loop μ-loop
+unfolding scriptsForm
+returns-2 c =
+    turns-pass (scriptForm (c .before .before .before .before .before .args .s .now)) _ _ _ (c .before .before .before .task-count .ensures) (c .before .loop .inv .0) (c .loop-test .left)
+    (c .before .loop .inv .1)
+
+pub scripts-form-spec : {M : Type 1} → statement M
+scripts-form-spec =
+    tie.close
+    (tie.spec
+    Inv-loop
+    μ-loop
+    task-count-requires
+    object-count-requires
+    loop-holds
+    script-part-requires
+    steps-form-requires
+    passed-requires
+    returns
+    add-t
+    loop-less
+    loop-again
+    returns-2)

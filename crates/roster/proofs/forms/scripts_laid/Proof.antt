@@ -1,0 +1,89 @@
+-- `roster::forms::scripts_laid` meets its contract.
+use native.Mathlib.Omega.{arith}
+use borrow.Author.Tests.{not-true, not-false}
+use mathlib.Core.Path.{_≡_, refl, _∙_}
+use mathlib.Core.Bool.{true}
+use Prim.Native.Nat.{_≤_, _*_, _-_}
+use Rattle.rules.specs.Sound.{below}
+use borrow.Author.Needs.{needs}
+use Rattle.roster.specs.Form.{scriptsEnd, scriptLaid}
+use Rattle.roster.proofs.TestLaws.{turn-fails, turn-on}
+use Rattle.roster.proofs.FormLaws.{ends-more, laid-here, scripts-no, scripts-end}
+use Rattle.roster.proofs.forms.scripts_laid.Statement.{statement}
+use Rattle.roster.proofs.forms.scripts_laid.Tie as tie
+
+abbrev Inv-loop : tie.InvT-loop
+Inv-loop s n end₀ t₀ end t = (t ≤ n) × (end ≡ scriptsEnd s t) × (below t (scriptLaid s) ≡ true) × (end ≤ 65535 * t)
+
+abbrev μ-loop : tie.MeasureT-loop
+μ-loop s n end₀ t₀ end t = n - t
+
+task-count-requires : tie.Need-task-count-requires Inv-loop μ-loop
+task-count-requires c κs = search needs
+
+loop-holds : tie.Need-loop-holds Inv-loop μ-loop
+unfolding below scriptsEnd
+loop-holds c = (omega arith, refl, refl, omega arith)
+
+laid-from-requires : tie.Need-laid-from-requires Inv-loop μ-loop
+laid-from-requires c κs = search needs
+
+returns : tie.Need-returns Inv-loop μ-loop
+returns c =
+    let laid = laid-here (c .before .before .before .before .before .before .args .s .now) _ _ _ (c .before .before .before .loop .inv .1) (c .before .laid-from .ensures) in
+    scripts-no (c .before .before .before .before .before .before .args .s .now) (turn-fails (scriptLaid (c .before .before .before .before .before .before .args .s .now)) _ _ _ _ (c .before .before .before .before .task-count .ensures)
+    (c .before .before .loop-test .taken) laid (not-true _ (c .if1 .taken)))
+
+length-at-requires : tie.Need-length-at-requires Inv-loop μ-loop
+length-at-requires c κs = search needs
+
+cast-end : tie.Need-cast-end Inv-loop μ-loop
+cast-end c = search needs
+
+add-end : tie.Need-add-end Inv-loop μ-loop
+add-end c = omega arith
+
+add-t : tie.Need-add-t Inv-loop μ-loop
+add-t c = search needs
+
+loop-less : tie.Need-loop-less Inv-loop μ-loop
+loop-less c = omega arith
+
+loop-again : tie.Need-loop-again Inv-loop μ-loop
+loop-again c =
+    let laid = laid-here (c .before .before .before .before .before .before .before .args .s .now) _ _ _ (c .before .before .before .before .loop .inv .1) (c .before .before .laid-from .ensures) in
+    (omega arith,
+    ends-more (c .before .before .before .before .before .before .before .args .s .now) _ _ _ (c .before .before .before .before .loop .inv .1) (c .length-at .ensures),
+    turn-on (scriptLaid (c .before .before .before .before .before .before .before .args .s .now)) _ _ (c .before .before .before .before .loop .inv .2) laid (not-false _ (c .before .if1 .left)),
+    omega arith)
+
+task-table-requires : tie.Need-task-table-requires Inv-loop μ-loop
+task-table-requires c κs = search needs
+
+cast-table : tie.Need-cast-table Inv-loop μ-loop
+cast-table c = search needs
+
+returns-2 : tie.Need-returns-2 Inv-loop μ-loop
+returns-2 c =
+    scripts-end (c .before .before .before .before .before .args .s .now) _ _ _ _ (c .before .before .before .task-count .ensures) (c .before .before .loop .inv .0) (c .before .loop-test .left)
+    (c .before .before .loop .inv .1) (c .before .before .loop .inv .2) (c .task-table .ensures)
+
+pub scripts-laid-spec : {M : Type 1} → statement M
+scripts-laid-spec =
+    tie.close
+    (tie.spec
+    Inv-loop
+    μ-loop
+    task-count-requires
+    loop-holds
+    laid-from-requires
+    returns
+    length-at-requires
+    cast-end
+    add-end
+    add-t
+    loop-less
+    loop-again
+    task-table-requires
+    cast-table
+    returns-2)

@@ -1,0 +1,66 @@
+-- `roster::forms::step_form` meets its contract.
+use mathlib.Core.Path.{ap, sym, _∙_}
+use Prim.Native.Nat.{ℕ}
+use native.Mathlib.Numerals.{add-one}
+use lib.Dec.{eqb}
+use Rattle.roster.specs.Steps.{aAt, bAt, stepCount}
+use Rattle.roster.proofs.StepLaws.{steps-at}
+use Rattle.roster.proofs.FormLaws.{form-good, form-broken}
+use borrow.Author.Needs.{needs}
+use Rattle.roster.proofs.forms.step_form.Statement.{statement}
+use Rattle.roster.proofs.forms.step_form.Tie as tie
+
+mul-at : tie.Need-mul-at
+mul-at c = search needs
+
+add-byte-at : tie.Need-add-byte-at
+add-byte-at c = search needs
+
+byte-at-requires : tie.Need-byte-at-requires
+byte-at-requires c κs = search needs
+
+add-word-at : tie.Need-add-word-at
+add-word-at c = search needs
+
+word-at-requires : tie.Need-word-at-requires
+word-at-requires c κs = search needs
+
+step-at-requires : tie.Need-step-at-requires
+step-at-requires c κs = search needs
+
+add-last : tie.Need-add-last
+add-last c = search needs
+
+step-good-requires : tie.Need-step-good-requires
+step-good-requires c κs = search needs
+
+returns : tie.Need-returns
+unfolding aAt bAt
+returns c =
+    let k = c .before .before .before .before .before .before .args .k in
+    let x = (c .before .before .step-at .ensures) ∙ steps-at (c .before .before .before .before .before .before .args .part .now) k (c .before .before .before .before .before .before .pre) in
+    form-good _ _ _ (c .before .before .before .before .before .before .args .part .now) k _ _ _ _ _ (c .before .before .before .before .byte-at .ensures) (c .before .before .before .word-at .ensures) x
+    (ap (λ (n : ℕ). eqb n (stepCount (c .before .before .before .before .before .before .args .part .now))) (add-one k)) (c .before .step-good .ensures) (c .if1 .taken)
+
+returns-2 : tie.Need-returns-2
+unfolding aAt bAt
+returns-2 c =
+    let k = c .before .before .before .before .before .before .args .k in
+    let x = (c .before .before .step-at .ensures) ∙ steps-at (c .before .before .before .before .before .before .args .part .now) k (c .before .before .before .before .before .before .pre) in
+    form-broken _ _ _ (c .before .before .before .before .before .before .args .part .now) k _ _ _ _ _ (c .before .before .before .before .byte-at .ensures) (c .before .before .before .word-at .ensures) x
+    (ap (λ (n : ℕ). eqb n (stepCount (c .before .before .before .before .before .before .args .part .now))) (add-one k)) (c .before .step-good .ensures) (c .if1 .left)
+
+pub step-form-spec : {M : Type 1} → statement M
+step-form-spec =
+    tie.close
+    (tie.spec
+    mul-at
+    add-byte-at
+    byte-at-requires
+    add-word-at
+    word-at-requires
+    step-at-requires
+    add-last
+    step-good-requires
+    returns
+    returns-2)

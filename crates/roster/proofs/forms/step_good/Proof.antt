@@ -1,0 +1,37 @@
+-- `roster::forms::step_good` meets its contract.
+use borrow.Author.Tests.{not-true, not-false}
+use Rattle.roster.proofs.FormLaws.{good-unused, good-unlisted, good-rest}
+use borrow.Author.Needs.{needs}
+use Rattle.roster.proofs.forms.step_good.Statement.{statement}
+use Rattle.roster.proofs.forms.step_good.Tie as tie
+
+unused-zero-requires : tie.Need-unused-zero-requires
+unused-zero-requires c κs = search needs
+
+returns : tie.Need-returns
+returns c = good-unused _ _ _ _ _ _ _ (c .before .unused-zero .ensures) (not-true _ (c .if1 .taken))
+
+names-listed-requires : tie.Need-names-listed-requires
+names-listed-requires c κs = search needs
+
+returns-2 : tie.Need-returns-2
+returns-2 c = good-unlisted _ _ _ _ _ _ _ _ (c .before .before .before .unused-zero .ensures) (not-false _ (c .before .before .if1 .left)) (c .before .names-listed .ensures) (not-true _ (c .if2 .taken))
+
+stands-right-requires : tie.Need-stands-right-requires
+stands-right-requires c κs = search needs
+
+returns-3 : tie.Need-returns-3
+returns-3 c =
+    good-rest _ _ _ _ _ _ _ _ _ (c .before .before .before .before .unused-zero .ensures) (not-false _ (c .before .before .before .if1 .left))
+    (c .before .before .names-listed .ensures) (not-false _ (c .before .if2 .left)) (c .stands-right .ensures)
+
+pub step-good-spec : {M : Type 1} → statement M
+step-good-spec =
+    tie.close
+    (tie.spec
+    unused-zero-requires
+    returns
+    names-listed-requires
+    returns-2
+    stands-right-requires
+    returns-3)

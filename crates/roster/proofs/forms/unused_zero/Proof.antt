@@ -1,0 +1,104 @@
+-- `roster::forms::unused_zero` meets its contract.
+use mathlib.Core.Path.{sym, ap, _∙_}
+use Rattle.roster.specs.Form.{unusedZero}
+use borrow.Author.Needs.{needs}
+use Rattle.roster.proofs.forms.unused_zero.Statement.{statement}
+use Rattle.roster.proofs.forms.unused_zero.Tie as tie
+
+enum-told : tie.Need-enum-told
+enum-told c = search needs
+
+enum-told-2 : tie.Need-enum-told-2
+enum-told-2 c = search needs
+
+enum-told-3 : tie.Need-enum-told-3
+enum-told-3 c = search needs
+
+enum-told-4 : tie.Need-enum-told-4
+enum-told-4 c = search needs
+
+both-zero-requires : tie.Need-both-zero-requires
+both-zero-requires c κs = search needs
+
+enum-told-5 : tie.Need-enum-told-5
+enum-told-5 c = search needs
+
+both-zero-requires-2 : tie.Need-both-zero-requires-2
+both-zero-requires-2 c κs = search needs
+
+enum-told-6 : tie.Need-enum-told-6
+enum-told-6 c = search needs
+
+enum-told-7 : tie.Need-enum-told-7
+enum-told-7 c = search needs
+
+enum-told-8 : tie.Need-enum-told-8
+enum-told-8 c = search needs
+
+both-zero-requires-3 : tie.Need-both-zero-requires-3
+both-zero-requires-3 c κs = search needs
+
+enum-told-9 : tie.Need-enum-told-9
+enum-told-9 c = search needs
+
+returns : tie.Need-returns
+unfolding unusedZero
+returns c = sym (ap (unusedZero (c .before .before .args .a) (c .before .before .args .b)) (c .enum-told .given .1))
+
+returns-2 : tie.Need-returns-2
+unfolding unusedZero
+returns-2 c = sym (ap (unusedZero (c .before .before .args .a) (c .before .before .args .b)) (c .enum-told2 .given .1))
+
+returns-3 : tie.Need-returns-3
+unfolding unusedZero
+returns-3 c = sym (ap (unusedZero (c .before .before .args .a) (c .before .before .args .b)) (c .enum-told3 .given .1))
+
+returns-4 : tie.Need-returns-4
+unfolding unusedZero
+returns-4 c = c .both-zero .ensures ∙ sym (ap (unusedZero (c .before .before .before .args .a) (c .before .before .before .args .b)) (c .before .enum-told4 .given .1))
+
+returns-5 : tie.Need-returns-5
+unfolding unusedZero
+returns-5 c = c .both-zero2 .ensures ∙ sym (ap (unusedZero (c .before .before .before .args .a) (c .before .before .before .args .b)) (c .before .enum-told5 .given .1))
+
+returns-6 : tie.Need-returns-6
+unfolding unusedZero
+returns-6 c = sym (ap (unusedZero (c .before .before .args .a) (c .before .before .args .b)) (c .enum-told6 .given .1))
+
+returns-7 : tie.Need-returns-7
+unfolding unusedZero
+returns-7 c = sym (ap (unusedZero (c .before .before .args .a) (c .before .before .args .b)) (c .enum-told7 .given .1))
+
+returns-8 : tie.Need-returns-8
+unfolding unusedZero
+returns-8 c = c .both-zero3 .ensures ∙ sym (ap (unusedZero (c .before .before .before .args .a) (c .before .before .before .args .b)) (c .before .enum-told8 .given .1))
+
+returns-9 : tie.Need-returns-9
+unfolding unusedZero
+returns-9 c = sym (ap (unusedZero (c .before .before .args .a) (c .before .before .args .b)) (c .enum-told9 .given .1))
+
+pub unused-zero-spec : {M : Type 1} → statement M
+unused-zero-spec =
+    tie.close
+    (tie.spec
+    enum-told
+    enum-told-2
+    enum-told-3
+    enum-told-4
+    both-zero-requires
+    enum-told-5
+    both-zero-requires-2
+    enum-told-6
+    enum-told-7
+    enum-told-8
+    both-zero-requires-3
+    enum-told-9
+    returns
+    returns-2
+    returns-3
+    returns-4
+    returns-5
+    returns-6
+    returns-7
+    returns-8
+    returns-9)

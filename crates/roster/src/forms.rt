@@ -1,0 +1,325 @@
+// The form of a roster: answers 11 to 16.
+ghost use mathlib.Core.Path.{_≡_};
+ghost use mathlib.Core.Bool.{true, _&&_};
+ghost use Prim.Native.Nat.{_<_};
+ghost use lib.Dec.{eqb};
+ghost use Rattle.rules.specs.Priorities.{inRange};
+ghost use Rattle.rules.specs.Sound.{below};
+ghost use Rattle.roster.specs.Format.{taskCount, objectCount};
+ghost use Rattle.roster.specs.Form.{lengthGood, markGood, countsKept, tablesGood, laidFrom, scriptsLaid};
+ghost use Rattle.roster.specs.Form.{layoutGood, taskRowGood, objectRowGood, valuesGood};
+ghost use Rattle.roster.specs.Form.{unusedZero, namesListed, standsRight, stepGood, stepForm, stepsForm, scriptsForm, formOf};
+ghost use Rattle.roster.specs.Steps.{stepCount};
+use crate::Limits;
+use crate::Step;
+use crate::Verdict;
+use crate::format;
+use crate::steps;
+use rules::Checked;
+use rules::Priority;
+
+// 11
+fn length_good(s: &[u8]) -> bool
+    ensures { λ r. ⌜ r ≡ lengthGood (now (s .entry)) ⌝ }
+{
+    let n = s.len();
+    if n < Limits::SMALLEST {
+        return false;
+    }
+    n <= Limits::LARGEST
+}
+
+// 12
+fn mark_good(s: &[u8]) -> bool
+    ensures { λ r. ⌜ r ≡ markGood (now (s .entry)) ⌝ }
+{
+    let at = format::trailer_of(s);
+    let first = format::byte_at(s, at);
+    let second = format::byte_at(s, at + 1);
+    if first != Limits::FIRST_MARK {
+        return false;
+    }
+    second == Limits::SECOND_MARK
+}
+
+// 13
+fn counts_good(s: &[u8]) -> bool
+    ensures { λ r. ⌜ r ≡ countsKept (now (s .entry)) ⌝ }
+{
+    let tasks = format::task_count(s) as usize;
+    let objects = format::object_count(s) as usize;
+    if tasks < 1 {
+        return false;
+    }
+    if Limits::TASKS < tasks {
+        return false;
+    }
+    objects <= Limits::OBJECTS
+}
+
+// 14, of the tables: each ends where the next part starts.
+fn tables_good(s: &[u8]) -> bool
+    ensures { λ r. ⌜ r ≡ tablesGood (now (s .entry)) ⌝ }
+{
+    let tasks = format::task_count(s);
+    let objects = format::object_count(s);
+    let tasks_end = format::task_row(s, tasks);
+    let objects_end = format::object_row(s, objects) as usize;
+    let table = format::object_table(s) as u32;
+    if tasks_end != table {
+        return false;
+    }
+    let trailer = format::trailer_of(s);
+    objects_end == trailer
+}
+
+fn laid_from(s: &[u8], start: u32, t: u8) -> bool
+    ensures { λ r. ⌜ r ≡ laidFrom (now (s .entry)) start t ⌝ }
+{
+    let at = format::start_at(s, t) as u32;
+    let size = format::length_at(s, t) as usize;
+    if at != start {
+        return false;
+    }
+    size % Limits::STEP == 0
+}
+
+// 14, of the scripts.
+fn scripts_laid(s: &[u8]) -> bool
+    ensures { λ r. ⌜ r ≡ scriptsLaid (now (s .entry)) ⌝ }
+{
+    let n = format::task_count(s);
+    let mut end: u32 = 0;
+    let mut t: u8 = 0;
+    while t < n {
+        if !laid_from(s, end, t) {
+            return false;
+        }
+        end += format::length_at(s, t) as u32;
+        t += 1;
+    }
+    let table = format::task_table(s) as u32;
+    end == table
+}
+
+fn in_range(value: u8) -> bool
+    ensures { λ r. ⌜ r ≡ inRange value ⌝ }
+{
+    match Priority::checked(value as u64) {
+        Checked::Good(_) => true,
+        Checked::OutOfRange => false,
+    }
+}
+
+fn task_row_good(s: &[u8], t: u8) -> bool
+    ensures { λ r. ⌜ r ≡ taskRowGood (now (s .entry)) t ⌝ }
+{
+    let row = format::task_row(s, t) as usize;
+    let base = format::base_at(s, t);
+    let zero = format::byte_at(s, row + 1);
+    if !in_range(base) {
+        return false;
+    }
+    zero == 0
+}
+
+fn object_row_good(s: &[u8], o: u8) -> bool
+    ensures { λ r. ⌜ r ≡ objectRowGood (now (s .entry)) o ⌝ }
+{
+    let row = format::object_row(s, o) as usize;
+    let ceiling = format::byte_at(s, row);
+    let zero = format::byte_at(s, row + 1);
+    if !in_range(ceiling) {
+        return false;
+    }
+    zero == 0
+}
+
+// 15, of the task table.
+fn task_rows_good(s: &[u8]) -> bool
+    ensures { λ r. ⌜ r ≡ below (taskCount (now (s .entry))) (taskRowGood (now (s .entry))) ⌝ }
+{
+    let n = format::task_count(s);
+    let mut t: u8 = 0;
+    while t < n {
+        if !task_row_good(s, t) {
+            return false;
+        }
+        t += 1;
+    }
+    true
+}
+
+// 15, of the object table.
+fn object_rows_good(s: &[u8]) -> bool
+    ensures { λ r. ⌜ r ≡ below (objectCount (now (s .entry))) (objectRowGood (now (s .entry))) ⌝ }
+{
+    let n = format::object_count(s);
+    let mut o: u8 = 0;
+    while o < n {
+        if !object_row_good(s, o) {
+            return false;
+        }
+        o += 1;
+    }
+    true
+}
+
+fn both_zero(a: u8, b: u16) -> bool
+    ensures { λ r. ⌜ r ≡ (eqb a 0 && eqb b 0) ⌝ }
+{
+    if a != 0 {
+        return false;
+    }
+    b == 0
+}
+
+fn unused_zero(a: u8, b: u16, x: Step) -> bool
+    ensures { λ r. ⌜ r ≡ unusedZero a b x ⌝ }
+{
+    match x {
+        Step::Enter(_) => b == 0,
+        Step::Leave(_) => b == 0,
+        Step::Delay(_) => a == 0,
+        Step::Work => both_zero(a, b),
+        Step::Suspend => both_zero(a, b),
+        Step::Release(_) => b == 0,
+        Step::Set(_, _) => true,
+        Step::Again => both_zero(a, b),
+        Step::Finish => false,
+    }
+}
+
+fn names_listed(tasks: u8, objects: u8, x: Step) -> bool
+    ensures { λ r. ⌜ r ≡ namesListed tasks objects x ⌝ }
+{
+    match x {
+        Step::Enter(o) => o < objects,
+        Step::Leave(o) => o < objects,
+        Step::Delay(_) => true,
+        Step::Work => true,
+        Step::Suspend => true,
+        Step::Release(t) => t < tasks,
+        Step::Set(t, _) => t < tasks,
+        Step::Again => true,
+        Step::Finish => true,
+    }
+}
+
+fn stands_right(last: bool, x: Step) -> bool
+    ensures { λ r. ⌜ r ≡ standsRight last x ⌝ }
+{
+    match x {
+        Step::Enter(_) => true,
+        Step::Leave(_) => true,
+        Step::Delay(_) => true,
+        Step::Work => true,
+        Step::Suspend => true,
+        Step::Release(_) => true,
+        Step::Set(_, _) => true,
+        Step::Again => last,
+        Step::Finish => true,
+    }
+}
+
+fn step_good(tasks: u8, objects: u8, last: bool, a: u8, b: u16, x: Step) -> bool
+    ensures { λ r. ⌜ r ≡ stepGood tasks objects last a b x ⌝ }
+{
+    if !unused_zero(a, b, x) {
+        return false;
+    }
+    if !names_listed(tasks, objects, x) {
+        return false;
+    }
+    stands_right(last, x)
+}
+
+// 16, of the step at position k of task t's script.
+fn step_form(tasks: u8, objects: u8, t: u8, part: &[u8], k: usize) -> Verdict
+    requires { ⌜ k < stepCount (now part) ⌝ }
+    ensures { λ r. ⌜ r ≡ stepForm tasks objects t (now (part .entry)) k ⌝ }
+{
+    let at = Limits::STEP * k;
+    let a = format::byte_at(part, at + 1);
+    let b = format::word_at(part, at + 2);
+    let x = steps::step_at(part, k);
+    let last = k + 1 == part.len() / Limits::STEP;
+    if step_good(tasks, objects, last, a, b, x) {
+        return Verdict::Passed;
+    }
+    Verdict::BadStep(t, k)
+}
+
+fn steps_form(tasks: u8, objects: u8, t: u8, part: &[u8]) -> Verdict
+    ensures { λ r. ⌜ r ≡ stepsForm tasks objects t (now (part .entry)) ⌝ }
+{
+    let n = part.len() / Limits::STEP;
+    let mut k: usize = 0;
+    while k < n {
+        let v = step_form(tasks, objects, t, part, k);
+        if !v.passed() {
+            return v;
+        }
+        k += 1;
+    }
+    Verdict::Passed
+}
+
+fn layout_good(s: &[u8]) -> bool
+    ensures { λ r. ⌜ r ≡ layoutGood (now (s .entry)) ⌝ }
+{
+    if !tables_good(s) {
+        return false;
+    }
+    scripts_laid(s)
+}
+
+fn values_good(s: &[u8]) -> bool
+    ensures { λ r. ⌜ r ≡ valuesGood (now (s .entry)) ⌝ }
+{
+    if !task_rows_good(s) {
+        return false;
+    }
+    object_rows_good(s)
+}
+
+// 16, in task and step order.
+fn scripts_form(s: &[u8]) -> Verdict
+    requires { ⌜ layoutGood (now s) ≡ true ⌝ }
+    ensures { λ r. ⌜ r ≡ scriptsForm (now (s .entry)) ⌝ }
+{
+    let n = format::task_count(s);
+    let m = format::object_count(s);
+    let mut t: u8 = 0;
+    while t < n {
+        let part = format::script_part(s, t);
+        let v = steps_form(n, m, t, part);
+        if !v.passed() {
+            return v;
+        }
+        t += 1;
+    }
+    Verdict::Passed
+}
+
+// The form of a roster: 11 to 16, or Passed.
+pub fn form(s: &[u8]) -> Verdict
+    ensures { λ r. ⌜ r ≡ formOf (now (s .entry)) ⌝ }
+{
+    if !length_good(s) {
+        return Verdict::BadLength;
+    }
+    if !mark_good(s) {
+        return Verdict::BadMark;
+    }
+    if !counts_good(s) {
+        return Verdict::BadCounts;
+    }
+    if !layout_good(s) {
+        return Verdict::BadLayout;
+    }
+    if !values_good(s) {
+        return Verdict::BadValues;
+    }
+    scripts_form(s)
+}
