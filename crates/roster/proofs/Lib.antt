@@ -4,3 +4,5 @@ pub mod TestLaws
 pub mod StepLaws
 pub mod FormatLaws
 pub mod FormLaws
+pub mod HeldLaws
+pub mod StackLaws

@@ -5,3 +5,4 @@ pub mod Steps
 pub mod Roster
 pub mod Form
 pub mod Check
+pub mod Held

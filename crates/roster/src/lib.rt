@@ -6,6 +6,7 @@ use rules::Priority;
 pub mod format;
 pub mod steps;
 mod forms;
+mod held;
 
 pub use forms::form;
 
