@@ -6,3 +6,4 @@ pub mod FormatLaws
 pub mod FormLaws
 pub mod HeldLaws
 pub mod StackLaws
+pub mod CheckLaws

@@ -3,12 +3,13 @@ use mathlib.Core.Path.{_≡_, refl, ap, sym, _∙_}
 use mathlib.Core.List.{List}
 use Prim.Native.Nat.{ℕ, _≤_, _<_}
 use borrow.Author.Tests.{ne-eqb}
+use lib.ListN.{length}
 use Rattle.rules.specs.declared.Priority.{Priority}
 use Rattle.rules.specs.declared.Checked.{Checked}
 use Rattle.rules.specs.declared.Checked.the-variants.{Good, OutOfRange}
 use Rattle.roster.specs.Steps.{setStep, stepOf, stepAt, stepCount, stepsOf, stepIn}
 use Rattle.roster.specs.declared.Step.the-variants.{Set, Finish}
-use Rattle.roster.proofs.ListLaws.{tabulate-at, tabulate-past}
+use Rattle.roster.proofs.ListLaws.{length-tabulate, tabulate-at, tabulate-past}
 
 module _ (n a b : ℕ) where
   -- no code of the list
@@ -35,3 +36,7 @@ set-good a v p e = ap (setStep a) e
 pub set-bad : (a : ℕ) (v : Checked) → v ≡ OutOfRange → setStep a v ≡ Finish
 unfolding setStep
 set-bad a v e = ap (setStep a) e
+
+pub steps-length : (part : List ℕ) → length (stepsOf part) ≡ stepCount part
+unfolding stepsOf
+steps-length part = length-tabulate (stepCount part) (stepAt part)

@@ -54,6 +54,13 @@ pub by-test : {A : Type 0} (b : Bool) → (b ≡ true → A) → (b ≡ false �
 by-test true f g = f refl
 by-test false f g = g refl
 
+-- a choice, by a name for its test
+pub when-true : (b d : Bool) (v w : Verdict) → b ≡ d → b ≡ true → v ≡ cond d v w
+when-true b d v w e f = sym (ap (λ (x : Bool). cond x v w) (sym e ∙ f))
+
+pub when-false : (b d : Bool) (v w : Verdict) → b ≡ d → b ≡ false → w ≡ cond d v w
+when-false b d v w e f = sym (ap (λ (x : Bool). cond x v w) (sym e ∙ f))
+
 -- what the checked constructor finds tells the range
 pub good-in : (n : ℕ) (v : Checked) (p : Priority) → v ≡ checkedOf n → v ≡ Good p → true ≡ inRange n
 good-in n v p e f =

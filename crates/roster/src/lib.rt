@@ -5,6 +5,7 @@ use rules::Priority;
 
 pub mod format;
 pub mod steps;
+mod checks;
 mod forms;
 mod held;
 

@@ -1,0 +1,65 @@
+-- `roster::checks::top_of` meets its contract.
+use native.Mathlib.Omega.{arith}
+use mathlib.Core.Path.{_≡_, refl}
+use Prim.Native.Nat.{_≤_, _-_}
+use lib.ListN.{length}
+use Rattle.rules.specs.Limits.{objectLimit}
+use borrow.Author.Needs.{needs}
+use lib.ListN.{drop}
+use Rattle.roster.specs.Steps.{stepsOf}
+use Rattle.roster.specs.Check.{topOf}
+use Rattle.roster.proofs.StepLaws.{steps-length}
+use Rattle.roster.proofs.CheckLaws.{top-on, top-end}
+use Rattle.roster.proofs.checks.top_of.Statement.{statement}
+use Rattle.roster.proofs.checks.top_of.Tie as tie
+
+abbrev Inv-loop : tie.InvT-loop
+Inv-loop part t base n top₀ k₀ top k = (k ≤ n) × (topOf t base (stepsOf part) ≡ topOf t top (drop k (stepsOf part)))
+
+abbrev μ-loop : tie.MeasureT-loop
+μ-loop part t base n top₀ k₀ top k = n - k
+
+loop-holds : tie.Need-loop-holds Inv-loop μ-loop
+loop-holds c = (omega arith, refl)
+
+step-at-requires : tie.Need-step-at-requires Inv-loop μ-loop
+step-at-requires c κs = search needs
+
+own-set-requires : tie.Need-own-set-requires Inv-loop μ-loop
+own-set-requires c κs = search needs
+
+higher-requires : tie.Need-higher-requires Inv-loop μ-loop
+higher-requires c κs = search needs
+
+add-k : tie.Need-add-k Inv-loop μ-loop
+add-k c = omega arith
+
+loop-less : tie.Need-loop-less Inv-loop μ-loop
+loop-less c = omega arith
+
+loop-again : tie.Need-loop-again Inv-loop μ-loop
+loop-again c =
+    let part = c .before .before .before .before .before .before .args .part .now in
+    (omega arith, top-on _ _ (stepsOf part) _ _ _ _ _ (omega (arith, steps-length part)) (c .before .before .before .before .loop .inv .1)
+    (c .before .before .step-at .ensures) (c .before .own-set .ensures) (c .higher .ensures))
+
+returns : tie.Need-returns Inv-loop μ-loop
+returns c =
+    let part = c .before .before .before .args .part .now in
+    let end : length (stepsOf part) ≤ c .before .loop .k = omega (arith, steps-length part) in
+    top-end _ _ (stepsOf part) _ _ end (c .before .loop .inv .1)
+
+pub top-of-spec : {M : Type 1} → statement M
+top-of-spec =
+    tie.close
+    (tie.spec
+    Inv-loop
+    μ-loop
+    loop-holds
+    step-at-requires
+    own-set-requires
+    higher-requires
+    add-k
+    loop-less
+    loop-again
+    returns)

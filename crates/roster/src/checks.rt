@@ -1,0 +1,151 @@
+// The check of a roster: answers 17 to 20.
+ghost use mathlib.Core.Path.{_≡_};
+ghost use mathlib.Core.Bool.{true, cond};
+ghost use Prim.Native.Nat.{ℕ, _≤_, _<_, max};
+ghost use lib.Dec.{eqb};
+ghost use Rattle.rules.specs.Limits.{objectLimit};
+ghost use Rattle.rules.specs.Model.{highestOf};
+ghost use Rattle.roster.specs.Format.{taskCount, objectCount};
+ghost use Rattle.roster.specs.Steps.{stepsOf, stepIn};
+ghost use Rattle.roster.specs.Roster.{rosterOf};
+ghost use Rattle.roster.specs.Form.{namesListed, formOf};
+ghost use Rattle.roster.specs.Check.{something, isInnermost, ownSet, topOf, faultOf, stepsFault, scriptFault, rosterFault, checkOf};
+ghost use Rattle.roster.specs.Held.{listOf};
+ghost use Rattle.roster.specs.declared.Step.the-variants.{Enter, Set};
+ghost use Rattle.roster.specs.declared.Verdict.the-variants.{Passed, WhileHeld, NotInnermost, OtherTask};
+use crate::Limits;
+use crate::Step;
+use crate::Verdict;
+use crate::format;
+use crate::forms;
+use crate::held::Held;
+use crate::steps;
+use rules::Priority;
+
+fn higher(a: u8, b: u8) -> u8
+    ensures { λ r. ⌜ r ≡ max a b ⌝ }
+{
+    if a < b { b } else { a }
+}
+
+// The highest of a priority and the ceilings of what is held.
+fn highest(roster: &[u8], held: Held, top: u8) -> u8
+    requires { ⌜ held .depth ≤ objectLimit ⌝ }
+    ensures { λ r. ⌜ r ≡ highestOf (rosterOf (now (roster .entry)) .ceilings) top (listOf held) ⌝ }
+{
+    let objects = held.objects;
+    let n = held.depth;
+    let mut p = top;
+    let mut i: usize = 0;
+    while i < n {
+        let ceiling = format::ceiling_of(roster, objects[i]);
+        p = higher(p, ceiling);
+        i += 1;
+    }
+    p
+}
+
+// What task t's step sets its own base to, or 0.
+fn own_set(t: u8, x: Step) -> u8
+    ensures { λ r. ⌜ r ≡ ownSet t x ⌝ }
+{
+    match x {
+        Step::Enter(_) => 0,
+        Step::Leave(_) => 0,
+        Step::Delay(_) => 0,
+        Step::Work => 0,
+        Step::Suspend => 0,
+        Step::Release(_) => 0,
+        Step::Set(u, p) => own_value(t, u, p),
+        Step::Again => 0,
+        Step::Finish => 0,
+    }
+}
+
+fn own_value(t: u8, u: u8, p: Priority) -> u8
+    ensures { λ r. ⌜ r ≡ ownSet t (Set u p) ⌝ }
+{
+    if u == t { p.0 } else { 0 }
+}
+
+// The highest of a base and all own Set values of a script, found once for the whole script.
+fn top_of(part: &[u8], t: u8, base: u8) -> u8
+    ensures { λ r. ⌜ r ≡ topOf t base (stepsOf (now (part .entry))) ⌝ }
+{
+    let n = part.len() / Limits::STEP;
+    let mut top = base;
+    let mut k: usize = 0;
+    while k < n {
+        let x = steps::step_at(part, k);
+        let value = own_set(t, x);
+        top = higher(top, value);
+        k += 1;
+    }
+    top
+}
+
+// 17 of Enter, then 18.
+fn enter_fault(roster: &[u8], held: Held, top: u8, t: u8, k: usize, o: u8) -> Verdict
+    requires { ⌜ held .depth ≤ objectLimit ⌝ }
+    ensures { λ r. ⌜ r ≡ faultOf (rosterOf (now (roster .entry)) .ceilings) top (listOf held) t k (Enter o) ⌝ }
+{
+    if held.has(o) {
+        return Verdict::WhileHeld(t, k);
+    }
+    let ceiling = format::ceiling_of(roster, o);
+    let active = highest(roster, held, top);
+    if ceiling < active {
+        return Verdict::LowCeiling(t, k);
+    }
+    Verdict::Passed
+}
+
+// 19
+fn leave_fault(held: Held, t: u8, k: usize, o: u8) -> Verdict
+    requires { ⌜ held .depth ≤ objectLimit ⌝ }
+    ensures { λ r. ⌜ r ≡ cond (isInnermost (listOf held) o) Passed (NotInnermost t k) ⌝ }
+{
+    if held.innermost(o) {
+        return Verdict::Passed;
+    }
+    Verdict::NotInnermost(t, k)
+}
+
+// 20
+fn set_fault(t: u8, k: usize, u: u8) -> Verdict
+    ensures { λ r. ⌜ r ≡ cond (eqb u t) Passed (OtherTask t k) ⌝ }
+{
+    if u == t {
+        return Verdict::Passed;
+    }
+    Verdict::OtherTask(t, k)
+}
+
+// 17, of the steps that want nothing held.
+fn rest_fault(held: Held, t: u8, k: usize) -> Verdict
+    requires { ⌜ held .depth ≤ objectLimit ⌝ }
+    ensures { λ r. ⌜ r ≡ cond (something (listOf held)) (WhileHeld t k) Passed ⌝ }
+{
+    if held.some() {
+        return Verdict::WhileHeld(t, k);
+    }
+    Verdict::Passed
+}
+
+// 17 to 20, of the step x at position k of task t.
+fn step_fault(roster: &[u8], held: Held, top: u8, t: u8, k: usize, x: Step) -> Verdict
+    requires { ⌜ held .depth ≤ objectLimit ⌝ }
+    ensures { λ r. ⌜ r ≡ faultOf (rosterOf (now (roster .entry)) .ceilings) top (listOf held) t k x ⌝ }
+{
+    match x {
+        Step::Enter(o) => enter_fault(roster, held, top, t, k, o),
+        Step::Leave(o) => leave_fault(held, t, k, o),
+        Step::Delay(_) => rest_fault(held, t, k),
+        Step::Work => Verdict::Passed,
+        Step::Suspend => rest_fault(held, t, k),
+        Step::Release(_) => Verdict::Passed,
+        Step::Set(u, _) => set_fault(t, k, u),
+        Step::Again => rest_fault(held, t, k),
+        Step::Finish => rest_fault(held, t, k),
+    }
+}
