@@ -7,3 +7,4 @@ pub mod FormLaws
 pub mod HeldLaws
 pub mod StackLaws
 pub mod CheckLaws
+pub mod WalkLaws

@@ -117,6 +117,16 @@ module _ (f : ℕ → Verdict) where
   unfolding first
   first-new n e = ap (λ (v : Verdict). cond (passed v) (f n) v) e
 
+  -- the last and all before it
+  pub first-below : (n : ℕ) → first (suc n) f ≡ Passed → (first n f ≡ Passed) × (f n ≡ Passed)
+  unfolding first
+  first-below n e =
+    by-test (passed (first n f))
+    (λ g. (passed-is (first n f) g, sym (ap (λ (b : Bool). cond b (f n) (first n f)) g) ∙ e))
+    (λ g.
+      let k : first n f ≡ Passed = sym (ap (λ (b : Bool). cond b (f n) (first n f)) g) ∙ e in
+      absurd (truth (sym (ap passed k) ∙ g)))
+
   -- a fault stays the first
   pub first-stays : (i n : ℕ) → i ≤ n → passed (first i f) ≡ false → first n f ≡ first i f
   unfolding first

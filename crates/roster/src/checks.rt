@@ -149,3 +149,24 @@ fn step_fault(roster: &[u8], held: Held, top: u8, t: u8, k: usize, x: Step) -> V
         Step::Finish => rest_fault(held, t, k),
     }
 }
+
+// 17 to 20, of one script: the first fault, the script's end counting as a step.
+fn steps_fault(roster: &[u8], part: &[u8], top: u8, t: u8) -> Verdict
+    requires { ⌜ objectCount (now roster) ≤ objectLimit ⌝ }
+    requires { ⌜ ((k : ℕ) → namesListed (taskCount (now roster)) (objectCount (now roster)) (stepIn (stepsOf (now part)) k) ≡ true) ⌝ }
+    ensures { λ r. ⌜ r ≡ stepsFault (rosterOf (now (roster .entry)) .ceilings) top t (stepsOf (now (part .entry))) ⌝ }
+{
+    let n = part.len() / Limits::STEP;
+    let mut held = Held::none();
+    let mut k: usize = 0;
+    while k < n {
+        let x = steps::step_at(part, k);
+        let v = step_fault(roster, held, top, t, k, x);
+        if !v.passed() {
+            return v;
+        }
+        held = held.after(x);
+        k += 1;
+    }
+    step_fault(roster, held, top, t, n, Step::Finish)
+}
