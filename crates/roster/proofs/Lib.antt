@@ -8,3 +8,5 @@ pub mod HeldLaws
 pub mod StackLaws
 pub mod CheckLaws
 pub mod WalkLaws
+pub mod FormedLaws
+pub mod AnswerLaws

@@ -107,6 +107,11 @@ passed-is (LowCeiling t k) e = absurd (truth (sym e))
 passed-is (NotInnermost t k) e = absurd (truth (sym e))
 passed-is (OtherTask t k) e = absurd (truth (sym e))
 
+-- a choice that passes took its second way, its first being a fault
+pub past : (b : Bool) (v w : Verdict) → passed v ≡ false → cond b v w ≡ Passed → (b ≡ false) × (w ≡ Passed)
+past true v w f e = absurd (truth (sym (ap passed e) ∙ f))
+past false v w f e = (refl, e)
+
 module _ (f : ℕ → Verdict) where
   -- one more that passes, and one that does not
   pub first-more : (n : ℕ) → first n f ≡ Passed → f n ≡ Passed → first (suc n) f ≡ Passed
@@ -126,6 +131,14 @@ module _ (f : ℕ → Verdict) where
     (λ g.
       let k : first n f ≡ Passed = sym (ap (λ (b : Bool). cond b (f n) (first n f)) g) ∙ e in
       absurd (truth (sym (ap passed k) ∙ g)))
+
+  pub first-at : (n : ℕ) → first n f ≡ Passed → (i : ℕ) → i < n → f i ≡ Passed
+  first-at zero e i h = absurd (not-suc-le-zero h)
+  first-at (suc n) e i h =
+    let b = first-below n e in
+    by-test (eqb i n)
+    (λ g. ap f (eqb-true i n g) ∙ b .1)
+    (λ g. first-at n (b .0) i (let d : i ≡ n → ⊥ = eqb-false i n g in omega arith))
 
   -- a fault stays the first
   pub first-stays : (i n : ℕ) → i ≤ n → passed (first i f) ≡ false → first n f ≡ first i f

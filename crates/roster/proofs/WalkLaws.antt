@@ -22,7 +22,7 @@ use Rattle.roster.specs.declared.Step.{Step}
 use Rattle.roster.specs.declared.Step.the-variants.{Enter, Leave, Delay, Work, Suspend, Release, Set, Again, Finish}
 use Rattle.roster.specs.declared.Verdict.{Verdict}
 use Rattle.roster.specs.declared.Verdict.the-variants.{Passed, WhileHeld, LowCeiling, NotInnermost, OtherTask}
-use Rattle.roster.proofs.TestLaws.{truth, by-test, passed-is, first-new, first-more, first-found, first-below}
+use Rattle.roster.proofs.TestLaws.{past, first-new, first-below}
 use Rattle.roster.proofs.HeldLaws.{split, times-same, times-other, times-append, times-take, pigeonhole}
 
 -- a step without a fault breaks none of the rules
@@ -31,11 +31,6 @@ pub record Clean (cs : List ℕ) (top : ℕ) (held : List ℕ) (t : ℕ) (x : St
   pub high : lowCeiling cs top held x ≡ false
   pub inner : notInnermost held x ≡ false
   pub own : otherTask t x ≡ false
-
--- a choice that passes took its second way, its first being a fault
-past : (b : Bool) (v w : Verdict) → passed v ≡ false → cond b v w ≡ Passed → (b ≡ false) × (w ≡ Passed)
-past true v w f e = absurd (truth (sym (ap passed e) ∙ f))
-past false v w f e = (refl, e)
 
 module _ (cs : List ℕ) (top : ℕ) (held : List ℕ) (t k : ℕ) (x : Step) where
   pub clean : faultOf cs top held t k x ≡ Passed → Clean cs top held t x

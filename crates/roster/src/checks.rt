@@ -170,3 +170,42 @@ fn steps_fault(roster: &[u8], part: &[u8], top: u8, t: u8) -> Verdict
     }
     step_fault(roster, held, top, t, n, Step::Finish)
 }
+
+fn script_fault(roster: &[u8], t: u8) -> Verdict
+    requires { ⌜ formOf (now roster) ≡ Passed ⌝ }
+    requires { ⌜ t < taskCount (now roster) ⌝ }
+    ensures { λ r. ⌜ r ≡ scriptFault (rosterOf (now (roster .entry))) t ⌝ }
+{
+    let part = format::script_part(roster, t);
+    let base = format::base_at(roster, t);
+    let top = top_of(part, t, base);
+    steps_fault(roster, part, top, t)
+}
+
+// 17 to 20, in task and step order.
+fn roster_fault(roster: &[u8]) -> Verdict
+    requires { ⌜ formOf (now roster) ≡ Passed ⌝ }
+    ensures { λ r. ⌜ r ≡ rosterFault (rosterOf (now (roster .entry))) ⌝ }
+{
+    let n = format::task_count(roster);
+    let mut t: u8 = 0;
+    while t < n {
+        let v = script_fault(roster, t);
+        if !v.passed() {
+            return v;
+        }
+        t += 1;
+    }
+    Verdict::Passed
+}
+
+// The check of a roster: 11 to 20, or Passed.
+pub fn check(roster: &[u8]) -> Verdict
+    ensures { λ r. ⌜ r ≡ checkOf (now (roster .entry)) ⌝ }
+{
+    let v = forms::form(roster);
+    if !v.passed() {
+        return v;
+    }
+    roster_fault(roster)
+}

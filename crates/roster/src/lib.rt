@@ -8,8 +8,12 @@ pub mod steps;
 mod checks;
 mod forms;
 mod held;
+mod scripts;
 
+pub use checks::check;
 pub use forms::form;
+pub use scripts::script;
+pub use scripts::script_answer;
 
 // The sizes of a roster, all of this kind.
 pub struct Limits {

@@ -1,0 +1,74 @@
+-- `roster::checks::roster_fault` meets its contract.
+use native.Mathlib.Omega.{arith}
+use borrow.Author.Tests.{not-true, not-false}
+use mathlib.Core.Path.{_≡_, refl, sym, _∙_}
+use Prim.Native.Nat.{_≤_, _<_, _-_}
+use borrow.Author.Needs.{needs}
+use Rattle.roster.specs.Answers.{first}
+use Rattle.roster.specs.Format.{taskCount}
+use Rattle.roster.specs.Roster.{rosterOf}
+use Rattle.roster.specs.Check.{scriptFault, rosterFault}
+use Rattle.roster.specs.declared.Verdict.the-variants.{Passed}
+use Rattle.roster.proofs.TestLaws.{turn-finds, turn-passes, turns-pass}
+use Rattle.roster.proofs.FormatLaws.{script-count}
+use Rattle.roster.proofs.checks.roster_fault.Statement.{statement}
+use Rattle.roster.proofs.checks.roster_fault.Tie as tie
+
+abbrev Inv-loop : tie.InvT-loop
+Inv-loop roster n t₀ t = (t ≤ n) × (first t (scriptFault (rosterOf roster)) ≡ Passed)
+
+abbrev μ-loop : tie.MeasureT-loop
+μ-loop roster n t₀ t = n - t
+
+task-count-requires : tie.Need-task-count-requires Inv-loop μ-loop
+task-count-requires c κs = search needs
+
+loop-holds : tie.Need-loop-holds Inv-loop μ-loop
+unfolding first
+loop-holds c = (omega arith, refl)
+
+script-fault-requires : tie.Need-script-fault-requires Inv-loop μ-loop
+script-fault-requires c κs =
+    let low : c .before .loop .t < taskCount (c .before .before .before .before .args .roster .now) = omega arith in
+    (c .before .before .before .before .pre, low)
+
+passed-requires : tie.Need-passed-requires Inv-loop μ-loop
+passed-requires c κs = search needs
+
+returns : tie.Need-returns Inv-loop μ-loop
+unfolding rosterFault
+returns c =
+    turn-finds (scriptFault (rosterOf (c .before .before .before .before .before .before .before .args .roster .now))) _ _ _ _ _ (c .before .before .before .before .before .task-count .ensures ∙ sym (script-count (c .before .before .before .before .before .before .before .args .roster .now))) (c .before .before .before .loop-test .taken)
+    (c .before .before .before .before .loop .inv .1) (c .before .before .script-fault .ensures) (c .before .passed .ensures) (not-true _ (c .if1 .taken))
+
+add-t : tie.Need-add-t Inv-loop μ-loop
+add-t c = search needs
+
+loop-less : tie.Need-loop-less Inv-loop μ-loop
+loop-less c = omega arith
+
+loop-again : tie.Need-loop-again Inv-loop μ-loop
+loop-again c =
+    (omega arith, turn-passes (scriptFault (rosterOf (c .before .before .before .before .before .before .before .args .roster .now))) _ _ _ (c .before .before .before .before .loop .inv .1) (c .before .before .script-fault .ensures) (c .before .passed .ensures) (not-false _ (c .if1 .left)))
+
+returns-2 : tie.Need-returns-2 Inv-loop μ-loop
+unfolding rosterFault
+returns-2 c =
+    turns-pass (scriptFault (rosterOf (c .before .before .before .before .args .roster .now))) _ _ _ (c .before .before .task-count .ensures ∙ sym (script-count (c .before .before .before .before .args .roster .now))) (c .before .loop .inv .0)
+    (c .loop-test .left) (c .before .loop .inv .1)
+
+pub roster-fault-spec : {M : Type 1} → statement M
+roster-fault-spec =
+    tie.close
+    (tie.spec
+    Inv-loop
+    μ-loop
+    task-count-requires
+    loop-holds
+    script-fault-requires
+    passed-requires
+    returns
+    add-t
+    loop-less
+    loop-again
+    returns-2)
