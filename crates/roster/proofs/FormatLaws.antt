@@ -23,6 +23,10 @@ module _ (s : List ℕ) where
   unfolding rosterOf
   base-listed t h = tabulate-at (taskCount s) (baseAt s) t 0 h
 
+  pub base-unlisted : (t : ℕ) → taskCount s ≤ t → baseOf (rosterOf s) t ≡ 0
+  unfolding rosterOf
+  base-unlisted t h = tabulate-past (taskCount s) (baseAt s) t 0 h
+
   pub script-listed : (t : ℕ) → t < taskCount s → scriptOf (rosterOf s) t ≡ stepsOf (partAt s t)
   unfolding rosterOf
   script-listed t h = tabulate-at (taskCount s) (λ u. stepsOf (partAt s u)) t [] h

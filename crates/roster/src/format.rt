@@ -1,11 +1,11 @@
-// Reads the parts of a roster. Internal: pub for this project's own crates; what has a `requires` wants a roster that passed form.
+// Reads the parts of a roster. Internal: pub for this project's own crates.
 ghost use mathlib.Core.Path.{_≡_};
 ghost use Prim.Native.Nat.{_+_, _≤_};
 ghost use lib.ListN.{length};
 ghost use Rattle.rules.specs.Model.{ceilingOf};
 ghost use Rattle.roster.specs.Format.{byteAt, wordAt, trailer, taskCount, objectCount, taskTable, objectTable};
 ghost use Rattle.roster.specs.Format.{taskRow, objectRow, baseAt, startAt, lengthAt, ceilingAt, partAt};
-ghost use Rattle.roster.specs.Roster.{rosterOf};
+ghost use Rattle.roster.specs.Roster.{rosterOf, baseOf};
 use crate::Limits;
 
 // The byte at i, or 0 past the end.
@@ -102,6 +102,17 @@ pub fn length_at(s: &[u8], t: u8) -> u16
 {
     let row = task_row(s, t) as usize;
     word_at(s, row + 4)
+}
+
+// The base of a task; of one that is not listed, 0.
+pub fn base_of(s: &[u8], t: u8) -> u8
+    ensures { λ r. ⌜ r ≡ baseOf (rosterOf (now (s .entry))) t ⌝ }
+{
+    let n = task_count(s);
+    if t < n {
+        return base_at(s, t);
+    }
+    0
 }
 
 // The ceiling of an object; of one that is not listed, 0.

@@ -1,6 +1,6 @@
-// The roster file: its kinds. Reading, form and check stand in the modules.
+// The roster file: its kinds, its form, its check and the lookup of scripts. The modules format and steps are internal.
 ghost use mathlib.Core.Path.{_≡_};
-ghost use Rattle.roster.specs.Answers.{numberOf, passed};
+ghost use Rattle.roster.specs.Answers.{numberOf, taskOf, positionOf, passed};
 use rules::Priority;
 
 pub mod format;
@@ -16,9 +16,7 @@ pub use scripts::script;
 pub use scripts::script_answer;
 
 // The sizes of a roster, all of this kind.
-pub struct Limits {
-    pub largest: usize,
-}
+pub struct Limits;
 
 impl Limits {
     pub const SMALLEST: usize = 14;
@@ -94,6 +92,46 @@ impl Verdict {
             Verdict::LowCeiling(_, _) => 18,
             Verdict::NotInnermost(_, _) => 19,
             Verdict::OtherTask(_, _) => 20,
+        }
+    }
+
+    // The task of the fault.
+    pub fn task(self) -> u8
+        ensures { λ r. ⌜ r ≡ taskOf self ⌝ }
+    {
+        match self {
+            Verdict::Passed => 0,
+            Verdict::NoSuchTask => 0,
+            Verdict::BadLength => 0,
+            Verdict::BadMark => 0,
+            Verdict::BadCounts => 0,
+            Verdict::BadLayout => 0,
+            Verdict::BadValues => 0,
+            Verdict::BadStep(t, _) => t,
+            Verdict::WhileHeld(t, _) => t,
+            Verdict::LowCeiling(t, _) => t,
+            Verdict::NotInnermost(t, _) => t,
+            Verdict::OtherTask(t, _) => t,
+        }
+    }
+
+    // The step of the fault, by its position in the script.
+    pub fn position(self) -> usize
+        ensures { λ r. ⌜ r ≡ positionOf self ⌝ }
+    {
+        match self {
+            Verdict::Passed => 0,
+            Verdict::NoSuchTask => 0,
+            Verdict::BadLength => 0,
+            Verdict::BadMark => 0,
+            Verdict::BadCounts => 0,
+            Verdict::BadLayout => 0,
+            Verdict::BadValues => 0,
+            Verdict::BadStep(_, k) => k,
+            Verdict::WhileHeld(_, k) => k,
+            Verdict::LowCeiling(_, k) => k,
+            Verdict::NotInnermost(_, k) => k,
+            Verdict::OtherTask(_, k) => k,
         }
     }
 }

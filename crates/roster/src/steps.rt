@@ -1,7 +1,11 @@
-// The steps of a script, from its bytes.
+// The steps of a script, from its bytes. Internal: pub for this project's own crates.
 ghost use mathlib.Core.Path.{_≡_};
 ghost use Rattle.roster.specs.Steps.{setStep, stepOf, stepsOf, stepIn};
+ghost use Prim.Native.Nat.{_+_, _≤_, _<_};
+ghost use lib.ListN.{length};
 ghost use Rattle.rules.specs.Priorities.{checkedOf};
+ghost use Rattle.roster.specs.Format.{taskCount, startAt, lengthAt};
+ghost use Rattle.roster.specs.Roster.{rosterOf, scriptOf};
 use crate::Limits;
 use crate::Step;
 use crate::format;
@@ -65,4 +69,14 @@ pub fn step_at(part: &[u8], k: usize) -> Step
         return step_of(code, a, b);
     }
     Step::Finish
+}
+
+// The step at position k of task t's script.
+pub fn step_in(roster: &[u8], t: u8, k: usize) -> Step
+    requires { ⌜ t < taskCount (now roster) ⌝ }
+    requires { ⌜ startAt (now roster) t + lengthAt (now roster) t ≤ length (now roster) ⌝ }
+    ensures { λ r. ⌜ r ≡ stepIn (scriptOf (rosterOf (now (roster .entry))) t) k ⌝ }
+{
+    let part = format::script_part(roster, t);
+    step_at(part, k)
 }
