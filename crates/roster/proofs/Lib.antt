@@ -10,3 +10,4 @@ pub mod CheckLaws
 pub mod WalkLaws
 pub mod FormedLaws
 pub mod AnswerLaws
+pub mod KeptLaws

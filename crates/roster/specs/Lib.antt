@@ -6,3 +6,4 @@ pub mod Roster
 pub mod Form
 pub mod Check
 pub mod Held
+pub mod Kept
