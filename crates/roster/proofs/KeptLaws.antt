@@ -221,17 +221,17 @@ module _ (r : Roster) (t k : ℕ) where
   of-own u = of-own-at u (stepFor r t k) refl
 
   -- all of them
-  pub faultAt : Verdict
+  abbrev pub faultAt : Verdict
   faultAt = faultIn (r .ceilings) (topAt r t) t (scriptOf r t) k
 
   pub keeps-of : faultAt ≡ Passed → Keeps r t k
-  unfolding faultAt faultIn
+  unfolding faultIn
   keeps-of e =
     let c = clean (r .ceilings) (topAt r t) (heldAt r t k) t k (stepFor r t k) e in
     record { unheld = unheld-of (c .free); covered = covered-of (c .high); innermost = innermost-of (c .inner); own = own-of (c .own) }
 
   pub of-keeps : Keeps r t k → faultAt ≡ Passed
-  unfolding faultAt faultIn
+  unfolding faultIn
   of-keeps u =
     faultless (r .ceilings) (topAt r t) (heldAt r t k) t k (stepFor r t k) (record {
       free = of-unheld (u .unheld); high = of-covered (u .covered); inner = of-innermost (u .innermost); own = of-own (u .own) })

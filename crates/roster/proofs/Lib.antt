@@ -11,3 +11,4 @@ pub mod WalkLaws
 pub mod FormedLaws
 pub mod AnswerLaws
 pub mod KeptLaws
+pub mod Exactly

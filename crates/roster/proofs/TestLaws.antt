@@ -140,6 +140,23 @@ module _ (f : ℕ → Verdict) where
     (λ g. ap f (eqb-true i n g) ∙ b .1)
     (λ g. first-at n (b .0) i (let d : i ≡ n → ⊥ = eqb-false i n g in omega arith))
 
+  pub first-all : (n : ℕ) → ((i : ℕ) → i < n → f i ≡ Passed) → first n f ≡ Passed
+  unfolding first
+  first-all zero h = refl
+  first-all (suc n) h = first-more n (first-all n (λ i g. h i (omega arith))) (h n (omega arith))
+
+  -- a fault that is named stands somewhere, and nothing before it is one
+  pub first-names : (n : ℕ) → passed (first n f) ≡ false → (i : ℕ) × (i < n) × (f i ≡ first n f) × (first i f ≡ Passed)
+  unfolding first
+  first-names zero e = absurd (truth e)
+  first-names (suc n) e =
+    by-test (passed (first n f))
+    (λ g. (n, omega arith, sym (first-new n (passed-is (first n f) g)), passed-is (first n f) g))
+    (λ g.
+      let w = first-names n g in
+      let k : first (suc n) f ≡ first n f = ap (λ (b : Bool). cond b (f n) (first n f)) g in
+      (w .0, (let h = w .1 in omega arith), w .2 ∙ sym k, w .3))
+
   -- a fault stays the first
   pub first-stays : (i n : ℕ) → i ≤ n → passed (first i f) ≡ false → first n f ≡ first i f
   unfolding first

@@ -12,6 +12,9 @@ use Rattle.roster.specs.Roster.{Roster, baseOf, scriptOf}
 use Rattle.roster.specs.Check.{heldBefore}
 use Rattle.roster.specs.declared.Step.{Step}
 use Rattle.roster.specs.declared.Step.the-variants.{Enter, Leave, Delay, Suspend, Set, Again, Finish}
+use Rattle.roster.specs.declared.Verdict.{Verdict}
+use Rattle.roster.specs.declared.Verdict.the-variants.{Passed, NoSuchTask, BadLength, BadMark, BadCounts, BadLayout, BadValues}
+use Rattle.roster.specs.declared.Verdict.the-variants.{BadStep, WhileHeld, LowCeiling, NotInnermost, OtherTask}
 
 -- the step at position k of task t, and what is held before it
 abbrev pub stepFor : Roster → ℕ → ℕ → Step
@@ -62,3 +65,18 @@ pub record NoneBefore (r : Roster) (t k : ℕ) : Type 0 where
   pub here : Location r t k
   pub tasks : (u j : ℕ) → u < t → Location r u j → Keeps r u j
   pub steps : (j : ℕ) → j < k → Keeps r t j
+
+-- what each verdict of the check says of a roster; "in one step the lowest wins". The verdicts of the form are none of the check's
+abbrev pub Says : Roster → Verdict → Type 0
+Says r Passed = AllKeep r
+Says r (WhileHeld t k) = NoneBefore r t k × (Unheld r t k → ⊥)
+Says r (LowCeiling t k) = NoneBefore r t k × Unheld r t k × (Covered r t k → ⊥)
+Says r (NotInnermost t k) = NoneBefore r t k × Unheld r t k × Covered r t k × (Innermost r t k → ⊥)
+Says r (OtherTask t k) = NoneBefore r t k × Unheld r t k × Covered r t k × Innermost r t k × (OwnSets r t k → ⊥)
+Says r NoSuchTask = ⊥
+Says r BadLength = ⊥
+Says r BadMark = ⊥
+Says r BadCounts = ⊥
+Says r BadLayout = ⊥
+Says r BadValues = ⊥
+Says r (BadStep t k) = ⊥
