@@ -12,3 +12,5 @@ pub mod FormedLaws
 pub mod AnswerLaws
 pub mod KeptLaws
 pub mod Exactly
+pub mod PassedLaws
+pub mod ScriptLaws

@@ -1,4 +1,5 @@
 -- The check of a roster: answers 17 to 20, each rule a definition that says where it is broken.
+use mathlib.Core.Path.{_≡_}
 use mathlib.Core.Bool.{Bool, true, false, cond, not, _&&_}
 use mathlib.Core.List.{List, [], _∷_, _++_}
 use Prim.Native.Nat.{ℕ, zero, suc, _-_, max}
@@ -138,3 +139,7 @@ rosterFault r = first (length (r .scripts)) (scriptFault r)
 -- "16, and then 17 to 20"
 unfoldable pub checkOf : List ℕ → Verdict
 checkOf s = cond (passed (formOf s)) (rosterFault (rosterOf s)) (formOf s)
+
+-- a roster that passes
+abbrev pub Passes : List ℕ → Type 0
+Passes s = checkOf s ≡ Passed
