@@ -21,14 +21,14 @@ use Rattle.roster.proofs.FormatLaws.{base-listed, script-listed}
 
 module _ (s : List ℕ) where
   pub script-fault : (t : ℕ) (part : List ℕ) (base top : ℕ) (v : Verdict) → t < taskCount s → part ≡ partAt s t → base ≡ baseAt s t →
-    top ≡ topOf t base (stepsOf part) → v ≡ stepsFault (rosterOf s .ceilings) top t (stepsOf part) → v ≡ scriptFault (rosterOf s) t
+      top ≡ topOf t base (stepsOf part) → v ≡ stepsFault (rosterOf s .ceilings) top t (stepsOf part) → v ≡ scriptFault (rosterOf s) t
   unfolding scriptFault topAt
   script-fault t part base top v h e f g i =
-    let steps : stepsOf part ≡ scriptOf (rosterOf s) t = ap stepsOf e ∙ sym (script-listed s t h) in
-    let own : top ≡ topOf t (baseOf (rosterOf s) t) (scriptOf (rosterOf s) t) =
+      let steps : stepsOf part ≡ scriptOf (rosterOf s) t = ap stepsOf e ∙ sym (script-listed s t h) in
+      let own : top ≡ topOf t (baseOf (rosterOf s) t) (scriptOf (rosterOf s) t) =
       g ∙ (ap (λ (b : ℕ). topOf t b (stepsOf part)) (f ∙ sym (base-listed s t h)) ∙ ap (topOf t (baseOf (rosterOf s) t)) steps) in
-    i ∙ (ap (λ (p : ℕ). stepsFault (rosterOf s .ceilings) p t (stepsOf part)) own ∙
-    ap (stepsFault (rosterOf s .ceilings) (topOf t (baseOf (rosterOf s) t) (scriptOf (rosterOf s) t)) t) steps)
+      i ∙ (ap (λ (p : ℕ). stepsFault (rosterOf s .ceilings) p t (stepsOf part)) own ∙
+      ap (stepsFault (rosterOf s .ceilings) (topOf t (baseOf (rosterOf s) t) (scriptOf (rosterOf s) t)) t) steps)
 
   -- the form's answer, as it was read
   module _ (v : Verdict) (b : Bool) (e : v ≡ formOf s) (f : b ≡ passed v) where
@@ -38,12 +38,12 @@ module _ (s : List ℕ) where
     pub check-form : b ≡ false → v ≡ checkOf s
     unfolding checkOf
     check-form g =
-      e ∙ sym (ap (λ (x : Bool). cond x (rosterFault (rosterOf s)) (formOf s)) (ap passed (sym e) ∙ (sym f ∙ g)))
+        e ∙ sym (ap (λ (x : Bool). cond x (rosterFault (rosterOf s)) (formOf s)) (ap passed (sym e) ∙ (sym f ∙ g)))
 
     pub answer-form : (t : ℕ) → b ≡ false → v ≡ scriptAnswer s t
     unfolding scriptAnswer
     answer-form t g =
-      e ∙ sym (ap (λ (x : Bool). cond x (cond (ltb t (taskCount s)) Passed NoSuchTask) (formOf s)) (ap passed (sym e) ∙ (sym f ∙ g)))
+        e ∙ sym (ap (λ (x : Bool). cond x (cond (ltb t (taskCount s)) Passed NoSuchTask) (formOf s)) (ap passed (sym e) ∙ (sym f ∙ g)))
 
   pub check-rules : (w : Verdict) → formOf s ≡ Passed → w ≡ rosterFault (rosterOf s) → w ≡ checkOf s
   unfolding checkOf
@@ -55,23 +55,23 @@ module _ (s : List ℕ) where
 
   pub answer-task : (t n : ℕ) → formOf s ≡ Passed → n ≡ taskCount s → t < n → Passed ≡ scriptAnswer s t
   answer-task t n e f h =
-    sym (answer-then t e ∙ ap (λ (x : Bool). cond x Passed NoSuchTask) (lt-ltb t (taskCount s) (omega arith)))
+      sym (answer-then t e ∙ ap (λ (x : Bool). cond x Passed NoSuchTask) (lt-ltb t (taskCount s) (omega arith)))
 
   pub answer-none : (t n : ℕ) → formOf s ≡ Passed → n ≡ taskCount s → n ≤ t → NoSuchTask ≡ scriptAnswer s t
   answer-none t n e f h =
-    sym (answer-then t e ∙ ap (λ (x : Bool). cond x Passed NoSuchTask) (le-ltb t (taskCount s) (omega arith)))
+      sym (answer-then t e ∙ ap (λ (x : Bool). cond x Passed NoSuchTask) (le-ltb t (taskCount s) (omega arith)))
 
   -- a script that is answered for is that of a task, of a roster that has its form
   pub answered-form : (t : ℕ) → passed (scriptAnswer s t) ≡ true → formOf s ≡ Passed
   unfolding scriptAnswer
   answered-form t e =
-    by-test (passed (formOf s)) (λ g. passed-is (formOf s) g) (λ g.
-    absurd (truth (sym e ∙ (ap (λ (x : Bool). passed (cond x (cond (ltb t (taskCount s)) Passed NoSuchTask) (formOf s))) g ∙ g))))
+      by-test (passed (formOf s)) (λ g. passed-is (formOf s) g) (λ g.
+      absurd (truth (sym e ∙ (ap (λ (x : Bool). passed (cond x (cond (ltb t (taskCount s)) Passed NoSuchTask) (formOf s))) g ∙ g))))
 
   pub answered-task : (t : ℕ) → passed (scriptAnswer s t) ≡ true → t < taskCount s
   answered-task t e =
-    by-test (ltb t (taskCount s)) (λ g. ltb-true t (taskCount s) g) (λ g.
-    absurd (truth (sym e ∙ ap passed (answer-then t (answered-form t e) ∙ ap (λ (x : Bool). cond x Passed NoSuchTask) g))))
+      by-test (ltb t (taskCount s)) (λ g. ltb-true t (taskCount s) g) (λ g.
+      absurd (truth (sym e ∙ ap passed (answer-then t (answered-form t e) ∙ ap (λ (x : Bool). cond x Passed NoSuchTask) g))))
 
   module _ (t : ℕ) (v : Verdict) (b : Bool) (e : v ≡ scriptAnswer s t) (f : b ≡ passed v) where
     pub answered : b ≡ true → passed (scriptAnswer s t) ≡ true

@@ -27,9 +27,9 @@ pub data Way (cs : List ℕ) (top : ℕ) (held : List ℕ) (t k : ℕ) (x : Step
   at17 : v ≡ WhileHeld t k → whileHeld held x ≡ true → Way cs top held t k x v
   at18 : v ≡ LowCeiling t k → whileHeld held x ≡ false → lowCeiling cs top held x ≡ true → Way cs top held t k x v
   at19 : v ≡ NotInnermost t k → whileHeld held x ≡ false → lowCeiling cs top held x ≡ false → notInnermost held x ≡ true →
-    Way cs top held t k x v
+      Way cs top held t k x v
   at20 : v ≡ OtherTask t k → whileHeld held x ≡ false → lowCeiling cs top held x ≡ false → notInnermost held x ≡ false →
-    otherTask t x ≡ true → Way cs top held t k x v
+      otherTask t x ≡ true → Way cs top held t k x v
 
 pub way : (cs : List ℕ) (top : ℕ) (held : List ℕ) (t k : ℕ) (x : Step) → Way cs top held t k x (faultOf cs top held t k x)
 unfolding faultOf
@@ -43,13 +43,13 @@ module _ (r : Roster) where
   script-pass : (t : ℕ) → scriptFault r t ≡ Passed → (k : ℕ) → k ≤ length (scriptOf r t) → Keeps r t k
   unfolding scriptFault stepsFault
   script-pass t e k h =
-    keeps-of r t k (first-at (faultIn (r .ceilings) (topAt r t) t (scriptOf r t)) (suc (length (scriptOf r t))) e k (omega arith))
+      keeps-of r t k (first-at (faultIn (r .ceilings) (topAt r t) t (scriptOf r t)) (suc (length (scriptOf r t))) e k (omega arith))
 
   pass-script : (t : ℕ) → ((k : ℕ) → k ≤ length (scriptOf r t) → Keeps r t k) → scriptFault r t ≡ Passed
   unfolding scriptFault stepsFault
   pass-script t h =
-    first-all (faultIn (r .ceilings) (topAt r t) t (scriptOf r t)) (suc (length (scriptOf r t)))
-    (λ k g. of-keeps r t k (h k (omega arith)))
+      first-all (faultIn (r .ceilings) (topAt r t) t (scriptOf r t)) (suc (length (scriptOf r t)))
+      (λ k g. of-keeps r t k (h k (omega arith)))
 
   -- nothing before a location, as the scan has it
   steps-before : (t k : ℕ) → first k (faultIn (r .ceilings) (topAt r t) t (scriptOf r t)) ≡ Passed → (j : ℕ) → j < k → Keeps r t j
@@ -68,56 +68,60 @@ module _ (r : Roster) where
   found : passed (rosterFault r) ≡ false → Found (rosterFault r)
   unfolding rosterFault scriptFault stepsFault
   found e =
-    let a = first-names (scriptFault r) (length (r .scripts)) e in
-    let t = a .0 in
-    let f = faultIn (r .ceilings) (topAt r t) t (scriptOf r t) in
-    let b = first-names f (suc (length (scriptOf r t))) (ap passed (a .2) ∙ e) in
-    record {
-      task = t; position = b .0; same = b .2 ∙ a .2;
-      before = record {
-        here = record { task = a .1; step = (let h = b .1 in omega arith) };
-        tasks = λ u j h l. script-pass u (first-at (scriptFault r) t (a .3) u h) j (l .step);
-        steps = steps-before t (b .0) (b .3) } }
+      let a = first-names (scriptFault r) (length (r .scripts)) e in
+      let t = a .0 in
+      let f = faultIn (r .ceilings) (topAt r t) t (scriptOf r t) in
+      let b = first-names f (suc (length (scriptOf r t))) (ap passed (a .2) ∙ e) in
+      record {
+        task = t;
+        position = b .0;
+        same = b .2 ∙ a .2;
+        before = record {
+          here = record { task = a .1; step = (let h = b .1 in omega arith) };
+          tasks = λ u j h l. script-pass u (first-at (scriptFault r) t (a .3) u h) j (l .step);
+          steps = steps-before t (b .0) (b .3);
+        };
+      }
 
   -- a location before which nothing is broken, whose own step is, is what the scan names
   finds : (t k : ℕ) (v : Verdict) → NoneBefore r t k → faultAt r t k ≡ v → passed v ≡ false → rosterFault r ≡ v
   unfolding rosterFault scriptFault stepsFault
   finds t k v n e f =
-    let g = faultIn (r .ceilings) (topAt r t) t (scriptOf r t) in
-    let low = n .here .step in
-    let inner : scriptFault r t ≡ v =
+      let g = faultIn (r .ceilings) (topAt r t) t (scriptOf r t) in
+      let low = n .here .step in
+      let inner : scriptFault r t ≡ v =
       first-found g (suc (length (scriptOf r t))) k (omega arith) (before-steps t k (n .steps)) (ap passed e ∙ f) ∙ e in
-    first-found (scriptFault r) (length (r .scripts)) t (n .here .task)
-    (first-all (scriptFault r) t (λ u h. pass-script u (λ j g. n .tasks u j h (record { task = (let m = n .here .task in omega arith); step = g }))))
-    (ap passed inner ∙ f) ∙ inner
+      first-found (scriptFault r) (length (r .scripts)) t (n .here .task)
+      (first-all (scriptFault r) t (λ u h. pass-script u (λ j g. n .tasks u j h (record { task = (let m = n .here .task in omega arith); step = g }))))
+      (ap passed inner ∙ f) ∙ inner
 
   says-way : (t k : ℕ) (v : Verdict) → NoneBefore r t k → passed v ≡ false →
-    Way (r .ceilings) (topAt r t) (heldAt r t k) t k (stepFor r t k) v → Says r v
+      Way (r .ceilings) (topAt r t) (heldAt r t k) t k (stepFor r t k) v → Says r v
   says-way t k v n f (kept e) = absurd (truth (sym (ap passed e) ∙ f))
   says-way t k v n f (at17 e a) =
-    subst (Says r) (sym e) (n, (λ u. truth (sym a ∙ of-unheld r t k u)))
+      subst (Says r) (sym e) (n, (λ u. truth (sym a ∙ of-unheld r t k u)))
   says-way t k v n f (at18 e a b) =
-    subst (Says r) (sym e) (n, unheld-of r t k a, (λ u. truth (sym b ∙ of-covered r t k u)))
+      subst (Says r) (sym e) (n, unheld-of r t k a, (λ u. truth (sym b ∙ of-covered r t k u)))
   says-way t k v n f (at19 e a b d) =
-    subst (Says r) (sym e) (n, unheld-of r t k a, covered-of r t k b, (λ u. truth (sym d ∙ of-innermost r t k u)))
+      subst (Says r) (sym e) (n, unheld-of r t k a, covered-of r t k b, (λ u. truth (sym d ∙ of-innermost r t k u)))
   says-way t k v n f (at20 e a b d g) =
-    subst (Says r) (sym e)
-    (n, unheld-of r t k a, covered-of r t k b, innermost-of r t k d, (λ u. truth (sym g ∙ of-own r t k u)))
+      subst (Says r) (sym e)
+      (n, unheld-of r t k a, covered-of r t k b, innermost-of r t k d, (λ u. truth (sym g ∙ of-own r t k u)))
 
   -- what the scan answers is so
   pub scan-says : Says r (rosterFault r)
   unfolding rosterFault faultIn
   scan-says =
-    by-test (passed (rosterFault r))
-    (λ e.
+      by-test (passed (rosterFault r))
+      (λ e.
       let p = passed-is (rosterFault r) e in
       subst (Says r) (sym p)
       (record { at = λ t k l. script-pass t (first-at (scriptFault r) (length (r .scripts)) p t (l .task)) k (l .step) }))
-    (λ e.
+      (λ e.
       let w = found e in
       says-way (w .task) (w .position) (rosterFault r) (w .before) e
       (subst (Way (r .ceilings) (topAt r (w .task)) (heldAt r (w .task) (w .position)) (w .task) (w .position)
-        (stepFor r (w .task) (w .position))) (w .same)
+      (stepFor r (w .task) (w .position))) (w .same)
       (way (r .ceilings) (topAt r (w .task)) (heldAt r (w .task) (w .position)) (w .task) (w .position) (stepFor r (w .task) (w .position)))))
 
   fault17 : (t k : ℕ) → whileHeld (heldAt r t k) (stepFor r t k) ≡ true → faultAt r t k ≡ WhileHeld t k
@@ -125,19 +129,19 @@ module _ (r : Roster) where
   fault17 t k a = simp a
 
   fault18 : (t k : ℕ) → whileHeld (heldAt r t k) (stepFor r t k) ≡ false →
-    lowCeiling (r .ceilings) (topAt r t) (heldAt r t k) (stepFor r t k) ≡ true → faultAt r t k ≡ LowCeiling t k
+      lowCeiling (r .ceilings) (topAt r t) (heldAt r t k) (stepFor r t k) ≡ true → faultAt r t k ≡ LowCeiling t k
   unfolding faultIn faultOf
   fault18 t k a b = simp (a, b)
 
   fault19 : (t k : ℕ) → whileHeld (heldAt r t k) (stepFor r t k) ≡ false →
-    lowCeiling (r .ceilings) (topAt r t) (heldAt r t k) (stepFor r t k) ≡ false →
-    notInnermost (heldAt r t k) (stepFor r t k) ≡ true → faultAt r t k ≡ NotInnermost t k
+      lowCeiling (r .ceilings) (topAt r t) (heldAt r t k) (stepFor r t k) ≡ false →
+      notInnermost (heldAt r t k) (stepFor r t k) ≡ true → faultAt r t k ≡ NotInnermost t k
   unfolding faultIn faultOf
   fault19 t k a b d = simp (a, b, d)
 
   fault20 : (t k : ℕ) → whileHeld (heldAt r t k) (stepFor r t k) ≡ false →
-    lowCeiling (r .ceilings) (topAt r t) (heldAt r t k) (stepFor r t k) ≡ false →
-    notInnermost (heldAt r t k) (stepFor r t k) ≡ false → otherTask t (stepFor r t k) ≡ true → faultAt r t k ≡ OtherTask t k
+      lowCeiling (r .ceilings) (topAt r t) (heldAt r t k) (stepFor r t k) ≡ false →
+      notInnermost (heldAt r t k) (stepFor r t k) ≡ false → otherTask t (stepFor r t k) ≡ true → faultAt r t k ≡ OtherTask t k
   unfolding faultIn faultOf
   fault20 t k a b d e = simp (a, b, d, e)
 
@@ -150,15 +154,15 @@ module _ (r : Roster) where
   pub says-scan : (v : Verdict) → Says r v → rosterFault r ≡ v
   unfolding rosterFault
   says-scan Passed a =
-    first-all (scriptFault r) (length (r .scripts)) (λ t h. pass-script t (λ k g. a .at t k (record { task = h; step = g })))
+      first-all (scriptFault r) (length (r .scripts)) (λ t h. pass-script t (λ k g. a .at t k (record { task = h; step = g })))
   says-scan (WhileHeld t k) a = finds t k _ (a .0) (fault17 t k (breaks _ _ (unheld-of r t k) (a .1))) refl
   says-scan (LowCeiling t k) a =
-    finds t k _ (a .0) (fault18 t k (of-unheld r t k (a .1)) (breaks _ _ (covered-of r t k) (a .2))) refl
+      finds t k _ (a .0) (fault18 t k (of-unheld r t k (a .1)) (breaks _ _ (covered-of r t k) (a .2))) refl
   says-scan (NotInnermost t k) a =
-    finds t k _ (a .0) (fault19 t k (of-unheld r t k (a .1)) (of-covered r t k (a .2)) (breaks _ _ (innermost-of r t k) (a .3))) refl
+      finds t k _ (a .0) (fault19 t k (of-unheld r t k (a .1)) (of-covered r t k (a .2)) (breaks _ _ (innermost-of r t k) (a .3))) refl
   says-scan (OtherTask t k) a =
-    finds t k _ (a .0)
-    (fault20 t k (of-unheld r t k (a .1)) (of-covered r t k (a .2)) (of-innermost r t k (a .3)) (breaks _ _ (own-of r t k) (a .4))) refl
+      finds t k _ (a .0)
+      (fault20 t k (of-unheld r t k (a .1)) (of-covered r t k (a .2)) (of-innermost r t k (a .3)) (breaks _ _ (own-of r t k) (a .4))) refl
   says-scan NoSuchTask a = absurd a
   says-scan BadLength a = absurd a
   says-scan BadMark a = absurd a

@@ -47,5 +47,5 @@ module _ (s : List ℕ) where
   pub part-between : (t a n : ℕ) → a ≡ startAt s t → n ≡ lengthAt s t → take (a + n - a) (drop a s) ≡ partAt s t
   unfolding partAt
   part-between t a n e f =
-    let g : a + n - a ≡ lengthAt s t = omega arith in
-    ap (λ (k : ℕ). take k (drop a s)) g ∙ ap (λ (k : ℕ). take (lengthAt s t) (drop k s)) e
+      let g : a + n - a ≡ lengthAt s t = omega arith in
+      ap (λ (k : ℕ). take k (drop a s)) g ∙ ap (λ (k : ℕ). take (lengthAt s t) (drop k s)) e

@@ -35,14 +35,19 @@ module _ (s : List ℕ) where
   pub formed : formOf s ≡ Passed → Formed s
   unfolding formOf
   formed e =
-    let a = past (not (lengthGood s)) BadLength _ refl e in
-    let b = past (not (markGood s)) BadMark _ refl (a .1) in
-    let d = past (not (countsKept s)) BadCounts _ refl (b .1) in
-    let f = past (not (layoutGood s)) BadLayout _ refl (d .1) in
-    let g = past (not (valuesGood s)) BadValues _ refl (f .1) in
-    record {
-      size = not-false _ (a .0); mark = not-false _ (b .0); counts = not-false _ (d .0); layout = not-false _ (f .0);
-      values = not-false _ (g .0); steps = g .1 }
+      let a = past (not (lengthGood s)) BadLength _ refl e in
+      let b = past (not (markGood s)) BadMark _ refl (a .1) in
+      let d = past (not (countsKept s)) BadCounts _ refl (b .1) in
+      let f = past (not (layoutGood s)) BadLayout _ refl (d .1) in
+      let g = past (not (valuesGood s)) BadValues _ refl (f .1) in
+      record {
+        size = not-false _ (a .0);
+        mark = not-false _ (b .0);
+        counts = not-false _ (d .0);
+        layout = not-false _ (f .0);
+        values = not-false _ (g .0);
+        steps = g .1;
+      }
 
   pub formed-passes : Formed s → formOf s ≡ Passed
   formed-passes r = sym (form-6 s (r .size) (r .mark) (r .counts) (r .layout) (r .values)) ∙ r .steps
@@ -55,18 +60,18 @@ module _ (s : List ℕ) (ok : formOf s ≡ Passed) where
 
   pub tasks-some : 1 ≤ taskCount s
   tasks-some =
-    leb-true 1 _ (and-left (leb 1 (taskCount s)) (leb (taskCount s) taskLimit)
-    (and-left (leb 1 (taskCount s) && leb (taskCount s) taskLimit) (leb (objectCount s) objectLimit) counts-all))
+      leb-true 1 _ (and-left (leb 1 (taskCount s)) (leb (taskCount s) taskLimit)
+      (and-left (leb 1 (taskCount s) && leb (taskCount s) taskLimit) (leb (objectCount s) objectLimit) counts-all))
 
   pub tasks-few : taskCount s ≤ taskLimit
   tasks-few =
-    leb-true _ taskLimit (and-right (leb 1 (taskCount s)) (leb (taskCount s) taskLimit)
-    (and-left (leb 1 (taskCount s) && leb (taskCount s) taskLimit) (leb (objectCount s) objectLimit) counts-all))
+      leb-true _ taskLimit (and-right (leb 1 (taskCount s)) (leb (taskCount s) taskLimit)
+      (and-left (leb 1 (taskCount s) && leb (taskCount s) taskLimit) (leb (objectCount s) objectLimit) counts-all))
 
   pub objects-few : objectCount s ≤ objectLimit
   objects-few =
-    leb-true _ objectLimit
-    (and-right (leb 1 (taskCount s) && leb (taskCount s) taskLimit) (leb (objectCount s) objectLimit) counts-all)
+      leb-true _ objectLimit
+      (and-right (leb 1 (taskCount s) && leb (taskCount s) taskLimit) (leb (objectCount s) objectLimit) counts-all)
 
   -- 14
   pub part-inside : (t : ℕ) → t < taskCount s → startAt s t + lengthAt s t ≤ length s
@@ -76,44 +81,44 @@ module _ (s : List ℕ) (ok : formOf s ≡ Passed) where
   pub base-good : (t : ℕ) → t < taskCount s → inRange (baseAt s t) ≡ true
   unfolding valuesGood taskRowGood
   base-good t h =
-    let e = and-left (below (taskCount s) (taskRowGood s)) (below (objectCount s) (objectRowGood s)) (formed s ok .values) in
-    and-left (inRange (baseAt s t)) (eqb (byteAt s (taskRow s t + 1)) 0) (below-at (taskRowGood s) (taskCount s) t e h)
+      let e = and-left (below (taskCount s) (taskRowGood s)) (below (objectCount s) (objectRowGood s)) (formed s ok .values) in
+      and-left (inRange (baseAt s t)) (eqb (byteAt s (taskRow s t + 1)) 0) (below-at (taskRowGood s) (taskCount s) t e h)
 
   pub ceiling-good : (o : ℕ) → o < objectCount s → inRange (ceilingAt s o) ≡ true
   unfolding valuesGood objectRowGood
   ceiling-good o h =
-    let e = and-right (below (taskCount s) (taskRowGood s)) (below (objectCount s) (objectRowGood s)) (formed s ok .values) in
-    and-left (inRange (ceilingAt s o)) (eqb (byteAt s (objectRow s o + 1)) 0) (below-at (objectRowGood s) (objectCount s) o e h)
+      let e = and-right (below (taskCount s) (taskRowGood s)) (below (objectCount s) (objectRowGood s)) (formed s ok .values) in
+      and-left (inRange (ceilingAt s o)) (eqb (byteAt s (objectRow s o + 1)) 0) (below-at (objectRowGood s) (objectCount s) o e h)
 
   -- 16
   pub step-good : (t k : ℕ) → t < taskCount s → k < stepCount (partAt s t) →
-    stepGood (taskCount s) (objectCount s) (eqb (suc k) (stepCount (partAt s t))) (aAt (partAt s t) k) (bAt (partAt s t) k)
-    (stepAt (partAt s t) k) ≡ true
+      stepGood (taskCount s) (objectCount s) (eqb (suc k) (stepCount (partAt s t))) (aAt (partAt s t) k) (bAt (partAt s t) k)
+      (stepAt (partAt s t) k) ≡ true
   unfolding scriptsForm scriptForm stepsForm stepForm
   step-good t k h g =
-    let part = partAt s t in
-    let e = first-at (scriptForm s) (taskCount s) (formed s ok .steps) t h in
-    let f = first-at (stepForm (taskCount s) (objectCount s) t part) (stepCount part) e k g in
-    by-test (stepGood (taskCount s) (objectCount s) (eqb (suc k) (stepCount part)) (aAt part k) (bAt part k) (stepAt part k))
-    (λ x. x)
-    (λ x. absurd (truth (sym (ap passed f) ∙ ap (λ (b : Bool). passed (cond b Passed (BadStep t k))) x)))
+      let part = partAt s t in
+      let e = first-at (scriptForm s) (taskCount s) (formed s ok .steps) t h in
+      let f = first-at (stepForm (taskCount s) (objectCount s) t part) (stepCount part) e k g in
+      by-test (stepGood (taskCount s) (objectCount s) (eqb (suc k) (stepCount part)) (aAt part k) (bAt part k) (stepAt part k))
+      (λ x. x)
+      (λ x. absurd (truth (sym (ap passed f) ∙ ap (λ (b : Bool). passed (cond b Passed (BadStep t k))) x)))
 
   -- each step's numbers, and those of the script's end
   pub step-listed : (t : ℕ) → t < taskCount s → (k : ℕ) → namesListed (taskCount s) (objectCount s) (stepIn (stepsOf (partAt s t)) k) ≡ true
   unfolding stepGood namesListed
   step-listed t h k =
-    let part = partAt s t in
-    let x = stepAt part k in
-    let a = unusedZero (aAt part k) (bAt part k) x in
-    let b = namesListed (taskCount s) (objectCount s) x in
-    by-test (ltb k (stepCount part))
-    (λ e.
+      let part = partAt s t in
+      let x = stepAt part k in
+      let a = unusedZero (aAt part k) (bAt part k) x in
+      let b = namesListed (taskCount s) (objectCount s) x in
+      by-test (ltb k (stepCount part))
+      (λ e.
       ap (namesListed (taskCount s) (objectCount s)) (steps-at part k (ltb-true k _ e)) ∙
       and-right a b (and-left (a && b) (standsRight (eqb (suc k) (stepCount part)) x) (step-good t k h (ltb-true k _ e))))
-    (λ e. ap (namesListed (taskCount s) (objectCount s)) (steps-past part k (ltb-false k _ e)))
+      (λ e. ap (namesListed (taskCount s) (objectCount s)) (steps-past part k (ltb-false k _ e)))
 
   -- the same of the part that was lent
   pub part-listed : (t : ℕ) (part : List ℕ) → t < taskCount s → part ≡ partAt s t → (k : ℕ) →
-    namesListed (taskCount s) (objectCount s) (stepIn (stepsOf part) k) ≡ true
+      namesListed (taskCount s) (objectCount s) (stepIn (stepsOf part) k) ≡ true
   part-listed t part h e k =
-    ap (λ (p : List ℕ). namesListed (taskCount s) (objectCount s) (stepIn (stepsOf p) k)) e ∙ step-listed t h k
+      ap (λ (p : List ℕ). namesListed (taskCount s) (objectCount s) (stepIn (stepsOf p) k)) e ∙ step-listed t h k

@@ -26,44 +26,44 @@ module _ (l : List ℕ) (n : ℕ) (fit : n ≤ length l) where
   pub seen-here : (o i : ℕ) → i < n → getD l i 0 ≡ o → timesIn o (take n l) ≡ timesIn o (drop i (take n l)) → true ≡ isHeld (take n l) o
   unfolding timesIn
   seen-here o i h e inv =
-    let d = drop-cons (take n l) i 0 (omega (arith, stack-length)) in
-    let g : eqb (getD (take n l) i 0) o ≡ true = eq-eqb _ o (getD-take n l i 0 h ∙ e) in
-    let r = timesIn o (drop (suc i) (take n l)) in
-    let k : timesIn o (take n l) ≡ suc r = inv ∙ (ap (timesIn o) d ∙ ap (λ (b : Bool). cond b (suc r) r) g) in
-    sym (lt-ltb 0 (timesIn o (take n l)) (omega arith))
+      let d = drop-cons (take n l) i 0 (omega (arith, stack-length)) in
+      let g : eqb (getD (take n l) i 0) o ≡ true = eq-eqb _ o (getD-take n l i 0 h ∙ e) in
+      let r = timesIn o (drop (suc i) (take n l)) in
+      let k : timesIn o (take n l) ≡ suc r = inv ∙ (ap (timesIn o) d ∙ ap (λ (b : Bool). cond b (suc r) r) g) in
+      sym (lt-ltb 0 (timesIn o (take n l)) (omega arith))
 
   pub seen-on : (o i : ℕ) → i < n → (getD l i 0 ≡ o → ⊥) → timesIn o (take n l) ≡ timesIn o (drop i (take n l)) →
-    timesIn o (take n l) ≡ timesIn o (drop (i + 1) (take n l))
+      timesIn o (take n l) ≡ timesIn o (drop (i + 1) (take n l))
   unfolding timesIn
   seen-on o i h e inv =
-    let d = drop-cons (take n l) i 0 (omega (arith, stack-length)) in
-    let g : eqb (getD (take n l) i 0) o ≡ false = ne-eqb _ o (λ x. e (sym (getD-take n l i 0 h) ∙ x)) in
-    let r = timesIn o (drop (suc i) (take n l)) in
-    inv ∙ (ap (timesIn o) d ∙ (ap (λ (b : Bool). cond b (suc r) r) g ∙ ap (λ (k : ℕ). timesIn o (drop k (take n l))) (sym (add-one i))))
+      let d = drop-cons (take n l) i 0 (omega (arith, stack-length)) in
+      let g : eqb (getD (take n l) i 0) o ≡ false = ne-eqb _ o (λ x. e (sym (getD-take n l i 0 h) ∙ x)) in
+      let r = timesIn o (drop (suc i) (take n l)) in
+      inv ∙ (ap (timesIn o) d ∙ (ap (λ (b : Bool). cond b (suc r) r) g ∙ ap (λ (k : ℕ). timesIn o (drop k (take n l))) (sym (add-one i))))
 
   pub seen-none : (o i : ℕ) → n ≤ i → timesIn o (take n l) ≡ timesIn o (drop i (take n l)) → false ≡ isHeld (take n l) o
   unfolding timesIn
   seen-none o i h inv =
-    let d = drop-of-length-le (take n l) {i = i} (omega (arith, stack-length)) in
-    sym (le-ltb 0 (timesIn o (take n l)) (omega (arith, inv ∙ ap (timesIn o) d)))
+      let d = drop-of-length-le (take n l) {i = i} (omega (arith, stack-length)) in
+      sym (le-ltb 0 (timesIn o (take n l)) (omega (arith, inv ∙ ap (timesIn o) d)))
 
   pub innermost-none : (o : ℕ) → n ≡ 0 → false ≡ isInnermost (take n l) o
   innermost-none o e = and-no _ _ (le-ltb 0 (length (take n l)) (omega (arith, stack-length)))
 
   pub innermost-last : (o : ℕ) → (n ≡ 0 → ⊥) → eqb (getD l (n - 1) 0) o ≡ isInnermost (take n l) o
   innermost-last o h =
-    let k : length (take n l) - 1 ≡ n - 1 = omega (arith, stack-length) in
-    let g : getD (take n l) (length (take n l) - 1) 0 ≡ getD l (n - 1) 0 =
+      let k : length (take n l) - 1 ≡ n - 1 = omega (arith, stack-length) in
+      let g : getD (take n l) (length (take n l) - 1) 0 ≡ getD l (n - 1) 0 =
       ap (λ (i : ℕ). getD (take n l) i 0) k ∙ getD-take n l (n - 1) 0 (omega arith) in
-    and-yes _ _ _ (lt-ltb 0 (length (take n l)) (omega (arith, stack-length))) (ap (λ (x : ℕ). eqb x o) (sym g))
+      and-yes _ _ _ (lt-ltb 0 (length (take n l)) (omega (arith, stack-length))) (ap (λ (x : ℕ). eqb x o) (sym g))
 
   pub stack-push : (o : ℕ) → n < length l → take (n + 1) (set l n o) ≡ take n l ++ (o ∷ [])
   stack-push o h = ap (λ (k : ℕ). take k (set l n o)) (add-one n) ∙ take-suc-set l n o h
 
   pub stack-pop : take (n - 1) l ≡ take (length (take n l) - 1) (take n l)
   stack-pop =
-    let k : length (take n l) - 1 ≡ n - 1 = omega (arith, stack-length) in
-    sym (ap (λ (i : ℕ). take i (take n l)) k ∙ take-take (n - 1) n l (omega arith))
+      let k : length (take n l) - 1 ≡ n - 1 = omega (arith, stack-length) in
+      sym (ap (λ (i : ℕ). take i (take n l)) k ∙ take-take (n - 1) n l (omega arith))
 
 -- how often a number stands in a list
 pub times-same : (o x : ℕ) (l : List ℕ) → x ≡ o → timesIn o (x ∷ l) ≡ suc (timesIn o l)
@@ -109,8 +109,13 @@ without-same x [] = omega arith
 without-same x (y ∷ l) =
     split y x
     (λ e. omega (arith, ap (λ (b : Bool). timesIn x (cond b l (y ∷ without x l))) (eq-eqb y x e), times-same x y l e))
-    (λ e. omega (arith, ap (λ (b : Bool). timesIn x (cond b l (y ∷ without x l))) (ne-eqb y x e), times-other x y l e,
-      times-other x y (without x l) e, without-same x l))
+    (λ e. omega (
+      arith,
+      ap (λ (b : Bool). timesIn x (cond b l (y ∷ without x l))) (ne-eqb y x e),
+      times-other x y l e,
+      times-other x y (without x l) e,
+      without-same x l,
+    ))
 
 without-other : (o x : ℕ) (l : List ℕ) → (o ≡ x → ⊥) → timesIn o (without x l) ≡ timesIn o l
 unfolding without timesIn
@@ -129,10 +134,10 @@ pigeonhole zero [] once low = omega arith
 pigeonhole zero (x ∷ l) once low = absurd (not-suc-le-zero (low x (omega (arith, times-same x x l refl))))
 pigeonhole (suc m) l once low =
     let more = pigeonhole m (without m l)
-      (λ o. split o m
-        (λ e. omega (arith, ap (λ (k : ℕ). timesIn k (without m l)) e, without-same m l, once m))
-        (λ e. omega (arith, without-other o m l e, once o)))
-      (λ o h. split o m
-        (λ e. absurd (omega (arith, ap (λ (k : ℕ). timesIn k (without m l)) e, without-same m l, once m, h)))
-        (λ e. omega (arith, e, without-other o m l e, low o (omega (arith, without-other o m l e, h))))) in
+    (λ o. split o m
+    (λ e. omega (arith, ap (λ (k : ℕ). timesIn k (without m l)) e, without-same m l, once m))
+    (λ e. omega (arith, without-other o m l e, once o)))
+    (λ o h. split o m
+    (λ e. absurd (omega (arith, ap (λ (k : ℕ). timesIn k (without m l)) e, without-same m l, once m, h)))
+    (λ e. omega (arith, e, without-other o m l e, low o (omega (arith, without-other o m l e, h))))) in
     omega (arith, without-length m l, more)

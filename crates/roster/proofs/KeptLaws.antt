@@ -87,8 +87,8 @@ highest-least cs p most (o ∷ l) b h =
     highest-least cs (max p (ceilingOf cs o)) most l
     (omega (arith, h o (omega (arith, times-same o o l refl))))
     (λ i g. h i (split o i
-      (λ e. omega (arith, times-same i o l e))
-      (λ e. omega (arith, times-other i o l e, g))))
+    (λ e. omega (arith, times-same i o l e))
+    (λ e. omega (arith, times-other i o l e, g))))
 
 -- nothing is held, an object is not, an object is the innermost
 none-held : (l : List ℕ) → something l ≡ false → l ≡ []
@@ -102,10 +102,11 @@ inner-last : (l : List ℕ) (o : ℕ) → isInnermost l o ≡ true → (outer : 
 inner-last l o e =
     let some = ltb-true 0 (length l) (and-left (something l) (eqb (getD l (length l - 1) 0) o) e) in
     let last = eqb-true _ o (and-right (something l) (eqb (getD l (length l - 1) 0) o) e) in
-    let n : suc (length l - 1) ≡ length l = omega arith in
-    (take (length l - 1) l,
-    sym (take-all (suc (length l - 1)) l (omega arith)) ∙ (take-suc l (length l - 1) 0 (omega arith) ∙
-    ap (λ (x : ℕ). take (length l - 1) l ++ (x ∷ [])) last))
+    let n : suc (length l - 1) ≡ length l = omega arith in (
+      take (length l - 1) l,
+      sym (take-all (suc (length l - 1)) l (omega arith)) ∙ (take-suc l (length l - 1) 0 (omega arith) ∙
+          ap (λ (x : ℕ). take (length l - 1) l ++ (x ∷ [])) last),
+    )
 
 last-inner : (l : List ℕ) (o : ℕ) (outer : List ℕ) → l ≡ outer ++ (o ∷ []) → isInnermost l o ≡ true
 last-inner l o outer e =
@@ -113,7 +114,7 @@ last-inner l o outer e =
     let some : 0 < length l = omega (arith, ap length e, n) in
     let at : length l - 1 ≡ length outer = omega (arith, ap length e, n) in
     let last : getD l (length l - 1) 0 ≡ o =
-      ap (λ (k : List ℕ). getD k (length l - 1) 0) e ∙ getD-at outer o [] 0 (length l - 1) (sym at) in
+    ap (λ (k : List ℕ). getD k (length l - 1) 0) e ∙ getD-at outer o [] 0 (length l - 1) (sym at) in
     sym (and-yes _ _ _ (lt-ltb 0 (length l) some) (sym (eq-eqb _ o last)))
 
 -- each rule's test, and the rule as it is written
@@ -122,14 +123,15 @@ module _ (r : Roster) (t k : ℕ) where
   pub unheld-of : whileHeld (heldAt r t k) (stepFor r t k) ≡ false → Unheld r t k
   unfolding whileHeld
   unheld-of h =
-    let held = heldAt r t k in
-    let at : (y : Step) → stepFor r t k ≡ y → whileHeld held y ≡ false = λ y e. sym (ap (whileHeld held) e) ∙ h in
-    record {
-      delay = λ d e. none-held held (at (Delay d) e);
-      suspend = λ e. none-held held (at Suspend e);
-      again = λ e. none-held held (at Again e);
-      end = λ e. none-held held (at Finish e);
-      enter = λ o e. (let z : timesIn o held ≤ 0 = ltb-false 0 (timesIn o held) (at (Enter o) e) in omega arith) }
+      let held = heldAt r t k in
+      let at : (y : Step) → stepFor r t k ≡ y → whileHeld held y ≡ false = λ y e. sym (ap (whileHeld held) e) ∙ h in
+      record {
+        delay = λ d e. none-held held (at (Delay d) e);
+        suspend = λ e. none-held held (at Suspend e);
+        again = λ e. none-held held (at Again e);
+        end = λ e. none-held held (at Finish e);
+        enter = λ o e. (let z : timesIn o held ≤ 0 = ltb-false 0 (timesIn o held) (at (Enter o) e) in omega arith);
+      }
 
   of-unheld-at : Unheld r t k → (y : Step) → stepFor r t k ≡ y → whileHeld (heldAt r t k) y ≡ false
   unfolding whileHeld
@@ -150,23 +152,24 @@ module _ (r : Roster) (t k : ℕ) where
   pub covered-of : lowCeiling (r .ceilings) (topAt r t) (heldAt r t k) (stepFor r t k) ≡ false → Covered r t k
   unfolding lowCeiling topAt
   covered-of h =
-    let cs = r .ceilings in
-    let held = heldAt r t k in
-    let high : (o : ℕ) → stepFor r t k ≡ Enter o → highestOf cs (topAt r t) held ≤ ceilingOf cs o =
+      let cs = r .ceilings in
+      let held = heldAt r t k in
+      let high : (o : ℕ) → stepFor r t k ≡ Enter o → highestOf cs (topAt r t) held ≤ ceilingOf cs o =
       λ o e. ltb-false (ceilingOf cs o) (highestOf cs (topAt r t) held) (sym (ap (lowCeiling cs (topAt r t) held) e) ∙ h) in
-    let low = highest-low cs (topAt r t) held in
-    record {
-      base = λ o e. omega (arith, high o e, low, top-low t (baseOf r t) (scriptOf r t));
-      values = λ o j p e f. omega (arith, high o e, low, top-set t (baseOf r t) (scriptOf r t) j p f);
-      ceilings = λ o i e f. omega (arith, high o e, highest-held cs (topAt r t) held i f) }
+      let low = highest-low cs (topAt r t) held in
+      record {
+        base = λ o e. omega (arith, high o e, low, top-low t (baseOf r t) (scriptOf r t));
+        values = λ o j p e f. omega (arith, high o e, low, top-set t (baseOf r t) (scriptOf r t) j p f);
+        ceilings = λ o i e f. omega (arith, high o e, highest-held cs (topAt r t) held i f);
+      }
 
   of-covered-at : Covered r t k → (y : Step) → stepFor r t k ≡ y → lowCeiling (r .ceilings) (topAt r t) (heldAt r t k) y ≡ false
   unfolding lowCeiling topAt
   of-covered-at u (Enter o) e =
-    let most = ceilingOf (r .ceilings) o in
-    let top = top-least t (baseOf r t) most (scriptOf r t) (u .base o e) (λ j p f. u .values o j p e f) in
-    le-ltb most (highestOf (r .ceilings) (topAt r t) (heldAt r t k))
-    (highest-least (r .ceilings) (topAt r t) most (heldAt r t k) top (λ i f. u .ceilings o i e f))
+      let most = ceilingOf (r .ceilings) o in
+      let top = top-least t (baseOf r t) most (scriptOf r t) (u .base o e) (λ j p f. u .values o j p e f) in
+      le-ltb most (highestOf (r .ceilings) (topAt r t) (heldAt r t k))
+      (highest-least (r .ceilings) (topAt r t) most (heldAt r t k) top (λ i f. u .ceilings o i e f))
   of-covered-at u (Leave o) e = refl
   of-covered-at u (Delay d) e = refl
   of-covered-at u Work e = refl
@@ -183,7 +186,7 @@ module _ (r : Roster) (t k : ℕ) where
   pub innermost-of : notInnermost (heldAt r t k) (stepFor r t k) ≡ false → Innermost r t k
   unfolding notInnermost
   innermost-of h =
-    record { leave = λ o e. inner-last (heldAt r t k) o (not-false _ (sym (ap (notInnermost (heldAt r t k)) e) ∙ h)) }
+      record { leave = λ o e. inner-last (heldAt r t k) o (not-false _ (sym (ap (notInnermost (heldAt r t k)) e) ∙ h)) }
 
   of-innermost-at : Innermost r t k → (y : Step) → stepFor r t k ≡ y → notInnermost (heldAt r t k) y ≡ false
   unfolding notInnermost
@@ -227,11 +230,15 @@ module _ (r : Roster) (t k : ℕ) where
   pub keeps-of : faultAt ≡ Passed → Keeps r t k
   unfolding faultIn
   keeps-of e =
-    let c = clean (r .ceilings) (topAt r t) (heldAt r t k) t k (stepFor r t k) e in
-    record { unheld = unheld-of (c .free); covered = covered-of (c .high); innermost = innermost-of (c .inner); own = own-of (c .own) }
+      let c = clean (r .ceilings) (topAt r t) (heldAt r t k) t k (stepFor r t k) e in
+      record { unheld = unheld-of (c .free); covered = covered-of (c .high); innermost = innermost-of (c .inner); own = own-of (c .own) }
 
   pub of-keeps : Keeps r t k → faultAt ≡ Passed
   unfolding faultIn
   of-keeps u =
-    faultless (r .ceilings) (topAt r t) (heldAt r t k) t k (stepFor r t k) (record {
-      free = of-unheld (u .unheld); high = of-covered (u .covered); inner = of-innermost (u .innermost); own = of-own (u .own) })
+      faultless (r .ceilings) (topAt r t) (heldAt r t k) t k (stepFor r t k) (record {
+        free = of-unheld (u .unheld);
+        high = of-covered (u .covered);
+        inner = of-innermost (u .innermost);
+        own = of-own (u .own);
+      })

@@ -50,12 +50,12 @@ set-range a b (Good q) u p e f =
     let same : q ≡ p = cc in
     by-test (inRange b)
     (λ h.
-      let g : checkedOf b ≡ Good (record { 0 = b }) = ap (λ (x : Bool). cond x (Good (record { 0 = b })) OutOfRange) h in
-      let k : Good q ≡ Good (record { 0 = b }) = e ∙ g in
-      ap (λ (x : Priority). inRange (x .0)) (sym same ∙ good-same q (record { 0 = b }) k) ∙ h)
+    let g : checkedOf b ≡ Good (record { 0 = b }) = ap (λ (x : Bool). cond x (Good (record { 0 = b })) OutOfRange) h in
+    let k : Good q ≡ Good (record { 0 = b }) = e ∙ g in
+    ap (λ (x : Priority). inRange (x .0)) (sym same ∙ good-same q (record { 0 = b }) k) ∙ h)
     (λ h.
-      let g : checkedOf b ≡ OutOfRange = ap (λ (x : Bool). cond x (Good (record { 0 = b })) OutOfRange) h in
-      absurd (let z : _≡_ {A = ℕ} 0 1 = cc in omega arith))
+    let g : checkedOf b ≡ OutOfRange = ap (λ (x : Bool). cond x (Good (record { 0 = b })) OutOfRange) h in
+    absurd (let z : _≡_ {A = ℕ} 0 1 = cc in omega arith))
   where
     good-same : (x y : Priority) → Good x ≡ Good y → x ≡ y
     good-same x y e = cc
@@ -65,15 +65,15 @@ module _ (s : List ℕ) (ok : Passes s) where
   pub passes-form : formOf s ≡ Passed
   unfolding checkOf
   passes-form =
-    by-test (passed (formOf s)) (λ e. passed-is (formOf s) e) (λ e.
-    let k : formOf s ≡ Passed = sym (ap (λ (b : Bool). cond b (rosterFault (rosterOf s)) (formOf s)) e) ∙ ok in k)
+      by-test (passed (formOf s)) (λ e. passed-is (formOf s) e) (λ e.
+      let k : formOf s ≡ Passed = sym (ap (λ (b : Bool). cond b (rosterFault (rosterOf s)) (formOf s)) e) ∙ ok in k)
 
   -- "tasks 1 to 32, objects 0 to 16", and as many scripts as bases
   pub passes-counts : countsGood (length (rosterOf s .bases)) (length (rosterOf s .ceilings)) ≡ true
   unfolding countsKept
   passes-counts =
-    ap (λ (n : ℕ). countsGood n (length (rosterOf s .ceilings))) (base-count s) ∙
-    (ap (countsGood (taskCount s)) (ceiling-count s) ∙ formed s passes-form .counts)
+      ap (λ (n : ℕ). countsGood n (length (rosterOf s .ceilings))) (base-count s) ∙
+      (ap (countsGood (taskCount s)) (ceiling-count s) ∙ formed s passes-form .counts)
 
   pub passes-tasks : (1 ≤ length (rosterOf s .bases)) × (length (rosterOf s .bases) ≤ taskLimit)
   passes-tasks = (omega (arith, base-count s, tasks-some s passes-form), omega (arith, base-count s, tasks-few s passes-form))
@@ -95,13 +95,13 @@ module _ (s : List ℕ) (ok : Passes s) where
 
   pub passes-base : (t : ℕ) → t < length (rosterOf s .bases) → inRange (baseOf (rosterOf s) t) ≡ true
   passes-base t h =
-    let low : t < taskCount s = omega (arith, base-count s) in
-    ap inRange (base-listed s t low) ∙ base-good s passes-form t low
+      let low : t < taskCount s = omega (arith, base-count s) in
+      ap inRange (base-listed s t low) ∙ base-good s passes-form t low
 
   pub passes-ceiling : (o : ℕ) → o < length (rosterOf s .ceilings) → inRange (ceilingOf (rosterOf s .ceilings) o) ≡ true
   passes-ceiling o h =
-    let low : o < objectCount s = omega (arith, ceiling-count s) in
-    ap inRange (ceiling-listed s o low) ∙ ceiling-good s passes-form o low
+      let low : o < objectCount s = omega (arith, ceiling-count s) in
+      ap inRange (ceiling-listed s o low) ∙ ceiling-good s passes-form o low
 
   -- the rules at each position, the script's end too
   pub passes-keeps : (t k : ℕ) → Location (rosterOf s) t k → Keeps (rosterOf s) t k
@@ -117,48 +117,48 @@ module _ (s : List ℕ) (ok : Passes s) where
     -- each step's numbers
     pub passes-listed : (k : ℕ) → namesListed (length (rosterOf s .bases)) (length (rosterOf s .ceilings)) (stepFor (rosterOf s) t k) ≡ true
     passes-listed k =
-      ap (λ (n : ℕ). namesListed n (length (rosterOf s .ceilings)) (stepFor (rosterOf s) t k)) (base-count s) ∙
-      (ap (λ (m : ℕ). namesListed (taskCount s) m (stepFor (rosterOf s) t k)) (ceiling-count s) ∙
-      (ap (λ (l : List Step). namesListed (taskCount s) (objectCount s) (stepIn l k)) (script-listed s t here) ∙
-      step-listed s passes-form t here k))
+        ap (λ (n : ℕ). namesListed n (length (rosterOf s .ceilings)) (stepFor (rosterOf s) t k)) (base-count s) ∙
+        (ap (λ (m : ℕ). namesListed (taskCount s) m (stepFor (rosterOf s) t k)) (ceiling-count s) ∙
+        (ap (λ (l : List Step). namesListed (taskCount s) (objectCount s) (stepIn l k)) (script-listed s t here) ∙
+        step-listed s passes-form t here k))
 
     -- a step inside the script, from its bytes
     pub at-bytes : (k : ℕ) → k < length (scriptOf (rosterOf s) t) → (k < stepCount (partAt s t)) × (stepFor (rosterOf s) t k ≡ stepAt (partAt s t) k)
     at-bytes k g =
-      let low : k < stepCount (partAt s t) = omega (arith, ap length (script-listed s t here), steps-length (partAt s t)) in
-      (low, ap (λ (l : List Step). stepIn l k) (script-listed s t here) ∙ steps-at (partAt s t) k low)
+        let low : k < stepCount (partAt s t) = omega (arith, ap length (script-listed s t here), steps-length (partAt s t)) in
+        (low, ap (λ (l : List Step). stepIn l k) (script-listed s t here) ∙ steps-at (partAt s t) k low)
 
     good-at : (k : ℕ) → k < stepCount (partAt s t) →
-      (unusedZero (aAt (partAt s t) k) (bAt (partAt s t) k) (stepAt (partAt s t) k) ≡ true) ×
-      (standsRight (eqb (suc k) (stepCount (partAt s t))) (stepAt (partAt s t) k) ≡ true)
+        (unusedZero (aAt (partAt s t) k) (bAt (partAt s t) k) (stepAt (partAt s t) k) ≡ true) ×
+        (standsRight (eqb (suc k) (stepCount (partAt s t))) (stepAt (partAt s t) k) ≡ true)
     unfolding stepGood
     good-at k g =
-      let part = partAt s t in
-      let a = unusedZero (aAt part k) (bAt part k) (stepAt part k) in
-      let b = namesListed (taskCount s) (objectCount s) (stepAt part k) in
-      let d = standsRight (eqb (suc k) (stepCount part)) (stepAt part k) in
-      let e = step-good s passes-form t k here g in
-      (and-left a b (and-left (a && b) d e), and-right (a && b) d e)
+        let part = partAt s t in
+        let a = unusedZero (aAt part k) (bAt part k) (stepAt part k) in
+        let b = namesListed (taskCount s) (objectCount s) (stepAt part k) in
+        let d = standsRight (eqb (suc k) (stepCount part)) (stepAt part k) in
+        let e = step-good s passes-form t k here g in
+        (and-left a b (and-left (a && b) d e), and-right (a && b) d e)
 
     -- Finish is the script's end alone
     pub passes-step : (k : ℕ) → k < length (scriptOf (rosterOf s) t) → stepFor (rosterOf s) t k ≡ Finish → ⊥
     unfolding unusedZero
     passes-step k g e =
-      let b = at-bytes k g in
-      let part = partAt s t in
-      truth (sym (good-at k (b .0) .0) ∙ ap (unusedZero (aAt part k) (bAt part k)) (sym (b .1) ∙ e))
+        let b = at-bytes k g in
+        let part = partAt s t in
+        truth (sym (good-at k (b .0) .0) ∙ ap (unusedZero (aAt part k) (bAt part k)) (sym (b .1) ∙ e))
 
     -- "Again (.. only as a script's last)"
     pub passes-again : (k : ℕ) → stepFor (rosterOf s) t k ≡ Again → suc k ≡ length (scriptOf (rosterOf s) t)
     unfolding standsRight
     passes-again k e =
-      by-test (ltb k (length (scriptOf (rosterOf s) t)))
-      (λ g.
+        by-test (ltb k (length (scriptOf (rosterOf s) t)))
+        (λ g.
         let b = at-bytes k (ltb-true k _ g) in
         let part = partAt s t in
         let last = eqb-true (suc k) (stepCount part)
-          (sym (ap (standsRight (eqb (suc k) (stepCount part))) (sym (b .1) ∙ e)) ∙ good-at k (b .0) .1) in
+        (sym (ap (standsRight (eqb (suc k) (stepCount part))) (sym (b .1) ∙ e)) ∙ good-at k (b .0) .1) in
         omega (arith, last, steps-length part, ap length (script-listed s t here)))
-      (λ g.
+        (λ g.
         let past : stepFor (rosterOf s) t k ≡ Finish = List·getD-eq-default (scriptOf (rosterOf s) t) Finish {n = k} (ltb-false k _ g) in
         absurd (let z : _≡_ {A = ℕ} 0 1 = cc in omega arith))

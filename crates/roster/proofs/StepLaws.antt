@@ -14,10 +14,10 @@ use Rattle.roster.proofs.ListLaws.{length-tabulate, tabulate-at, tabula
 module _ (n a b : ℕ) where
   -- no code of the list
   pub step-none : (n ≡ 1 → ⊥) → (n ≡ 2 → ⊥) → (n ≡ 3 → ⊥) → (n ≡ 4 → ⊥) → (n ≡ 5 → ⊥) → (n ≡ 6 → ⊥) → (n ≡ 7 → ⊥) → (n ≡ 8 → ⊥) →
-    stepOf n a b ≡ Finish
+      stepOf n a b ≡ Finish
   unfolding stepOf
   step-none h1 h2 h3 h4 h5 h6 h7 h8 =
-    simp (ne-eqb n 1 h1, ne-eqb n 2 h2, ne-eqb n 3 h3, ne-eqb n 4 h4, ne-eqb n 5 h5, ne-eqb n 6 h6, ne-eqb n 7 h7, ne-eqb n 8 h8)
+      simp (ne-eqb n 1 h1, ne-eqb n 2 h2, ne-eqb n 3 h3, ne-eqb n 4 h4, ne-eqb n 5 h5, ne-eqb n 6 h6, ne-eqb n 7 h7, ne-eqb n 8 h8)
 
 -- the step at a position of a script's bytes
 pub steps-at : (part : List ℕ) (k : ℕ) → k < stepCount part → stepIn (stepsOf part) k ≡ stepAt part k

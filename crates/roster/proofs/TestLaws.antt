@@ -80,9 +80,9 @@ module _ (f : ℕ → Bool) where
   unfolding below
   below-at zero i e h = absurd (not-suc-le-zero h)
   below-at (suc n) i e h =
-    by-test (eqb i n)
-    (λ g. ap f (eqb-true i n g) ∙ and-right (below n f) (f n) e)
-    (λ g. below-at n i (and-left (below n f) (f n) e) (let d : i ≡ n → ⊥ = eqb-false i n g in omega arith))
+      by-test (eqb i n)
+      (λ g. ap f (eqb-true i n g) ∙ and-right (below n f) (f n) e)
+      (λ g. below-at n i (and-left (below n f) (f n) e) (let d : i ≡ n → ⊥ = eqb-false i n g in omega arith))
 
   pub below-more : (n : ℕ) → below n f ≡ true → f n ≡ true → below (suc n) f ≡ true
   unfolding below
@@ -126,19 +126,19 @@ module _ (f : ℕ → Verdict) where
   pub first-below : (n : ℕ) → first (suc n) f ≡ Passed → (first n f ≡ Passed) × (f n ≡ Passed)
   unfolding first
   first-below n e =
-    by-test (passed (first n f))
-    (λ g. (passed-is (first n f) g, sym (ap (λ (b : Bool). cond b (f n) (first n f)) g) ∙ e))
-    (λ g.
+      by-test (passed (first n f))
+      (λ g. (passed-is (first n f) g, sym (ap (λ (b : Bool). cond b (f n) (first n f)) g) ∙ e))
+      (λ g.
       let k : first n f ≡ Passed = sym (ap (λ (b : Bool). cond b (f n) (first n f)) g) ∙ e in
       absurd (truth (sym (ap passed k) ∙ g)))
 
   pub first-at : (n : ℕ) → first n f ≡ Passed → (i : ℕ) → i < n → f i ≡ Passed
   first-at zero e i h = absurd (not-suc-le-zero h)
   first-at (suc n) e i h =
-    let b = first-below n e in
-    by-test (eqb i n)
-    (λ g. ap f (eqb-true i n g) ∙ b .1)
-    (λ g. first-at n (b .0) i (let d : i ≡ n → ⊥ = eqb-false i n g in omega arith))
+      let b = first-below n e in
+      by-test (eqb i n)
+      (λ g. ap f (eqb-true i n g) ∙ b .1)
+      (λ g. first-at n (b .0) i (let d : i ≡ n → ⊥ = eqb-false i n g in omega arith))
 
   pub first-all : (n : ℕ) → ((i : ℕ) → i < n → f i ≡ Passed) → first n f ≡ Passed
   unfolding first
@@ -150,9 +150,9 @@ module _ (f : ℕ → Verdict) where
   unfolding first
   first-names zero e = absurd (truth e)
   first-names (suc n) e =
-    by-test (passed (first n f))
-    (λ g. (n, omega arith, sym (first-new n (passed-is (first n f) g)), passed-is (first n f) g))
-    (λ g.
+      by-test (passed (first n f))
+      (λ g. (n, omega arith, sym (first-new n (passed-is (first n f) g)), passed-is (first n f) g))
+      (λ g.
       let w = first-names n g in
       let k : first (suc n) f ≡ first n f = ap (λ (b : Bool). cond b (f n) (first n f)) g in
       (w .0, (let h = w .1 in omega arith), w .2 ∙ sym k, w .3))
@@ -162,17 +162,17 @@ module _ (f : ℕ → Verdict) where
   unfolding first
   first-stays i zero h e = ap (λ (m : ℕ). first m f) (let z : zero ≡ i = omega arith in z)
   first-stays i (suc n) h e =
-    by-test (eqb i (suc n))
-    (λ g. ap (λ (m : ℕ). first m f) (sym (eqb-true i (suc n) g)))
-    (λ g.
+      by-test (eqb i (suc n))
+      (λ g. ap (λ (m : ℕ). first m f) (sym (eqb-true i (suc n) g)))
+      (λ g.
       let d : i ≡ suc n → ⊥ = eqb-false i (suc n) g in
       let k = first-stays i n (omega arith) e in
       ap (λ (b : Bool). cond b (f n) (first n f)) (ap passed k ∙ e) ∙ k)
 
   pub first-found : (n i : ℕ) → i < n → first i f ≡ Passed → passed (f i) ≡ false → first n f ≡ f i
   first-found n i h e g =
-    let k = first-new i e in
-    first-stays (suc i) n (omega arith) (ap passed k ∙ g) ∙ k
+      let k = first-new i e in
+      first-stays (suc i) n (omega arith) (ap passed k ∙ g) ∙ k
 
 -- a loop that tests each number below m: a turn that fails, one that goes on, and the end
 module _ (f : ℕ → Bool) where
@@ -189,11 +189,11 @@ module _ (f : ℕ → Bool) where
 module _ (f : ℕ → Verdict) where
   pub turn-finds : (n m i : ℕ) (v : Verdict) (b : Bool) → n ≡ m → i < n → first i f ≡ Passed → v ≡ f i → b ≡ passed v → b ≡ false → v ≡ first m f
   turn-finds n m i v b e h k g p q =
-    g ∙ sym (first-found f m i (omega arith) k (ap passed (sym g) ∙ (sym p ∙ q)))
+      g ∙ sym (first-found f m i (omega arith) k (ap passed (sym g) ∙ (sym p ∙ q)))
 
   pub turn-passes : (i : ℕ) (v : Verdict) (b : Bool) → first i f ≡ Passed → v ≡ f i → b ≡ passed v → b ≡ true → first (i + 1) f ≡ Passed
   turn-passes i v b k g p q =
-    ap (λ (n : ℕ). first n f) (add-one i) ∙ first-more f i k (sym g ∙ passed-is v (sym p ∙ q))
+      ap (λ (n : ℕ). first n f) (add-one i) ∙ first-more f i k (sym g ∙ passed-is v (sym p ∙ q))
 
   pub turns-pass : (n m i : ℕ) → n ≡ m → i ≤ n → n ≤ i → first i f ≡ Passed → Passed ≡ first m f
   turns-pass n m i e h g k = sym k ∙ ap (λ (n : ℕ). first n f) (let z : i ≡ m = omega arith in z)

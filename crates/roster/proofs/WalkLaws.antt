@@ -36,11 +36,11 @@ module _ (cs : List ℕ) (top : ℕ) (held : List ℕ) (t k : ℕ) (x : Step) wh
   pub clean : faultOf cs top held t k x ≡ Passed → Clean cs top held t x
   unfolding faultOf
   clean e =
-    let a = past (whileHeld held x) (WhileHeld t k) _ refl e in
-    let b = past (lowCeiling cs top held x) (LowCeiling t k) _ refl (a .1) in
-    let d = past (notInnermost held x) (NotInnermost t k) _ refl (b .1) in
-    let f = past (otherTask t x) (OtherTask t k) _ refl (d .1) in
-    record { free = a .0; high = b .0; inner = d .0; own = f .0 }
+      let a = past (whileHeld held x) (WhileHeld t k) _ refl e in
+      let b = past (lowCeiling cs top held x) (LowCeiling t k) _ refl (a .1) in
+      let d = past (notInnermost held x) (NotInnermost t k) _ refl (b .1) in
+      let f = past (otherTask t x) (OtherTask t k) _ refl (d .1) in
+      record { free = a .0; high = b .0; inner = d .0; own = f .0 }
 
   pub faultless : Clean cs top held t x → faultOf cs top held t k x ≡ Passed
   unfolding faultOf
@@ -62,17 +62,19 @@ distinct-enter m o held d e f =
     let low = ltb-true o m f in
     record {
       once = λ i. split o i
-        (λ g. omega (arith, times-append i held (o ∷ []), times-same i o [] g, ap (λ (j : ℕ). timesIn j held) g))
-        (λ g. omega (arith, times-append i held (o ∷ []), times-other i o [] g, d .once i));
+          (λ g. omega (arith, times-append i held (o ∷ []), times-same i o [] g, ap (λ (j : ℕ). timesIn j held) g))
+          (λ g. omega (arith, times-append i held (o ∷ []), times-other i o [] g, d .once i));
       low = λ i h. split o i
-        (λ g. omega arith)
-        (λ g. d .low i (omega (arith, times-append i held (o ∷ []), times-other i o [] g, h))) }
+          (λ g. omega arith)
+          (λ g. d .low i (omega (arith, times-append i held (o ∷ []), times-other i o [] g, h)));
+    }
 
 distinct-take : (m n : ℕ) (held : List ℕ) → Distinct m held → Distinct m (take n held)
 distinct-take m n held d =
     record {
       once = λ o. omega (arith, times-take o n held, d .once o);
-      low = λ o h. d .low o (omega (arith, times-take o n held, h)) }
+      low = λ o h. d .low o (omega (arith, times-take o n held, h));
+    }
 
 -- a step keeps them so
 pub distinct-after : (n m : ℕ) (cs : List ℕ) (top : ℕ) (held : List ℕ) (t : ℕ) (x : Step) →
@@ -93,9 +95,9 @@ module _ (n m : ℕ) (cs : List ℕ) (top t : ℕ) (steps : List Step) (listed :
   unfolding heldBefore faultIn
   distinct-before zero e = distinct-none m
   distinct-before (suc k) e =
-    let b = first-below (faultIn cs top t steps) k e in
-    let held = heldBefore steps k in
-    distinct-after n m cs top held t (stepIn steps k) (distinct-before k (b .0)) (clean cs top held t k (stepIn steps k) (b .1)) (listed k)
+      let b = first-below (faultIn cs top t steps) k e in
+      let held = heldBefore steps k in
+      distinct-after n m cs top held t (stepIn steps k) (distinct-before k (b .0)) (clean cs top held t k (stepIn steps k) (b .1)) (listed k)
 
   -- so that they have room
   pub held-room : (k : ℕ) → first k (faultIn cs top t steps) ≡ Passed → length (heldBefore steps k) ≤ m
@@ -104,34 +106,34 @@ module _ (n m : ℕ) (cs : List ℕ) (top t : ℕ) (steps : List Step) (listed :
 -- the loop over a script: the fault of a turn, what is held after it, and the script's end
 module _ (cs : List ℕ) (top t : ℕ) (steps : List Step) where
   pub fault-here : (k : ℕ) (h : Held) (x : Step) (v : Verdict) → Holds h (heldBefore steps k) → x ≡ stepIn steps k →
-    v ≡ faultOf cs top (listOf h) t k x → v ≡ faultIn cs top t steps k
+      v ≡ faultOf cs top (listOf h) t k x → v ≡ faultIn cs top t steps k
   unfolding faultIn
   fault-here k h x v r e f =
-    f ∙ (ap (λ (l : List ℕ). faultOf cs top l t k x) (r .same) ∙ ap (faultOf cs top (heldBefore steps k) t k) e)
+      f ∙ (ap (λ (l : List ℕ). faultOf cs top l t k x) (r .same) ∙ ap (faultOf cs top (heldBefore steps k) t k) e)
 
   pub fault-end : (n k : ℕ) (h : Held) (v : Verdict) → n ≡ length steps → k ≡ n → Holds h (heldBefore steps k) → stepIn steps n ≡ Finish →
-    first k (faultIn cs top t steps) ≡ Passed → v ≡ faultOf cs top (listOf h) t n Finish → v ≡ stepsFault cs top t steps
+      first k (faultIn cs top t steps) ≡ Passed → v ≡ faultOf cs top (listOf h) t n Finish → v ≡ stepsFault cs top t steps
   unfolding stepsFault
   fault-end n k h v e f r g p q =
-    let i : k ≡ length steps = f ∙ e in
-    let here = fault-here n h Finish v (subst (λ (j : ℕ). Holds h (heldBefore steps j)) f r) (sym g) q in
-    here ∙ (ap (faultIn cs top t steps) e ∙
-    sym (first-new (faultIn cs top t steps) (length steps) (subst (λ (j : ℕ). first j (faultIn cs top t steps) ≡ Passed) i p)))
+      let i : k ≡ length steps = f ∙ e in
+      let here = fault-here n h Finish v (subst (λ (j : ℕ). Holds h (heldBefore steps j)) f r) (sym g) q in
+      here ∙ (ap (faultIn cs top t steps) e ∙
+      sym (first-new (faultIn cs top t steps) (length steps) (subst (λ (j : ℕ). first j (faultIn cs top t steps) ≡ Passed) i p)))
 
 pub held-after : (steps : List Step) (k : ℕ) (h r : Held) (x : Step) → Holds h (heldBefore steps k) → x ≡ stepIn steps k →
     Holds r (heldAfter (listOf h) x) → Holds r (heldBefore steps (k + 1))
 unfolding heldBefore
 held-after steps k h r x a e b =
     let f : heldAfter (listOf h) x ≡ heldBefore steps (k + 1) =
-      ap (λ (l : List ℕ). heldAfter l x) (a .same) ∙ (ap (heldAfter (heldBefore steps k)) e ∙ ap (heldBefore steps) (sym (add-one k))) in
+    ap (λ (l : List ℕ). heldAfter l x) (a .same) ∙ (ap (heldAfter (heldBefore steps k)) e ∙ ap (heldBefore steps) (sym (add-one k))) in
     subst (Holds r) f b
 
 module _ (n m : ℕ) (cs : List ℕ) (top t : ℕ) (steps : List Step) (listed : (k : ℕ) → namesListed n m (stepIn steps k) ≡ true) where
   pub after-room : (k : ℕ) (h : Held) (x : Step) → m ≤ objectLimit → Holds h (heldBefore steps k) → x ≡ stepIn steps k →
-    first (k + 1) (faultIn cs top t steps) ≡ Passed → length (heldAfter (listOf h) x) ≤ objectLimit
+      first (k + 1) (faultIn cs top t steps) ≡ Passed → length (heldAfter (listOf h) x) ≤ objectLimit
   unfolding heldBefore
   after-room k h x b a e p =
-    let f : heldAfter (listOf h) x ≡ heldBefore steps (suc k) =
+      let f : heldAfter (listOf h) x ≡ heldBefore steps (suc k) =
       ap (λ (l : List ℕ). heldAfter l x) (a .same) ∙ ap (heldAfter (heldBefore steps k)) e in
-    let q = subst (λ (j : ℕ). first j (faultIn cs top t steps) ≡ Passed) (add-one k) p in
-    omega (arith, ap length f, held-room n m cs top t steps listed (suc k) q)
+      let q = subst (λ (j : ℕ). first j (faultIn cs top t steps) ≡ Passed) (add-one k) p in
+      omega (arith, ap length f, held-room n m cs top t steps listed (suc k) q)

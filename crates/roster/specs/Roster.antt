@@ -17,7 +17,8 @@ rosterOf s =
     record {
       bases = tabulate (taskCount s) (baseAt s);
       ceilings = tabulate (objectCount s) (ceilingAt s);
-      scripts = tabulate (taskCount s) (λ t. stepsOf (partAt s t)) }
+      scripts = tabulate (taskCount s) (λ t. stepsOf (partAt s t));
+    }
 
 -- the base and the script of a task
 abbrev pub baseOf : Roster → ℕ → ℕ

@@ -3,12 +3,12 @@ ghost use mathlib.Core.Path.{_≡_};
 ghost use Rattle.roster.specs.Answers.{numberOf, taskOf, positionOf, passed};
 use rules::Priority;
 
-pub mod format;
-pub mod steps;
 mod checks;
+pub mod format;
 mod forms;
 mod held;
 mod scripts;
+pub mod steps;
 
 pub use checks::check;
 pub use forms::form;

@@ -68,6 +68,32 @@ module _ {ord : Bool} (cs : List ℕ) (ts : List TaskRecord) (qs : List (List �
       split u x (λ e. ap (queued qs) e ∙ s .unqueued ∙ sym (out-of ready ts x o) ∙ ap (λ (v : ℕ). ready (entry ts v)) (sym e))
       (s .queueing u)
 
+  -- a record of task t with what it holds, its base and its active priority keeps the spans of holders apart, and below the runner
+  module _ (t : ℕ) (k : TaskRecord) (held : depth k ≡ depth (entry ts t)) (base : baseOf k ≡ baseOf (entry ts t))
+      (act : activeOf cs k ≡ activeOf cs (entry ts t)) where
+    apart-kept : ord ≡ true → (b c : ℕ) → (b ≡ c → ⊥) → 0 < depth (entry (set ts t k) b) → 0 < depth (entry (set ts t k) c) →
+        baseOf (entry (set ts t k) c) ≤ activeOf cs (entry (set ts t k) b) →
+        baseOf (entry (set ts t k) b) ≤ activeOf cs (entry (set ts t k) c) → ⊥
+    apart-kept on b c n i j d e =
+        s .apart on b c n (omega (arith, i, put-keeps depth ts t k held b)) (omega (arith, j, put-keeps depth ts t k held c))
+        (omega (arith, d, put-keeps baseOf ts t k base c, put-keeps (activeOf cs) ts t k act b))
+        (omega (arith, e, put-keeps baseOf ts t k base b, put-keeps (activeOf cs) ts t k act c))
+
+    above-kept : ord ≡ true → (b c : ℕ) → 0 < runs w b → (c ≡ b → ⊥) → 0 < depth (entry (set ts t k) c) →
+        activeOf cs (entry (set ts t k) c) < baseOf (entry (set ts t k) b)
+    above-kept on b c g n i =
+        let lower = s .above on b c g n (omega (arith, i, put-keeps depth ts t k held c)) in
+        omega (arith, put-keeps (activeOf cs) ts t k act c, put-keeps baseOf ts t k base b, lower)
+
+  -- a record that is ready or running, with what it holds: every holder is
+  present-placed : (t : ℕ) (k : TaskRecord) → t < length ts → depth k ≡ depth (entry ts t) → ready k + running k ≡ 1 → (u : ℕ) →
+      0 < depth (entry (set ts t k) u) → ready (entry (set ts t k) u) + running (entry (set ts t k) u) ≡ 1
+  present-placed t k low held here u g =
+      split u t (λ e. omega (arith, here, put-same ready ts t k u e low, put-same running ts t k u e low))
+      (λ n.
+      let was = s .present u (omega (arith, g, put-keeps depth ts t k held u)) in
+      omega (arith, put-other ready ts t k u n, put-other running ts t k u n, was))
+
   -- the running task goes on its way
   pub stand-out : (t : ℕ) → length ts ≤ x → 0 < runs w t → depth (entry ts t) ≡ 0 → Stand ord cs ts qs Nobody t
   unfolding runs
@@ -171,28 +197,12 @@ module _ {ord : Bool} (cs : List ℕ) (ts : List TaskRecord) (qs : List (List �
     empty = put-keeps depth ts x k refl y ∙ out-of depth ts y o;
     level = λ q u g. put-keeps (activeOf cs) ts x k refl u ∙
         split q p (λ e. row q u e g) (λ m. s .level q u (omega (arith, g, ap (timesIn u) (row-other qs p l q m))));
-    present = λ u g. split u x (λ e. omega (arith, put-same ready ts x k u e low, put-same running ts x k u e low))
-        (λ n. omega (
-          arith,
-          put-other ready ts x k u n,
-          put-other running ts x k u n,
-          s .present u
-              (omega (arith, g, put-keeps depth ts x k refl u)),
-        ));
+    present = present-placed x k low refl refl;
     heads = λ on q u g. put-keeps depth ts x k refl u ∙
         split q p (λ e. head on q u e g)
         (λ m. s .heads on q u (omega (arith, g, ap (λ (v : List ℕ). timesIn u (drop 1 v)) (row-other qs p l q m))));
-    above = λ on b c g n i. omega (
-      arith,
-      put-keeps (activeOf cs) ts x k refl c,
-      put-keeps baseOf ts x k refl b,
-      s .above on b c g n
-          (omega (arith, i, put-keeps depth ts x k refl c)),
-    );
-    apart = λ on b c n i j d e. s .apart on b c n (omega (arith, i, put-keeps depth ts x k refl b))
-        (omega (arith, j, put-keeps depth ts x k refl c))
-        (omega (arith, d, put-keeps baseOf ts x k refl c, put-keeps (activeOf cs) ts x k refl b))
-        (omega (arith, e, put-keeps baseOf ts x k refl b, put-keeps (activeOf cs) ts x k refl c));
+    above = above-kept x k refl refl refl;
+    apart = apart-kept x k refl refl refl;
   }
     where
       k : TaskRecord
@@ -249,22 +259,12 @@ module _ {ord : Bool} (cs : List ℕ) (ts : List TaskRecord) (qs : List (List �
     empty = put-keeps depth ts t k refl x ∙ s .empty;
     level = λ q u g. put-keeps (activeOf cs) ts t k refl u ∙
         split q p (λ e. row q u e g) (λ m. s .level q u (omega (arith, g, ap (timesIn u) (row-other qs p l q m))));
-    present = λ u g. split u t (λ e. omega (arith, put-same ready ts t k u e low, put-same running ts t k u e low))
-        (λ n. omega (
-          arith,
-          put-other ready ts t k u n,
-          put-other running ts t k u n,
-          s .present u
-              (omega (arith, g, put-keeps depth ts t k refl u)),
-        ));
+    present = present-placed t k low refl refl;
     heads = λ on q u g. put-keeps depth ts t k refl u ∙
         split q p (λ e. head on q u e g)
         (λ m. s .heads on q u (omega (arith, g, ap (λ (v : List ℕ). timesIn u (drop 1 v)) (row-other qs p l q m))));
     above = λ on b c g. absurd (not-suc-le-zero g);
-    apart = λ on b c n i j d e. s .apart on b c n (omega (arith, i, put-keeps depth ts t k refl b))
-        (omega (arith, j, put-keeps depth ts t k refl c))
-        (omega (arith, d, put-keeps baseOf ts t k refl c, put-keeps (activeOf cs) ts t k refl b))
-        (omega (arith, e, put-keeps baseOf ts t k refl b, put-keeps (activeOf cs) ts t k refl c));
+    apart = apart-kept t k refl refl refl;
   }
     where
       k : TaskRecord
@@ -347,14 +347,7 @@ module _ {ord : Bool} (cs : List ℕ) (ts : List TaskRecord) (qs : List (List �
               (λ (v : ℕ). timesIn u (getD qs v [])) e,
         )))
         (λ m. s .level q u (omega (arith, g, ap (timesIn u) (row-other qs p l q m))));
-    present = λ u g. split u t (λ e. omega (arith, put-same ready ts t k u e there, put-same running ts t k u e there))
-        (λ n. omega (
-          arith,
-          put-other ready ts t k u n,
-          put-other running ts t k u n,
-          s .present u
-              (omega (arith, g, put-keeps depth ts t k refl u)),
-        ));
+    present = present-placed t k there refl refl;
     heads = λ on q u g. put-keeps depth ts t k refl u ∙
         split q p
         (λ e. s .heads on p u
@@ -375,10 +368,7 @@ module _ {ord : Bool} (cs : List ℕ) (ts : List TaskRecord) (qs : List (List �
           first on c (λ f. n (f ∙ sym e)) (omega (arith, i, put-keeps depth ts t k refl c)),
         ))
         (λ m. absurd (omega (arith, g, runs-apart t b m)));
-    apart = λ on b c n i j d e. s .apart on b c n (omega (arith, i, put-keeps depth ts t k refl b))
-        (omega (arith, j, put-keeps depth ts t k refl c))
-        (omega (arith, d, put-keeps baseOf ts t k refl c, put-keeps (activeOf cs) ts t k refl b))
-        (omega (arith, e, put-keeps baseOf ts t k refl b, put-keeps (activeOf cs) ts t k refl c));
+    apart = apart-kept t k refl refl refl;
   }
     where
       q₀ : List ℕ
@@ -512,17 +502,8 @@ module _ {ord : Bool} (cs : List ℕ) (ts : List TaskRecord) (qs : List (List �
               (omega (arith, g, put-keeps depth ts t k eh u)),
         );
     heads = λ on p u g. put-keeps depth ts t k eh u ∙ s .heads on p u g;
-    above = λ on b c g n i. omega (
-      arith,
-      put-keeps (activeOf cs) ts t k ea c,
-      put-keeps baseOf ts t k eb b,
-      s .above on b c g n
-          (omega (arith, i, put-keeps depth ts t k eh c)),
-    );
-    apart = λ on b c n i j d f. s .apart on b c n (omega (arith, i, put-keeps depth ts t k eh b))
-        (omega (arith, j, put-keeps depth ts t k eh c))
-        (omega (arith, d, put-keeps baseOf ts t k eb c, put-keeps (activeOf cs) ts t k ea b))
-        (omega (arith, f, put-keeps baseOf ts t k eb b, put-keeps (activeOf cs) ts t k ea c));
+    above = above-kept t k eh eb ea;
+    apart = apart-kept t k eh eb ea;
   }
 
   -- a ready task at p leaves its queue

@@ -42,9 +42,11 @@ loop-again : tie.Need-loop-again Inv-loop μ-loop
 loop-again c =
     let h = c .before .before .before .before .before .before .args .held in
     let room : length (h .objects) ≡ objectLimit = search needs in
-    let fit : h .depth ≤ length (h .objects) = omega arith in
-    (omega arith, highest-on (rosterOf (c .before .before .before .before .before .before .args .roster .now) .ceilings) (h .objects) (h .depth) fit _ _ _ _ _
-    (c .before .before .loop-test .taken) (c .before .before .before .loop .inv .1) (c .before .ceiling-of .ensures) (c .higher .ensures))
+    let fit : h .depth ≤ length (h .objects) = omega arith in (
+      omega arith,
+      highest-on (rosterOf (c .before .before .before .before .before .before .args .roster .now) .ceilings) (h .objects) (h .depth) fit _ _ _ _ _
+          (c .before .before .loop-test .taken) (c .before .before .before .loop .inv .1) (c .before .ceiling-of .ensures) (c .higher .ensures),
+    )
 
 returns : tie.Need-returns Inv-loop μ-loop
 unfolding listOf

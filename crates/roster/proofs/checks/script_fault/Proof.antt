@@ -15,9 +15,10 @@ top-of-requires : tie.Need-top-of-requires
 top-of-requires c κs = search needs
 
 steps-fault-requires : tie.Need-steps-fault-requires
-steps-fault-requires c κs =
-    (objects-few (c .before .before .before .before .args .roster .now) (c .before .before .before .before .pre .0),
-    part-listed (c .before .before .before .before .args .roster .now) (c .before .before .before .before .pre .0) _ _ (c .before .before .before .before .pre .1) (c .before .before .script-part .ensures))
+steps-fault-requires c κs = (
+  objects-few (c .before .before .before .before .args .roster .now) (c .before .before .before .before .pre .0),
+  part-listed (c .before .before .before .before .args .roster .now) (c .before .before .before .before .pre .0) _ _ (c .before .before .before .before .pre .1) (c .before .before .script-part .ensures),
+)
 
 returns : tie.Need-returns
 returns c =

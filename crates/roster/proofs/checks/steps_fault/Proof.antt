@@ -56,9 +56,10 @@ after-requires c κs =
     let cs = rosterOf (a .roster .now) .ceilings in
     let steps = stepsOf (a .part .now) in
     let v = fault-here cs (a .top) (a .t) steps _ _ _ _ (c .before .before .before .before .before .loop .inv .1) (c .before .before .before .step-at .ensures) (c .before .before .step-fault .ensures) in
-    let p = turn-passes (faultIn cs (a .top) (a .t) steps) _ _ _ (c .before .before .before .before .before .loop .inv .2) v (c .before .passed .ensures) (not-false _ (c .if1 .left)) in
-    (c .before .before .before .before .before .loop .inv .1 .room,
-    after-room _ _ cs (a .top) (a .t) steps (c .before .before .before .before .before .before .before .before .before .pre .1) _ _ _ (c .before .before .before .before .before .before .before .before .before .pre .0) (c .before .before .before .before .before .loop .inv .1) (c .before .before .before .step-at .ensures) p)
+    let p = turn-passes (faultIn cs (a .top) (a .t) steps) _ _ _ (c .before .before .before .before .before .loop .inv .2) v (c .before .passed .ensures) (not-false _ (c .if1 .left)) in (
+      c .before .before .before .before .before .loop .inv .1 .room,
+      after-room _ _ cs (a .top) (a .t) steps (c .before .before .before .before .before .before .before .before .before .pre .1) _ _ _ (c .before .before .before .before .before .before .before .before .before .pre .0) (c .before .before .before .before .before .loop .inv .1) (c .before .before .before .step-at .ensures) p,
+    )
 
 add-k : tie.Need-add-k Inv-loop μ-loop
 add-k c = omega arith
@@ -71,10 +72,11 @@ loop-again c =
     let a = c .before .before .before .before .before .before .before .before .before .before .args in
     let cs = rosterOf (a .roster .now) .ceilings in
     let steps = stepsOf (a .part .now) in
-    let v = fault-here cs (a .top) (a .t) steps _ _ _ _ (c .before .before .before .before .before .before .loop .inv .1) (c .before .before .before .before .step-at .ensures) (c .before .before .before .step-fault .ensures) in
-    (omega arith,
-    held-after steps _ _ _ _ (c .before .before .before .before .before .before .loop .inv .1) (c .before .before .before .before .step-at .ensures) (c .after .ensures),
-    turn-passes (faultIn cs (a .top) (a .t) steps) _ _ _ (c .before .before .before .before .before .before .loop .inv .2) v (c .before .before .passed .ensures) (not-false _ (c .before .if1 .left)))
+    let v = fault-here cs (a .top) (a .t) steps _ _ _ _ (c .before .before .before .before .before .before .loop .inv .1) (c .before .before .before .before .step-at .ensures) (c .before .before .before .step-fault .ensures) in (
+      omega arith,
+      held-after steps _ _ _ _ (c .before .before .before .before .before .before .loop .inv .1) (c .before .before .before .before .step-at .ensures) (c .after .ensures),
+      turn-passes (faultIn cs (a .top) (a .t) steps) _ _ _ (c .before .before .before .before .before .before .loop .inv .2) v (c .before .before .passed .ensures) (not-false _ (c .before .if1 .left)),
+    )
 
 step-fault-requires-2 : tie.Need-step-fault-requires-2 Inv-loop μ-loop
 step-fault-requires-2 c κs = c .before .loop .inv .1 .room

@@ -39,9 +39,11 @@ loop-less c = omega arith
 
 loop-again : tie.Need-loop-again Inv-loop μ-loop
 loop-again c =
-    let part = c .before .before .before .before .before .before .args .part .now in
-    (omega arith, top-on _ _ (stepsOf part) _ _ _ _ _ (omega (arith, steps-length part)) (c .before .before .before .before .loop .inv .1)
-    (c .before .before .step-at .ensures) (c .before .own-set .ensures) (c .higher .ensures))
+    let part = c .before .before .before .before .before .before .args .part .now in (
+      omega arith,
+      top-on _ _ (stepsOf part) _ _ _ _ _ (omega (arith, steps-length part)) (c .before .before .before .before .loop .inv .1)
+          (c .before .before .step-at .ensures) (c .before .own-set .ensures) (c .higher .ensures),
+    )
 
 returns : tie.Need-returns Inv-loop μ-loop
 returns c =

@@ -51,11 +51,12 @@ loop-less c = omega arith
 
 loop-again : tie.Need-loop-again Inv-loop μ-loop
 loop-again c =
-    let laid = laid-here (c .before .before .before .before .before .before .before .args .s .now) _ _ _ (c .before .before .before .before .loop .inv .1) (c .before .before .laid-from .ensures) in
-    (omega arith,
-    ends-more (c .before .before .before .before .before .before .before .args .s .now) _ _ _ (c .before .before .before .before .loop .inv .1) (c .length-at .ensures),
-    turn-on (scriptLaid (c .before .before .before .before .before .before .before .args .s .now)) _ _ (c .before .before .before .before .loop .inv .2) laid (not-false _ (c .before .if1 .left)),
-    omega arith)
+    let laid = laid-here (c .before .before .before .before .before .before .before .args .s .now) _ _ _ (c .before .before .before .before .loop .inv .1) (c .before .before .laid-from .ensures) in (
+      omega arith,
+      ends-more (c .before .before .before .before .before .before .before .args .s .now) _ _ _ (c .before .before .before .before .loop .inv .1) (c .length-at .ensures),
+      turn-on (scriptLaid (c .before .before .before .before .before .before .before .args .s .now)) _ _ (c .before .before .before .before .loop .inv .2) laid (not-false _ (c .before .if1 .left)),
+      omega arith,
+    )
 
 task-table-requires : tie.Need-task-table-requires Inv-loop μ-loop
 task-table-requires c κs = search needs

@@ -42,9 +42,11 @@ loop-less c = omega arith
 
 loop-again : tie.Need-loop-again Inv-loop μ-loop
 loop-again c =
-    let form = stepForm (c .before .before .before .before .before .before .args .tasks) (c .before .before .before .before .before .before .args .objects) (c .before .before .before .before .before .before .args .t) (c .before .before .before .before .before .before .args .part .now) in
-    (omega arith, turn-passes form _ _ _ (c .before .before .before .before .loop .inv .1)
-    (c .before .before .step-form .ensures) (c .before .passed .ensures) (not-false _ (c .if1 .left)))
+    let form = stepForm (c .before .before .before .before .before .before .args .tasks) (c .before .before .before .before .before .before .args .objects) (c .before .before .before .before .before .before .args .t) (c .before .before .before .before .before .before .args .part .now) in (
+      omega arith,
+      turn-passes form _ _ _ (c .before .before .before .before .loop .inv .1)
+          (c .before .before .step-form .ensures) (c .before .passed .ensures) (not-false _ (c .if1 .left)),
+    )
 
 returns-2 : tie.Need-returns-2 Inv-loop μ-loop
 unfolding stepsForm
