@@ -14,3 +14,4 @@ pub mod KeptLaws
 pub mod Exactly
 pub mod PassedLaws
 pub mod ScriptLaws
+pub mod PositionLaws
