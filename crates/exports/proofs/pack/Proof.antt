@@ -1,0 +1,52 @@
+-- `exports::pack` meets its contract.
+use native.Mathlib.Omega.{arith}
+use Rattle.exports.specs.Packed.{packed}
+use borrow.Author.Needs.{needs}
+use Rattle.exports.proofs.pack.Statement.{statement}
+use Rattle.exports.proofs.pack.Tie as tie
+
+number-requires : tie.Need-number-requires
+number-requires c κs = search needs
+
+cast-number : tie.Need-cast-number
+cast-number c = search needs
+
+task-requires : tie.Need-task-requires
+task-requires c κs = search needs
+
+cast-task : tie.Need-cast-task
+cast-task c = search needs
+
+position-requires : tie.Need-position-requires
+position-requires c κs = search needs
+
+mul-result : tie.Need-mul-result
+mul-result c = search needs
+
+add-result : tie.Need-add-result
+add-result c = search needs
+
+mul-result-2 : tie.Need-mul-result-2
+mul-result-2 c = search needs
+
+add-result-2 : tie.Need-add-result-2
+add-result-2 c = search needs
+
+returns : tie.Need-returns
+unfolding packed
+returns c = omega arith
+
+pub pack-spec : {M : Type 1} → statement M
+pack-spec =
+    tie.close
+    (tie.spec
+    number-requires
+    cast-number
+    task-requires
+    cast-task
+    position-requires
+    mul-result
+    add-result
+    mul-result-2
+    add-result-2
+    returns)
