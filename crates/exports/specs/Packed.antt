@@ -2,10 +2,9 @@
 use mathlib.Core.Bool.{cond}
 use mathlib.Core.List.{List}
 use Prim.Native.Nat.{ℕ, _+_, _*_}
-use lib.ListN.{length}
 use Rattle.roster.specs.Answers.{numberOf, taskOf, positionOf, passed}
 use Rattle.roster.specs.Format.{startAt}
-use Rattle.roster.specs.Form.{scriptAnswer, scriptPart}
+use Rattle.roster.specs.Form.{scriptAnswer}
 use Rattle.roster.specs.declared.Verdict.{Verdict}
 
 -- a verdict in one number: its own in the lowest byte, the task in the next, the step above

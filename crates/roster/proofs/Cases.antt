@@ -33,10 +33,12 @@ pub whole-case : (answered (wholeCase 20) ++ answered (wholeCase 19)) ≡ (0 ∷
 unfolding Answers.first Format.wordAt Format.trailer Format.taskCount Format.objectCount Format.objectTable Format.taskTable
     Format.taskRow Format.baseAt Format.startAt Format.lengthAt Format.objectRow Format.ceilingAt Format.partAt
     Steps.tabulate Steps.setStep Steps.stepOf Steps.codeAt Steps.aAt Steps.bAt Steps.stepAt Steps.stepsOf Roster.rosterOf
-    Form.lengthGood Form.markGood Form.tablesGood Form.scriptsEnd Form.laidFrom Form.scriptLaid Form.scriptsLaid Form.countsKept Form.layoutGood
+    Form.lengthGood Form.markGood Form.tablesGood Form.scriptsEnd Form.laidFrom Form.scriptLaid Form.scriptsLaid Form.countsKept
+    Form.layoutGood
     Form.valuesGood Form.taskRowGood
     Form.objectRowGood Form.unusedZero Form.namesListed Form.standsRight Form.stepGood Form.stepForm Form.stepsForm
-    Form.scriptForm Form.scriptsForm Form.formOf Form.scriptAnswer Form.scriptPart Check.heldAfter Check.heldBefore Check.ownSet Check.topOf
+    Form.scriptForm Form.scriptsForm Form.formOf Form.scriptAnswer Form.scriptPart Check.heldAfter Check.heldBefore Check.ownSet
+    Check.topOf
     Check.whileHeld Check.lowCeiling Check.notInnermost Check.otherTask Check.faultOf Check.faultIn Check.stepsFault
     Check.topAt Check.scriptFault Check.rosterFault Check.checkOf Events.timesIn Model.highestOf Sound.below
 whole-case = refl
@@ -83,14 +85,17 @@ faulty =
     []
 
 pub faults : map answered faulty ≡
-    ((18 ∷ 0 ∷ 0 ∷ []) ∷ (17 ∷ 0 ∷ 2 ∷ []) ∷ (17 ∷ 0 ∷ 1 ∷ []) ∷ (16 ∷ 1 ∷ 0 ∷ []) ∷ (17 ∷ 0 ∷ 1 ∷ []) ∷ (14 ∷ 0 ∷ 0 ∷ []) ∷ (0 ∷ 0 ∷ 0 ∷ []) ∷ [])
+    ((18 ∷ 0 ∷ 0 ∷ []) ∷ (17 ∷ 0 ∷ 2 ∷ []) ∷ (17 ∷ 0 ∷ 1 ∷ []) ∷ (16 ∷ 1 ∷ 0 ∷ []) ∷ (17 ∷ 0 ∷ 1 ∷ []) ∷ (14 ∷ 0 ∷ 0 ∷ []) ∷
+    (0 ∷ 0 ∷ 0 ∷ []) ∷ [])
 unfolding faulty Answers.first Format.wordAt Format.trailer Format.taskCount Format.objectCount Format.objectTable Format.taskTable
     Format.taskRow Format.baseAt Format.startAt Format.lengthAt Format.objectRow Format.ceilingAt Format.partAt
     Steps.tabulate Steps.setStep Steps.stepOf Steps.codeAt Steps.aAt Steps.bAt Steps.stepAt Steps.stepsOf Roster.rosterOf
-    Form.lengthGood Form.markGood Form.tablesGood Form.scriptsEnd Form.laidFrom Form.scriptLaid Form.scriptsLaid Form.countsKept Form.layoutGood
+    Form.lengthGood Form.markGood Form.tablesGood Form.scriptsEnd Form.laidFrom Form.scriptLaid Form.scriptsLaid Form.countsKept
+    Form.layoutGood
     Form.valuesGood Form.taskRowGood
     Form.objectRowGood Form.unusedZero Form.namesListed Form.standsRight Form.stepGood Form.stepForm Form.stepsForm
-    Form.scriptForm Form.scriptsForm Form.formOf Form.scriptAnswer Form.scriptPart Check.heldAfter Check.heldBefore Check.ownSet Check.topOf
+    Form.scriptForm Form.scriptsForm Form.formOf Form.scriptAnswer Form.scriptPart Check.heldAfter Check.heldBefore Check.ownSet
+    Check.topOf
     Check.whileHeld Check.lowCeiling Check.notInnermost Check.otherTask Check.faultOf Check.faultIn Check.stepsFault
     Check.topAt Check.scriptFault Check.rosterFault Check.checkOf Events.timesIn Model.highestOf Sound.below
 faults = refl

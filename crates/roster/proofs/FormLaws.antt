@@ -1,8 +1,8 @@
 -- Laws of the form's tests, by the ways of the code: each rule from what was read.
-use mathlib.Core.Path.{_≡_, refl, ap, sym, _∙_}
-use mathlib.Core.Bool.{Bool, true, false, cond, not, _&&_}
+use mathlib.Core.Path.{_≡_, ap, sym, _∙_}
+use mathlib.Core.Bool.{Bool, true, false, cond}
 use mathlib.Core.List.{List}
-use Prim.Native.Nat.{ℕ, zero, suc, _+_, _*_, _%_, _≤_, _<_}
+use Prim.Native.Nat.{ℕ, zero, suc, _+_, _%_, _≤_, _<_}
 use native.Mathlib.Omega.{arith}
 use native.Mathlib.Numerals.{add-one}
 use borrow.Author.Tests.{eqb-true, eqb-false, eq-eqb, ne-eqb, lt-leb, le-leb}
@@ -11,8 +11,7 @@ use lib.ListN.{length}
 use Rattle.rules.specs.Limits.{taskLimit, objectLimit}
 use Rattle.rules.specs.Priorities.{inRange}
 use Rattle.rules.specs.Sound.{below}
-use Rattle.roster.specs.Limits.{smallestRoster, largestRoster, firstMark, secondMark, stepSize}
-use Rattle.roster.specs.Answers.{passed, first}
+use Rattle.roster.specs.Limits.{firstMark, secondMark, stepSize}
 use Rattle.roster.specs.Format.{byteAt, trailer, taskCount, objectCount, taskTable, objectTable}
 use Rattle.roster.specs.Format.{taskRow, objectRow, baseAt, ceilingAt, startAt, lengthAt, partAt}
 use Rattle.roster.specs.Steps.{aAt, bAt, stepAt, stepCount}
@@ -23,13 +22,14 @@ use Rattle.roster.specs.declared.Step.{Step}
 use Rattle.roster.specs.declared.Verdict.{Verdict}
 use Rattle.roster.specs.declared.Verdict.the-variants.{Passed, BadLength, BadMark, BadCounts, BadLayout, BadValues, BadStep}
 use Rattle.roster.proofs.TestLaws.{and-no, and-yes, and-left, and-right, by-test, three-first, three-second, three-third}
-use Rattle.roster.proofs.TestLaws.{below-at, below-more, below-fails}
+use Rattle.roster.proofs.TestLaws.{below-at}
 
 module _ (s : List ℕ) where
   -- 12
   pub mark-no : (at a : ℕ) → at ≡ trailer s → a ≡ byteAt s at → (a ≡ firstMark → ⊥) → false ≡ markGood s
   unfolding markGood
-  mark-no at a e f h = and-no _ _ (ap (λ (x : ℕ). eqb (byteAt s x) firstMark) (sym e) ∙ (ap (λ (x : ℕ). eqb x firstMark) (sym f) ∙ ne-eqb a firstMark h))
+  mark-no at a e f h =
+      and-no _ _ (ap (λ (x : ℕ). eqb (byteAt s x) firstMark) (sym e) ∙ (ap (λ (x : ℕ). eqb x firstMark) (sym f) ∙ ne-eqb a firstMark h))
 
   pub mark-yes : (at a b : ℕ) → at ≡ trailer s → a ≡ byteAt s at → b ≡ byteAt s (at + 1) → a ≡ firstMark → eqb b secondMark ≡ markGood s
   unfolding markGood
@@ -55,7 +55,8 @@ module _ (s : List ℕ) where
       (ap (λ (x : ℕ). leb x objectLimit) f)
 
   -- 14
-  pub tables-no : (n row table : ℕ) → n ≡ taskCount s → row ≡ taskRow s n → table ≡ objectTable s → (row ≡ table → ⊥) → false ≡ tablesGood s
+  pub tables-no : (n row table : ℕ) → n ≡ taskCount s → row ≡ taskRow s n → table ≡ objectTable s → (row ≡ table → ⊥) →
+      false ≡ tablesGood s
   unfolding tablesGood
   tables-no n row table e f g h =
       and-no _ _ (ne-eqb (taskRow s (taskCount s)) (objectTable s) (λ x. h (let y : row ≡ table = cc in y)))
@@ -72,7 +73,8 @@ module _ (s : List ℕ) where
   unfolding laidFrom
   laid-no t start at e h = and-no _ _ (ne-eqb (startAt s t) start (λ x. h (e ∙ x)))
 
-  pub laid-yes : (t start at size : ℕ) → at ≡ startAt s t → size ≡ lengthAt s t → at ≡ start → eqb (size % stepSize) 0 ≡ laidFrom s start t
+  pub laid-yes : (t start at size : ℕ) → at ≡ startAt s t → size ≡ lengthAt s t → at ≡ start →
+      eqb (size % stepSize) 0 ≡ laidFrom s start t
   unfolding laidFrom
   laid-yes t start at size e f g =
       and-yes _ _ _ (eq-eqb (startAt s t) start (sym e ∙ g)) (ap (λ (x : ℕ). eqb (x % stepSize) 0) f)
@@ -217,7 +219,8 @@ module _ (s : List ℕ) where
 
     pub scripts-close : scriptsEnd s (taskCount s) ≡ taskTable s
     unfolding scriptsLaid
-    scripts-close = eqb-true _ _ (and-right (below (taskCount s) (scriptLaid s)) (eqb (scriptsEnd s (taskCount s)) (taskTable s)) scripts-are)
+    scripts-close =
+        eqb-true _ _ (and-right (below (taskCount s) (scriptLaid s)) (eqb (scriptsEnd s (taskCount s)) (taskTable s)) scripts-are)
 
     pub script-inside : (t : ℕ) → t < taskCount s → startAt s t + lengthAt s t ≤ length s
     unfolding scriptsEnd taskRow objectRow trailer

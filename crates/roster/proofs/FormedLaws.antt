@@ -1,22 +1,19 @@
 -- What the form gives, of every roster that passes it: counts, places, values and steps in range.
 use mathlib.Core.Path.{_≡_, refl, ap, sym, _∙_}
-use mathlib.Core.Bool.{Bool, true, false, cond, not, _&&_}
+use mathlib.Core.Bool.{Bool, true, cond, not, _&&_}
 use mathlib.Core.List.{List}
 use Prim.Native.Nat.{ℕ, suc, _+_, _≤_, _<_}
-use native.Mathlib.Omega.{arith}
 use borrow.Author.Tests.{leb-true, ltb-true, ltb-false, not-false}
 use lib.Dec.{eqb, leb, ltb}
 use lib.ListN.{length}
 use Rattle.rules.specs.Limits.{taskLimit, objectLimit}
 use Rattle.rules.specs.Priorities.{inRange}
 use Rattle.rules.specs.Sound.{below}
-use Rattle.roster.specs.Answers.{passed, first}
+use Rattle.roster.specs.Answers.{passed}
 use Rattle.roster.specs.Format.{byteAt, taskRow, objectRow, taskCount, objectCount, baseAt, ceilingAt, startAt, lengthAt, partAt}
 use Rattle.roster.specs.Steps.{aAt, bAt, stepAt, stepCount, stepsOf, stepIn}
 use Rattle.roster.specs.Form.{lengthGood, markGood, countsKept, layoutGood, valuesGood, taskRowGood, objectRowGood}
 use Rattle.roster.specs.Form.{unusedZero, namesListed, standsRight, stepGood, stepForm, stepsForm, scriptForm, scriptsForm, formOf}
-use Rattle.roster.specs.declared.Step.{Step}
-use Rattle.roster.specs.declared.Verdict.{Verdict}
 use Rattle.roster.specs.declared.Verdict.the-variants.{Passed, BadLength, BadMark, BadCounts, BadLayout, BadValues, BadStep}
 use Rattle.roster.proofs.TestLaws.{truth, past, by-test, and-left, and-right, below-at, first-at}
 use Rattle.roster.proofs.StepLaws.{steps-at, steps-past}
@@ -104,7 +101,8 @@ module _ (s : List ℕ) (ok : formOf s ≡ Passed) where
       (λ x. absurd (truth (sym (ap passed f) ∙ ap (λ (b : Bool). passed (cond b Passed (BadStep t k))) x)))
 
   -- each step's numbers, and those of the script's end
-  pub step-listed : (t : ℕ) → t < taskCount s → (k : ℕ) → namesListed (taskCount s) (objectCount s) (stepIn (stepsOf (partAt s t)) k) ≡ true
+  pub step-listed : (t : ℕ) → t < taskCount s → (k : ℕ) →
+      namesListed (taskCount s) (objectCount s) (stepIn (stepsOf (partAt s t)) k) ≡ true
   unfolding stepGood namesListed
   step-listed t h k =
       let part = partAt s t in

@@ -1,39 +1,34 @@
 -- What a roster that passes gives of each task and step: counts, bases, ceilings and numbers in range, and the rules at each position.
 use mathlib.Core.Path.{_≡_, refl, ap, sym, _∙_, subst}
-use mathlib.Core.Bool.{Bool, true, false, cond, not, _&&_}
-use mathlib.Core.List.{List, [], _∷_}
-use Prim.Native.Nat.{ℕ, zero, suc, _+_, _*_, _≤_, _<_}
+use mathlib.Core.Bool.{Bool, true, cond, _&&_}
+use mathlib.Core.List.{List}
+use Prim.Native.Nat.{ℕ, zero, suc, _≤_, _<_}
 use native.Mathlib.Omega.{arith}
-use native.Mathlib.Nat.{not-suc-le-zero}
-use borrow.Author.Tests.{eqb-true, ltb-true, ltb-false, le-leb, not-false}
-use lib.Dec.{eqb, leb, ltb}
-use lib.ListN.{length, getD, drop, drop-of-length-le, List·getD-eq-default}
-use lib.Seq.{drop-cons}
-use Rattle.rules.specs.Limits.{taskLimit, objectLimit, lastDelay}
-use Rattle.rules.specs.Model.{ceilingOf, highestOf}
+use borrow.Author.Tests.{eqb-true, ltb-true, ltb-false}
+use lib.Dec.{eqb, ltb}
+use lib.ListN.{length, List·getD-eq-default}
+use Rattle.rules.specs.Limits.{taskLimit, objectLimit}
+use Rattle.rules.specs.Model.{ceilingOf}
 use Rattle.rules.specs.Priorities.{inRange, checkedOf}
 use Rattle.rules.specs.Fresh.{allOf, countsGood}
 use Rattle.rules.specs.declared.Priority.{Priority}
 use Rattle.rules.specs.declared.Checked.{Checked}
 use Rattle.rules.specs.declared.Checked.the-variants.{Good, OutOfRange}
 use Rattle.roster.specs.Answers.{passed}
-use Rattle.roster.specs.Format.{byteAt, wordAt, taskCount, objectCount, baseAt, ceilingAt, partAt}
-use Rattle.roster.specs.Steps.{tabulate, setStep, stepOf, aAt, bAt, codeAt, stepAt, stepCount, stepsOf, stepIn}
-use Rattle.roster.specs.Roster.{Roster, rosterOf, baseOf, scriptOf}
+use Rattle.roster.specs.Format.{taskCount, objectCount, baseAt, ceilingAt, partAt}
+use Rattle.roster.specs.Steps.{tabulate, setStep, aAt, bAt, stepAt, stepCount, stepIn}
+use Rattle.roster.specs.Roster.{rosterOf, baseOf, scriptOf}
 use Rattle.roster.specs.Form.{countsKept, unusedZero, namesListed, standsRight, stepGood, formOf}
-use Rattle.roster.specs.Check.{something, heldAfter, heldBefore, topAt, whileHeld, lowCeiling, faultOf, faultIn, rosterFault, checkOf, Passes}
-use Rattle.roster.specs.Kept.{stepFor, heldAt, Keeps, Location, AllKeep, Says}
+use Rattle.roster.specs.Check.{rosterFault, checkOf, Passes}
+use Rattle.roster.specs.Kept.{stepFor, Keeps, Location, AllKeep, Says}
 use Rattle.roster.specs.declared.Step.{Step}
-use Rattle.roster.specs.declared.Step.the-variants.{Enter, Leave, Delay, Work, Suspend, Release, Set, Again, Finish}
-use Rattle.roster.specs.declared.Verdict.{Verdict}
+use Rattle.roster.specs.declared.Step.the-variants.{Set, Again, Finish}
 use Rattle.roster.specs.declared.Verdict.the-variants.{Passed}
 use Rattle.roster.proofs.TestLaws.{truth, by-test, and-left, and-right, and-yes, passed-is}
-use Rattle.roster.proofs.ListLaws.{tabulate-at}
 use Rattle.roster.proofs.StepLaws.{steps-at, steps-length}
 use Rattle.roster.proofs.FormatLaws.{base-listed, ceiling-listed, script-listed, base-count, ceiling-count, script-count}
-use Rattle.roster.proofs.FormedLaws.{Formed, formed, tasks-some, tasks-few, objects-few, base-good, ceiling-good, step-good, step-listed}
-use Rattle.roster.proofs.WalkLaws.{Clean, clean}
-use Rattle.roster.proofs.KeptLaws.{faultAt, of-keeps}
+use Rattle.roster.proofs.FormedLaws.{formed, tasks-some, tasks-few}
+use Rattle.roster.proofs.FormedLaws.{objects-few, base-good, ceiling-good, step-good, step-listed}
 use Rattle.roster.proofs.Exactly.{check-says}
 
 -- a test of a whole tabulated list
@@ -115,7 +110,8 @@ module _ (s : List ℕ) (ok : Passes s) where
     here = omega (arith, base-count s)
 
     -- each step's numbers
-    pub passes-listed : (k : ℕ) → namesListed (length (rosterOf s .bases)) (length (rosterOf s .ceilings)) (stepFor (rosterOf s) t k) ≡ true
+    pub passes-listed : (k : ℕ) →
+        namesListed (length (rosterOf s .bases)) (length (rosterOf s .ceilings)) (stepFor (rosterOf s) t k) ≡ true
     passes-listed k =
         ap (λ (n : ℕ). namesListed n (length (rosterOf s .ceilings)) (stepFor (rosterOf s) t k)) (base-count s) ∙
         (ap (λ (m : ℕ). namesListed (taskCount s) m (stepFor (rosterOf s) t k)) (ceiling-count s) ∙
@@ -123,7 +119,8 @@ module _ (s : List ℕ) (ok : Passes s) where
         step-listed s passes-form t here k))
 
     -- a step inside the script, from its bytes
-    pub at-bytes : (k : ℕ) → k < length (scriptOf (rosterOf s) t) → (k < stepCount (partAt s t)) × (stepFor (rosterOf s) t k ≡ stepAt (partAt s t) k)
+    pub at-bytes : (k : ℕ) → k < length (scriptOf (rosterOf s) t) →
+        (k < stepCount (partAt s t)) × (stepFor (rosterOf s) t k ≡ stepAt (partAt s t) k)
     at-bytes k g =
         let low : k < stepCount (partAt s t) = omega (arith, ap length (script-listed s t here), steps-length (partAt s t)) in
         (low, ap (λ (l : List Step). stepIn l k) (script-listed s t here) ∙ steps-at (partAt s t) k low)

@@ -1,4 +1,5 @@
 -- The form of a roster: answers 11 to 16, each rule a definition that says that it is kept.
+use mathlib.Core.Path.{_≡_}
 use mathlib.Core.Bool.{Bool, true, false, cond, not, _&&_}
 use mathlib.Core.List.{List, []}
 use Prim.Native.Nat.{ℕ, zero, suc, _+_, _%_}
@@ -11,11 +12,12 @@ use Rattle.roster.specs.Limits.{smallestRoster, largestRoster, firstMark
 use Rattle.roster.specs.Answers.{passed, first}
 use Rattle.roster.specs.Format.{byteAt, trailer, taskCount, objectCount, taskTable, objectTable}
 use Rattle.roster.specs.Format.{taskRow, objectRow, baseAt, ceilingAt, startAt, lengthAt, partAt}
-use Rattle.roster.specs.Steps.{aAt, bAt, stepAt, stepCount}
+use Rattle.roster.specs.Steps.{aAt, bAt, stepAt, stepCount, stepIn}
 use Rattle.roster.specs.declared.Step.{Step}
 use Rattle.roster.specs.declared.Step.the-variants.{Enter, Leave, Delay, Work, Suspend, Release, Set, Again, Finish}
 use Rattle.roster.specs.declared.Verdict.{Verdict}
-use Rattle.roster.specs.declared.Verdict.the-variants.{Passed, NoSuchTask, BadLength, BadMark, BadCounts, BadLayout, BadValues, BadStep}
+use Rattle.roster.specs.declared.Verdict.the-variants.{Passed, NoSuchTask, BadLength, BadMark}
+use Rattle.roster.specs.declared.Verdict.the-variants.{BadCounts, BadLayout, BadValues, BadStep}
 
 -- 11 "length": "roster 14 to 32,768 bytes"
 unfoldable pub lengthGood : List ℕ → Bool
@@ -96,6 +98,10 @@ standsRight last (Release t) = true
 standsRight last (Set t p) = true
 standsRight last Again = last
 standsRight last Finish = true
+
+-- .. so that every step of a script, and its end, names what is listed
+abbrev pub AllListed : ℕ → ℕ → List Step → Type 0
+AllListed n m steps = (k : ℕ) → namesListed n m (stepIn steps k) ≡ true
 
 unfoldable pub stepGood : ℕ → ℕ → Bool → ℕ → ℕ → Step → Bool
 stepGood n m last a b x = unusedZero a b x && namesListed n m x && standsRight last x

@@ -1,14 +1,14 @@
 // The check of a roster: answers 17 to 20.
 ghost use mathlib.Core.Path.{_≡_};
-ghost use mathlib.Core.Bool.{true, cond};
-ghost use Prim.Native.Nat.{ℕ, _≤_, _<_, max};
+ghost use mathlib.Core.Bool.{cond};
+ghost use Prim.Native.Nat.{_≤_, _<_, max};
 ghost use lib.Dec.{eqb};
 ghost use Rattle.rules.specs.Limits.{objectLimit};
 ghost use Rattle.rules.specs.Model.{highestOf};
 ghost use Rattle.roster.specs.Format.{taskCount, objectCount};
-ghost use Rattle.roster.specs.Steps.{stepsOf, stepIn};
+ghost use Rattle.roster.specs.Steps.{stepsOf};
 ghost use Rattle.roster.specs.Roster.{rosterOf};
-ghost use Rattle.roster.specs.Form.{namesListed, formOf};
+ghost use Rattle.roster.specs.Form.{AllListed, formOf};
 ghost use Rattle.roster.specs.Check.{something, isInnermost, ownSet, topOf, faultOf, stepsFault, scriptFault, rosterFault, checkOf};
 ghost use Rattle.roster.specs.Held.{listOf};
 ghost use Rattle.roster.specs.declared.Step.the-variants.{Enter, Set};
@@ -153,7 +153,7 @@ fn step_fault(roster: &[u8], held: Held, top: u8, t: u8, k: usize, x: Step) -> V
 // 17 to 20, of one script: the first fault, the script's end counting as a step.
 fn steps_fault(roster: &[u8], part: &[u8], top: u8, t: u8) -> Verdict
     requires { ⌜ objectCount (now roster) ≤ objectLimit ⌝ }
-    requires { ⌜ ((k : ℕ) → namesListed (taskCount (now roster)) (objectCount (now roster)) (stepIn (stepsOf (now part)) k) ≡ true) ⌝ }
+    requires { ⌜ AllListed (taskCount (now roster)) (objectCount (now roster)) (stepsOf (now part)) ⌝ }
     ensures { λ r. ⌜ r ≡ stepsFault (rosterOf (now (roster .entry)) .ceilings) top t (stepsOf (now (part .entry))) ⌝ }
 {
     let n = part.len() / Limits::STEP;

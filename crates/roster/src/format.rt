@@ -4,7 +4,7 @@ ghost use Prim.Native.Nat.{_+_, _≤_};
 ghost use lib.ListN.{length};
 ghost use Rattle.rules.specs.Model.{ceilingOf};
 ghost use Rattle.roster.specs.Format.{byteAt, wordAt, trailer, taskCount, objectCount, taskTable, objectTable};
-ghost use Rattle.roster.specs.Format.{taskRow, objectRow, baseAt, startAt, lengthAt, ceilingAt, partAt};
+ghost use Rattle.roster.specs.Format.{taskRow, objectRow, baseAt, startAt, lengthAt, partAt};
 ghost use Rattle.roster.specs.Roster.{rosterOf, baseOf};
 use crate::Limits;
 

@@ -27,10 +27,18 @@ cast-result : tie.Need-cast-result
 cast-result c = search needs
 
 returns : tie.Need-returns
-returns c = start-found (c .before .before .before .before .before .args .roster .now) _ _ _ (c .before .before .before .script-answer .ensures) (c .before .before .passed .ensures) _ (c .before .if1 .taken) (c .start-at .ensures)
+returns c =
+    let c2 = c .before .before in
+    let c3 = c2 .before in
+    let c5 = c3 .before .before in
+    start-found (c5 .args .roster .now) _ _ _ (c3 .script-answer .ensures) (c2 .passed .ensures) _ (c .before .if1 .taken)
+    (c .start-at .ensures)
 
 returns-2 : tie.Need-returns-2
-returns-2 c = start-none (c .before .before .before .before .args .roster .now) _ _ _ (c .before .before .script-answer .ensures) (c .before .passed .ensures) (c .if1 .left)
+returns-2 c =
+    let c2 = c .before .before in
+    let c4 = c2 .before .before in
+    start-none (c4 .args .roster .now) _ _ _ (c2 .script-answer .ensures) (c .before .passed .ensures) (c .if1 .left)
 
 pub dispatch-script-start-spec : {M : Type 1} → statement M
 dispatch-script-start-spec =

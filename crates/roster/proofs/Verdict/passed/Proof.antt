@@ -1,6 +1,5 @@
 -- `roster::Verdict::passed` meets its contract.
 use mathlib.Core.Path.{ap}
-use Rattle.roster.specs.Answers.{numberOf}
 use Prim.Native.Nat.{ℕ}
 use lib.Dec.{eqb}
 use borrow.Author.Needs.{needs}

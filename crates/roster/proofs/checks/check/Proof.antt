@@ -12,15 +12,24 @@ passed-requires : tie.Need-passed-requires
 passed-requires c κs = search needs
 
 returns : tie.Need-returns
-returns c = check-form (c .before .before .before .before .args .roster .now) _ _ (c .before .before .form .ensures) (c .before .passed .ensures) (not-true _ (c .if1 .taken))
+returns c =
+    let c2 = c .before .before in
+    let c4 = c2 .before .before in
+    check-form (c4 .args .roster .now) _ _ (c2 .form .ensures) (c .before .passed .ensures) (not-true _ (c .if1 .taken))
 
 roster-fault-requires : tie.Need-roster-fault-requires
-roster-fault-requires c κs = form-passed (c .before .before .before .before .args .roster .now) _ _ (c .before .before .form .ensures) (c .before .passed .ensures) (not-false _ (c .if1 .left))
+roster-fault-requires c κs =
+    let c2 = c .before .before in
+    let c4 = c2 .before .before in
+    form-passed (c4 .args .roster .now) _ _ (c2 .form .ensures) (c .before .passed .ensures) (not-false _ (c .if1 .left))
 
 returns-2 : tie.Need-returns-2
 returns-2 c =
-    let form = form-passed (c .before .before .before .before .before .args .roster .now) _ _ (c .before .before .before .form .ensures) (c .before .before .passed .ensures) (not-false _ (c .before .if1 .left)) in
-    check-rules (c .before .before .before .before .before .args .roster .now) _ form (c .roster-fault .ensures)
+    let c2 = c .before .before in
+    let c3 = c2 .before in
+    let c5 = c3 .before .before in
+    let form = form-passed (c5 .args .roster .now) _ _ (c3 .form .ensures) (c2 .passed .ensures) (not-false _ (c .before .if1 .left)) in
+    check-rules (c5 .args .roster .now) _ form (c .roster-fault .ensures)
 
 pub check-spec : {M : Type 1} → statement M
 check-spec =

@@ -9,7 +9,9 @@ has-requires : tie.Need-has-requires
 has-requires c κs = search needs
 
 returns : tie.Need-returns
-returns c = enter-held (rosterOf (c .before .before .before .args .roster .now) .ceilings) _ _ _ _ _ _ (c .before .has .ensures) (c .if1 .taken)
+returns c =
+    let c3 = c .before .before .before in
+    enter-held (rosterOf (c3 .args .roster .now) .ceilings) _ _ _ _ _ _ (c .before .has .ensures) (c .if1 .taken)
 
 ceiling-of-requires : tie.Need-ceiling-of-requires
 ceiling-of-requires c κs = search needs
@@ -18,10 +20,22 @@ highest-requires : tie.Need-highest-requires
 highest-requires c κs = search needs
 
 returns-2 : tie.Need-returns-2
-returns-2 c = enter-low (rosterOf (c .before .before .before .before .before .before .args .roster .now) .ceilings) _ _ _ _ _ _ _ _ (c .before .before .before .before .has .ensures) (c .before .before .before .if1 .left) (c .before .before .ceiling-of .ensures) (c .before .highest .ensures) (c .if2 .taken)
+returns-2 c =
+    let c2 = c .before .before in
+    let c3 = c2 .before in
+    let c4 = c3 .before in
+    let c6 = c4 .before .before in
+    enter-low (rosterOf (c6 .args .roster .now) .ceilings) _ _ _ _ _ _ _ _ (c4 .has .ensures) (c3 .if1 .left)
+    (c2 .ceiling-of .ensures) (c .before .highest .ensures) (c .if2 .taken)
 
 returns-3 : tie.Need-returns-3
-returns-3 c = enter-fits (rosterOf (c .before .before .before .before .before .before .args .roster .now) .ceilings) _ _ _ _ _ _ _ _ (c .before .before .before .before .has .ensures) (c .before .before .before .if1 .left) (c .before .before .ceiling-of .ensures) (c .before .highest .ensures) (c .if2 .left)
+returns-3 c =
+    let c2 = c .before .before in
+    let c3 = c2 .before in
+    let c4 = c3 .before in
+    let c6 = c4 .before .before in
+    enter-fits (rosterOf (c6 .args .roster .now) .ceilings) _ _ _ _ _ _ _ _ (c4 .has .ensures) (c3 .if1 .left)
+    (c2 .ceiling-of .ensures) (c .before .highest .ensures) (c .if2 .left)
 
 pub enter-fault-spec : {M : Type 1} → statement M
 enter-fault-spec =

@@ -15,7 +15,8 @@ use Rattle.roster.proofs.checks.highest.Tie as tie
 
 abbrev Inv-loop : tie.InvT-loop
 Inv-loop roster top objects n p₀ i₀ p i =
-    (i ≤ n) × (highestOf (rosterOf roster .ceilings) top (take n objects) ≡ highestOf (rosterOf roster .ceilings) p (drop i (take n objects)))
+    (i ≤ n) × (highestOf (rosterOf roster .ceilings) top (take n objects) ≡ highestOf (rosterOf roster .ceilings) p
+    (drop i (take n objects)))
 
 abbrev μ-loop : tie.MeasureT-loop
 μ-loop roster top objects n p₀ i₀ p i = n - i
@@ -40,21 +41,26 @@ loop-less c = omega arith
 
 loop-again : tie.Need-loop-again Inv-loop μ-loop
 loop-again c =
-    let h = c .before .before .before .before .before .before .args .held in
+    let c2 = c .before .before in
+    let c3 = c2 .before in
+    let c6 = c3 .before .before .before in
+    let h = c6 .args .held in
     let room : length (h .objects) ≡ objectLimit = search needs in
     let fit : h .depth ≤ length (h .objects) = omega arith in (
       omega arith,
-      highest-on (rosterOf (c .before .before .before .before .before .before .args .roster .now) .ceilings) (h .objects) (h .depth) fit _ _ _ _ _
-          (c .before .before .loop-test .taken) (c .before .before .before .loop .inv .1) (c .before .ceiling-of .ensures) (c .higher .ensures),
+      highest-on (rosterOf (c6 .args .roster .now) .ceilings) (h .objects) (h .depth) fit _ _ _ _ _
+          (c2 .loop-test .taken) (c3 .loop .inv .1) (c .before .ceiling-of .ensures) (c .higher .ensures),
     )
 
 returns : tie.Need-returns Inv-loop μ-loop
 unfolding listOf
 returns c =
-    let h = c .before .before .before .before .args .held in
+    let c4 = c .before .before .before .before in
+    let h = c4 .args .held in
     let room : length (h .objects) ≡ objectLimit = search needs in
     let fit : h .depth ≤ length (h .objects) = omega arith in
-    highest-end (rosterOf (c .before .before .before .before .args .roster .now) .ceilings) (h .objects) (h .depth) fit _ _ _ (c .loop-test .left) (c .before .loop .inv .1)
+    highest-end (rosterOf (c4 .args .roster .now) .ceilings) (h .objects) (h .depth) fit _ _ _ (c .loop-test .left)
+    (c .before .loop .inv .1)
 
 pub highest-spec : {M : Type 1} → statement M
 highest-spec =

@@ -38,8 +38,14 @@ passed-requires c κs = search needs
 returns : tie.Need-returns Inv-loop μ-loop
 unfolding rosterFault
 returns c =
-    turn-finds (scriptFault (rosterOf (c .before .before .before .before .before .before .before .args .roster .now))) _ _ _ _ _ (c .before .before .before .before .before .task-count .ensures ∙ sym (script-count (c .before .before .before .before .before .before .before .args .roster .now))) (c .before .before .before .loop-test .taken)
-    (c .before .before .before .before .loop .inv .1) (c .before .before .script-fault .ensures) (c .before .passed .ensures) (not-true _ (c .if1 .taken))
+    let c2 = c .before .before in
+    let c3 = c2 .before in
+    let c4 = c3 .before in
+    let c5 = c4 .before in
+    let c7 = c5 .before .before in
+    turn-finds (scriptFault (rosterOf (c7 .args .roster .now))) _ _ _ _ _
+    (c5 .task-count .ensures ∙ sym (script-count (c7 .args .roster .now))) (c3 .loop-test .taken)
+    (c4 .loop .inv .1) (c2 .script-fault .ensures) (c .before .passed .ensures) (not-true _ (c .if1 .taken))
 
 add-t : tie.Need-add-t Inv-loop μ-loop
 add-t c = search needs
@@ -49,12 +55,21 @@ loop-less c = omega arith
 
 loop-again : tie.Need-loop-again Inv-loop μ-loop
 loop-again c =
-    (omega arith, turn-passes (scriptFault (rosterOf (c .before .before .before .before .before .before .before .args .roster .now))) _ _ _ (c .before .before .before .before .loop .inv .1) (c .before .before .script-fault .ensures) (c .before .passed .ensures) (not-false _ (c .if1 .left)))
+    let c2 = c .before .before in
+    let c4 = c2 .before .before in
+    let c7 = c4 .before .before .before in (
+      omega arith,
+      turn-passes (scriptFault (rosterOf (c7 .args .roster .now))) _ _ _ (c4 .loop .inv .1) (c2 .script-fault .ensures)
+          (c .before .passed .ensures) (not-false _ (c .if1 .left)),
+    )
 
 returns-2 : tie.Need-returns-2 Inv-loop μ-loop
 unfolding rosterFault
 returns-2 c =
-    turns-pass (scriptFault (rosterOf (c .before .before .before .before .args .roster .now))) _ _ _ (c .before .before .task-count .ensures ∙ sym (script-count (c .before .before .before .before .args .roster .now))) (c .before .loop .inv .0)
+    let c2 = c .before .before in
+    let c4 = c2 .before .before in
+    turns-pass (scriptFault (rosterOf (c4 .args .roster .now))) _ _ _
+    (c2 .task-count .ensures ∙ sym (script-count (c4 .args .roster .now))) (c .before .loop .inv .0)
     (c .loop-test .left) (c .before .loop .inv .1)
 
 pub roster-fault-spec : {M : Type 1} → statement M

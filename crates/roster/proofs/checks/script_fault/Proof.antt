@@ -15,14 +15,20 @@ top-of-requires : tie.Need-top-of-requires
 top-of-requires c κs = search needs
 
 steps-fault-requires : tie.Need-steps-fault-requires
-steps-fault-requires c κs = (
-  objects-few (c .before .before .before .before .args .roster .now) (c .before .before .before .before .pre .0),
-  part-listed (c .before .before .before .before .args .roster .now) (c .before .before .before .before .pre .0) _ _ (c .before .before .before .before .pre .1) (c .before .before .script-part .ensures),
-)
+steps-fault-requires c κs =
+    let c2 = c .before .before in
+    let c4 = c2 .before .before in (
+      objects-few (c4 .args .roster .now) (c4 .pre .0),
+      part-listed (c4 .args .roster .now) (c4 .pre .0) _ _ (c4 .pre .1) (c2 .script-part .ensures),
+    )
 
 returns : tie.Need-returns
 returns c =
-    script-fault (c .before .before .before .before .before .args .roster .now) _ _ _ _ _ (c .before .before .before .before .before .pre .1) (c .before .before .before .script-part .ensures) (c .before .before .base-at .ensures) (c .before .top-of .ensures) (c .steps-fault .ensures)
+    let c2 = c .before .before in
+    let c3 = c2 .before in
+    let c5 = c3 .before .before in
+    script-fault (c5 .args .roster .now) _ _ _ _ _ (c5 .pre .1) (c3 .script-part .ensures) (c2 .base-at .ensures)
+    (c .before .top-of .ensures) (c .steps-fault .ensures)
 
 pub script-fault-spec : {M : Type 1} → statement M
 script-fault-spec =

@@ -43,22 +43,32 @@ passed-requires c κs = search needs
 returns : tie.Need-returns Inv-loop μ-loop
 unfolding stepsFault
 returns c =
-    let a = c .before .before .before .before .before .before .before .before .before .args in
+    let c2 = c .before .before in
+    let c3 = c2 .before in
+    let c5 = c3 .before .before in
+    let c9 = c5 .before .before .before .before in
+    let a = c9 .args in
     let cs = rosterOf (a .roster .now) .ceilings in
     let steps = stepsOf (a .part .now) in
-    let v = fault-here cs (a .top) (a .t) steps _ _ _ _ (c .before .before .before .before .before .loop .inv .1) (c .before .before .before .step-at .ensures) (c .before .before .step-fault .ensures) in
-    let low : c .before .before .before .before .before .loop .k < suc (length steps) = omega (arith, steps-length (a .part .now)) in
-    turn-finds (faultIn cs (a .top) (a .t) steps) _ _ _ _ _ refl low (c .before .before .before .before .before .loop .inv .2) v (c .before .passed .ensures) (not-true _ (c .if1 .taken))
+    let v = fault-here cs (a .top) (a .t) steps _ _ _ _ (c5 .loop .inv .1) (c3 .step-at .ensures) (c2 .step-fault .ensures) in
+    let low : c5 .loop .k < suc (length steps) = omega (arith, steps-length (a .part .now)) in
+    turn-finds (faultIn cs (a .top) (a .t) steps) _ _ _ _ _ refl low (c5 .loop .inv .2) v (c .before .passed .ensures)
+    (not-true _ (c .if1 .taken))
 
 after-requires : tie.Need-after-requires Inv-loop μ-loop
 after-requires c κs =
-    let a = c .before .before .before .before .before .before .before .before .before .args in
+    let c2 = c .before .before in
+    let c3 = c2 .before in
+    let c5 = c3 .before .before in
+    let c9 = c5 .before .before .before .before in
+    let a = c9 .args in
     let cs = rosterOf (a .roster .now) .ceilings in
     let steps = stepsOf (a .part .now) in
-    let v = fault-here cs (a .top) (a .t) steps _ _ _ _ (c .before .before .before .before .before .loop .inv .1) (c .before .before .before .step-at .ensures) (c .before .before .step-fault .ensures) in
-    let p = turn-passes (faultIn cs (a .top) (a .t) steps) _ _ _ (c .before .before .before .before .before .loop .inv .2) v (c .before .passed .ensures) (not-false _ (c .if1 .left)) in (
-      c .before .before .before .before .before .loop .inv .1 .room,
-      after-room _ _ cs (a .top) (a .t) steps (c .before .before .before .before .before .before .before .before .before .pre .1) _ _ _ (c .before .before .before .before .before .before .before .before .before .pre .0) (c .before .before .before .before .before .loop .inv .1) (c .before .before .before .step-at .ensures) p,
+    let v = fault-here cs (a .top) (a .t) steps _ _ _ _ (c5 .loop .inv .1) (c3 .step-at .ensures) (c2 .step-fault .ensures) in
+    let p = turn-passes (faultIn cs (a .top) (a .t) steps) _ _ _ (c5 .loop .inv .2) v (c .before .passed .ensures)
+    (not-false _ (c .if1 .left)) in (
+      c5 .loop .inv .1 .room,
+      after-room _ _ cs (a .top) (a .t) steps (c9 .pre .1) _ _ _ (c9 .pre .0) (c5 .loop .inv .1) (c3 .step-at .ensures) p,
     )
 
 add-k : tie.Need-add-k Inv-loop μ-loop
@@ -69,13 +79,19 @@ loop-less c = omega arith
 
 loop-again : tie.Need-loop-again Inv-loop μ-loop
 loop-again c =
-    let a = c .before .before .before .before .before .before .before .before .before .before .args in
+    let c2 = c .before .before in
+    let c3 = c2 .before in
+    let c4 = c3 .before in
+    let c6 = c4 .before .before in
+    let c10 = c6 .before .before .before .before in
+    let a = c10 .args in
     let cs = rosterOf (a .roster .now) .ceilings in
     let steps = stepsOf (a .part .now) in
-    let v = fault-here cs (a .top) (a .t) steps _ _ _ _ (c .before .before .before .before .before .before .loop .inv .1) (c .before .before .before .before .step-at .ensures) (c .before .before .before .step-fault .ensures) in (
+    let v = fault-here cs (a .top) (a .t) steps _ _ _ _ (c6 .loop .inv .1) (c4 .step-at .ensures) (c3 .step-fault .ensures) in (
       omega arith,
-      held-after steps _ _ _ _ (c .before .before .before .before .before .before .loop .inv .1) (c .before .before .before .before .step-at .ensures) (c .after .ensures),
-      turn-passes (faultIn cs (a .top) (a .t) steps) _ _ _ (c .before .before .before .before .before .before .loop .inv .2) v (c .before .before .passed .ensures) (not-false _ (c .before .if1 .left)),
+      held-after steps _ _ _ _ (c6 .loop .inv .1) (c4 .step-at .ensures) (c .after .ensures),
+      turn-passes (faultIn cs (a .top) (a .t) steps) _ _ _ (c6 .loop .inv .2) v (c2 .passed .ensures)
+          (not-false _ (c .before .if1 .left)),
     )
 
 step-fault-requires-2 : tie.Need-step-fault-requires-2 Inv-loop μ-loop

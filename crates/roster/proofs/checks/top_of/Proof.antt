@@ -3,7 +3,6 @@ use native.Mathlib.Omega.{arith}
 use mathlib.Core.Path.{_≡_, refl}
 use Prim.Native.Nat.{_≤_, _-_}
 use lib.ListN.{length}
-use Rattle.rules.specs.Limits.{objectLimit}
 use borrow.Author.Needs.{needs}
 use lib.ListN.{drop}
 use Rattle.roster.specs.Steps.{stepsOf}

@@ -1,5 +1,5 @@
 -- `roster::format::ceiling_of` meets its contract.
-use mathlib.Core.Path.{sym, _∙_}
+use mathlib.Core.Path.{sym}
 use Rattle.roster.specs.Format.{ceilingAt}
 use Rattle.roster.proofs.FormatLaws.{ceiling-listed, ceiling-unlisted}
 use borrow.Author.Needs.{needs}
@@ -20,7 +20,9 @@ byte-at-requires c κs = search needs
 
 returns : tie.Need-returns
 unfolding ceilingAt
-returns c = cc (ceiling-listed (c .before .before .before .before .before .args .s .now) (c .before .before .before .before .before .args .o) (search needs))
+returns c =
+    let c5 = c .before .before .before .before .before in
+    cc (ceiling-listed (c5 .args .s .now) (c5 .args .o) (search needs))
 
 returns-2 : tie.Need-returns-2
 returns-2 c = sym (ceiling-unlisted (c .before .before .before .args .s .now) (c .before .before .before .args .o) (search needs))

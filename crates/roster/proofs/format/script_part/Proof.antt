@@ -29,7 +29,10 @@ part-result-end : tie.Need-part-result-end
 part-result-end c = search needs
 
 returns : tie.Need-returns
-returns c = part-between (c .before .before .before .before .args .s .now) (c .before .before .before .before .args .t) (c .before .before .start-at .result) (c .before .length-at .result) (cc) (cc)
+returns c =
+    let c2 = c .before .before in
+    let c4 = c2 .before .before in
+    part-between (c4 .args .s .now) (c4 .args .t) (c2 .start-at .result) (c .before .length-at .result) (cc) (cc)
 
 pub script-part-spec : {M : Type 1} → statement M
 script-part-spec =

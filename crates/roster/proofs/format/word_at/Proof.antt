@@ -34,7 +34,9 @@ returns c = omega arith
 
 returns-2 : tie.Need-returns-2
 unfolding wordAt
-returns-2 c = omega (arith, List·getD-eq-default (c .before .before .before .args .s .now) 0 {n = c .before .before .before .args .i + 1} (omega arith))
+returns-2 c =
+    let c3 = c .before .before .before in
+    omega (arith, List·getD-eq-default (c3 .args .s .now) 0 {n = c3 .args .i + 1} (omega arith))
 
 pub word-at-spec : {M : Type 1} → statement M
 word-at-spec =

@@ -38,10 +38,17 @@ layout-good-requires c κs = search needs
 
 returns-4 : tie.Need-returns-4
 returns-4 c =
-    form-4 (c .before .before .before .before .before .before .before .before .before .args .s .now)
-    (sym (c .before .before .before .before .before .before .before .length-good .ensures) ∙ not-false _ (c .before .before .before .before .before .before .if1 .left))
-    (sym (c .before .before .before .before .before .mark-good .ensures) ∙ not-false _ (c .before .before .before .before .if2 .left))
-    (sym (c .before .before .before .counts-good .ensures) ∙ not-false _ (c .before .before .if3 .left))
+    let c2 = c .before .before in
+    let c3 = c2 .before in
+    let c4 = c3 .before in
+    let c5 = c4 .before in
+    let c6 = c5 .before in
+    let c7 = c6 .before in
+    let c9 = c7 .before .before in
+    form-4 (c9 .args .s .now)
+    (sym (c7 .length-good .ensures) ∙ not-false _ (c6 .if1 .left))
+    (sym (c5 .mark-good .ensures) ∙ not-false _ (c4 .if2 .left))
+    (sym (c3 .counts-good .ensures) ∙ not-false _ (c2 .if3 .left))
     (sym (c .before .layout-good .ensures) ∙ not-true _ (c .if4 .taken))
 
 values-good-requires : tie.Need-values-good-requires
@@ -49,11 +56,20 @@ values-good-requires c κs = search needs
 
 returns-5 : tie.Need-returns-5
 returns-5 c =
-    form-5 (c .before .before .before .before .before .before .before .before .before .before .before .args .s .now)
-    (sym (c .before .before .before .before .before .before .before .before .before .length-good .ensures) ∙ not-false _ (c .before .before .before .before .before .before .before .before .if1 .left))
-    (sym (c .before .before .before .before .before .before .before .mark-good .ensures) ∙ not-false _ (c .before .before .before .before .before .before .if2 .left))
-    (sym (c .before .before .before .before .before .counts-good .ensures) ∙ not-false _ (c .before .before .before .before .if3 .left))
-    (sym (c .before .before .before .layout-good .ensures) ∙ not-false _ (c .before .before .if4 .left))
+    let c2 = c .before .before in
+    let c3 = c2 .before in
+    let c4 = c3 .before in
+    let c5 = c4 .before in
+    let c6 = c5 .before in
+    let c7 = c6 .before in
+    let c8 = c7 .before in
+    let c9 = c8 .before in
+    let c11 = c9 .before .before in
+    form-5 (c11 .args .s .now)
+    (sym (c9 .length-good .ensures) ∙ not-false _ (c8 .if1 .left))
+    (sym (c7 .mark-good .ensures) ∙ not-false _ (c6 .if2 .left))
+    (sym (c5 .counts-good .ensures) ∙ not-false _ (c4 .if3 .left))
+    (sym (c3 .layout-good .ensures) ∙ not-false _ (c2 .if4 .left))
     (sym (c .before .values-good .ensures) ∙ not-true _ (c .if5 .taken))
 
 scripts-form-requires : tie.Need-scripts-form-requires
@@ -61,12 +77,22 @@ scripts-form-requires c κs = sym (c .before .before .before .layout-good .ensur
 
 returns-6 : tie.Need-returns-6
 returns-6 c =
-    c .scripts-form .ensures ∙ form-6 (c .before .before .before .before .before .before .before .before .before .before .before .before .args .s .now)
-    (sym (c .before .before .before .before .before .before .before .before .before .before .length-good .ensures) ∙ not-false _ (c .before .before .before .before .before .before .before .before .before .if1 .left))
-    (sym (c .before .before .before .before .before .before .before .before .mark-good .ensures) ∙ not-false _ (c .before .before .before .before .before .before .before .if2 .left))
-    (sym (c .before .before .before .before .before .before .counts-good .ensures) ∙ not-false _ (c .before .before .before .before .before .if3 .left))
-    (sym (c .before .before .before .before .layout-good .ensures) ∙ not-false _ (c .before .before .before .if4 .left))
-    (sym (c .before .before .values-good .ensures) ∙ not-false _ (c .before .if5 .left))
+    let c2 = c .before .before in
+    let c3 = c2 .before in
+    let c4 = c3 .before in
+    let c5 = c4 .before in
+    let c6 = c5 .before in
+    let c7 = c6 .before in
+    let c8 = c7 .before in
+    let c9 = c8 .before in
+    let c10 = c9 .before in
+    let c12 = c10 .before .before in
+    c .scripts-form .ensures ∙ form-6 (c12 .args .s .now)
+    (sym (c10 .length-good .ensures) ∙ not-false _ (c9 .if1 .left))
+    (sym (c8 .mark-good .ensures) ∙ not-false _ (c7 .if2 .left))
+    (sym (c6 .counts-good .ensures) ∙ not-false _ (c5 .if3 .left))
+    (sym (c4 .layout-good .ensures) ∙ not-false _ (c3 .if4 .left))
+    (sym (c2 .values-good .ensures) ∙ not-false _ (c .before .if5 .left))
 
 pub form-spec : {M : Type 1} → statement M
 form-spec =

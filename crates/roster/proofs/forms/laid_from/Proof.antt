@@ -20,7 +20,10 @@ returns : tie.Need-returns
 returns c = laid-no (c .before .before .before .before .args .s .now) _ _ _ (c .before .before .start-at .ensures) (c .if1 .taken)
 
 returns-2 : tie.Need-returns-2
-returns-2 c = laid-yes (c .before .before .before .before .args .s .now) _ _ _ _ (c .before .before .start-at .ensures) (c .before .length-at .ensures) (c .if1 .left)
+returns-2 c =
+    let c2 = c .before .before in
+    let c4 = c2 .before .before in
+    laid-yes (c4 .args .s .now) _ _ _ _ (c2 .start-at .ensures) (c .before .length-at .ensures) (c .if1 .left)
 
 pub laid-from-spec : {M : Type 1} → statement M
 laid-from-spec =

@@ -15,7 +15,10 @@ scripts-laid-requires : tie.Need-scripts-laid-requires
 scripts-laid-requires c κs = search needs
 
 returns-2 : tie.Need-returns-2
-returns-2 c = layout-scripts (c .before .before .before .before .args .s .now) _ _ (c .before .before .tables-good .ensures) (not-false _ (c .before .if1 .left)) (c .scripts-laid .ensures)
+returns-2 c =
+    let c2 = c .before .before in
+    let c4 = c2 .before .before in
+    layout-scripts (c4 .args .s .now) _ _ (c2 .tables-good .ensures) (not-false _ (c .before .if1 .left)) (c .scripts-laid .ensures)
 
 pub layout-good-spec : {M : Type 1} → statement M
 layout-good-spec =

@@ -20,10 +20,18 @@ byte-at-requires-2 : tie.Need-byte-at-requires-2
 byte-at-requires-2 c κs = search needs
 
 returns : tie.Need-returns
-returns c = mark-no (c .before .before .before .before .before .args .s .now) _ _ (c .before .before .before .trailer-of .ensures) (c .before .before .byte-at .ensures) (c .if1 .taken)
+returns c =
+    let c2 = c .before .before in
+    let c3 = c2 .before in
+    let c5 = c3 .before .before in
+    mark-no (c5 .args .s .now) _ _ (c3 .trailer-of .ensures) (c2 .byte-at .ensures) (c .if1 .taken)
 
 returns-2 : tie.Need-returns-2
-returns-2 c = mark-yes (c .before .before .before .before .before .args .s .now) _ _ _ (c .before .before .before .trailer-of .ensures) (c .before .before .byte-at .ensures) (c .before .byte-at2 .ensures) (c .if1 .left)
+returns-2 c =
+    let c2 = c .before .before in
+    let c3 = c2 .before in
+    let c5 = c3 .before .before in
+    mark-yes (c5 .args .s .now) _ _ _ (c3 .trailer-of .ensures) (c2 .byte-at .ensures) (c .before .byte-at2 .ensures) (c .if1 .left)
 
 pub mark-good-spec : {M : Type 1} → statement M
 mark-good-spec =

@@ -1,5 +1,5 @@
 -- `roster::forms::names_listed` meets its contract.
-use mathlib.Core.Path.{sym, ap, _∙_}
+use mathlib.Core.Path.{sym, ap}
 use Rattle.roster.specs.Form.{namesListed}
 use borrow.Author.Needs.{needs}
 use Rattle.roster.proofs.forms.names_listed.Statement.{statement}
@@ -34,11 +34,15 @@ enum-told-5 c = search needs
 
 returns : tie.Need-returns
 unfolding namesListed
-returns c = sym (ap (namesListed (c .before .before .before .args .tasks) (c .before .before .before .args .objects)) (c .before .x .given .1))
+returns c =
+    let c3 = c .before .before .before in
+    sym (ap (namesListed (c3 .args .tasks) (c3 .args .objects)) (c .before .x .given .1))
 
 returns-2 : tie.Need-returns-2
 unfolding namesListed
-returns-2 c = sym (ap (namesListed (c .before .before .before .args .tasks) (c .before .before .before .args .objects)) (c .before .x2 .given .1))
+returns-2 c =
+    let c3 = c .before .before .before in
+    sym (ap (namesListed (c3 .args .tasks) (c3 .args .objects)) (c .before .x2 .given .1))
 
 returns-3 : tie.Need-returns-3
 unfolding namesListed
@@ -54,11 +58,15 @@ returns-5 c = sym (ap (namesListed (c .before .before .args .tasks) (c .before .
 
 returns-6 : tie.Need-returns-6
 unfolding namesListed
-returns-6 c = sym (ap (namesListed (c .before .before .before .args .tasks) (c .before .before .before .args .objects)) (c .before .x3 .given .1))
+returns-6 c =
+    let c3 = c .before .before .before in
+    sym (ap (namesListed (c3 .args .tasks) (c3 .args .objects)) (c .before .x3 .given .1))
 
 returns-7 : tie.Need-returns-7
 unfolding namesListed
-returns-7 c = sym (ap (namesListed (c .before .before .before .args .tasks) (c .before .before .before .args .objects)) (c .before .x4 .given .1))
+returns-7 c =
+    let c3 = c .before .before .before in
+    sym (ap (namesListed (c3 .args .tasks) (c3 .args .objects)) (c .before .x4 .given .1))
 
 returns-8 : tie.Need-returns-8
 unfolding namesListed

@@ -24,10 +24,21 @@ in-range-requires : tie.Need-in-range-requires
 in-range-requires c κs = search needs
 
 returns : tie.Need-returns
-returns c = object-no (c .before .before .before .before .before .before .args .s .now) _ _ _ _ (c .before .before .before .before .object-row .ensures) (c .before .before .before .byte-at .ensures) (c .before .in-range .ensures) (not-true _ (c .if1 .taken))
+returns c =
+    let c3 = c .before .before .before in
+    let c4 = c3 .before in
+    let c6 = c4 .before .before in
+    object-no (c6 .args .s .now) _ _ _ _ (c4 .object-row .ensures) (c3 .byte-at .ensures) (c .before .in-range .ensures)
+    (not-true _ (c .if1 .taken))
 
 returns-2 : tie.Need-returns-2
-returns-2 c = object-yes (c .before .before .before .before .before .before .args .s .now) _ _ _ _ _ (c .before .before .before .before .object-row .ensures) (c .before .before .before .byte-at .ensures) (c .before .before .byte-at2 .ensures) (c .before .in-range .ensures) (not-false _ (c .if1 .left))
+returns-2 c =
+    let c2 = c .before .before in
+    let c3 = c2 .before in
+    let c4 = c3 .before in
+    let c6 = c4 .before .before in
+    object-yes (c6 .args .s .now) _ _ _ _ _ (c4 .object-row .ensures) (c3 .byte-at .ensures) (c2 .byte-at2 .ensures)
+    (c .before .in-range .ensures) (not-false _ (c .if1 .left))
 
 pub object-row-good-spec : {M : Type 1} → statement M
 object-row-good-spec =

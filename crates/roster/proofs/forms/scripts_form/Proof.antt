@@ -29,7 +29,9 @@ unfolding first
 loop-holds c = (omega arith, refl)
 
 script-part-requires : tie.Need-script-part-requires Inv-loop μ-loop
-script-part-requires c κs = script-inside (c .before .before .before .before .before .args .s .now) (c .before .before .before .before .before .pre) (c .before .loop .t) (omega arith)
+script-part-requires c κs =
+    let c5 = c .before .before .before .before .before in
+    script-inside (c5 .args .s .now) (c5 .pre) (c .before .loop .t) (omega arith)
 
 steps-form-requires : tie.Need-steps-form-requires Inv-loop μ-loop
 steps-form-requires c κs = search needs
@@ -40,9 +42,17 @@ passed-requires c κs = search needs
 returns : tie.Need-returns Inv-loop μ-loop
 unfolding scriptsForm
 returns c =
-    let v = script-form (c .before .before .before .before .before .before .before .before .before .args .s .now) _ _ _ _ _ (c .before .before .before .before .before .before .before .task-count .ensures) (c .before .before .before .before .before .before .object-count .ensures) (c .before .before .before .script-part .ensures) (c .before .before .steps-form .ensures) in
-    turn-finds (scriptForm (c .before .before .before .before .before .before .before .before .before .args .s .now)) _ _ _ _ _ (c .before .before .before .before .before .before .before .task-count .ensures) (c .before .before .before .before .loop-test .taken)
-    (c .before .before .before .before .before .loop .inv .1) v (c .before .passed .ensures) (not-true _ (c .if1 .taken))
+    let c2 = c .before .before in
+    let c3 = c2 .before in
+    let c4 = c3 .before in
+    let c5 = c4 .before in
+    let c6 = c5 .before in
+    let c7 = c6 .before in
+    let c9 = c7 .before .before in
+    let v = script-form (c9 .args .s .now) _ _ _ _ _ (c7 .task-count .ensures) (c6 .object-count .ensures)
+    (c3 .script-part .ensures) (c2 .steps-form .ensures) in
+    turn-finds (scriptForm (c9 .args .s .now)) _ _ _ _ _ (c7 .task-count .ensures) (c4 .loop-test .taken)
+    (c5 .loop .inv .1) v (c .before .passed .ensures) (not-true _ (c .if1 .taken))
 
 add-t : tie.Need-add-t Inv-loop μ-loop
 add-t c = search needs
@@ -52,13 +62,25 @@ loop-less c = omega arith
 
 loop-again : tie.Need-loop-again Inv-loop μ-loop
 loop-again c =
-    let v = script-form (c .before .before .before .before .before .before .before .before .before .args .s .now) _ _ _ _ _ (c .before .before .before .before .before .before .before .task-count .ensures) (c .before .before .before .before .before .before .object-count .ensures) (c .before .before .before .script-part .ensures) (c .before .before .steps-form .ensures) in
-    (omega arith, turn-passes (scriptForm (c .before .before .before .before .before .before .before .before .before .args .s .now)) _ _ _ (c .before .before .before .before .before .loop .inv .1) v (c .before .passed .ensures) (not-false _ (c .if1 .left)))
+    let c2 = c .before .before in
+    let c3 = c2 .before in
+    let c5 = c3 .before .before in
+    let c6 = c5 .before in
+    let c7 = c6 .before in
+    let c9 = c7 .before .before in
+    let v = script-form (c9 .args .s .now) _ _ _ _ _ (c7 .task-count .ensures) (c6 .object-count .ensures)
+    (c3 .script-part .ensures) (c2 .steps-form .ensures) in (
+      omega arith,
+      turn-passes (scriptForm (c9 .args .s .now)) _ _ _ (c5 .loop .inv .1) v (c .before .passed .ensures)
+          (not-false _ (c .if1 .left)),
+    )
 
 returns-2 : tie.Need-returns-2 Inv-loop μ-loop
 unfolding scriptsForm
 returns-2 c =
-    turns-pass (scriptForm (c .before .before .before .before .before .args .s .now)) _ _ _ (c .before .before .before .task-count .ensures) (c .before .loop .inv .0) (c .loop-test .left)
+    let c3 = c .before .before .before in
+    let c5 = c3 .before .before in
+    turns-pass (scriptForm (c5 .args .s .now)) _ _ _ (c3 .task-count .ensures) (c .before .loop .inv .0) (c .loop-test .left)
     (c .before .loop .inv .1)
 
 pub scripts-form-spec : {M : Type 1} → statement M

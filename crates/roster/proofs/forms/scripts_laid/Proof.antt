@@ -1,7 +1,7 @@
 -- `roster::forms::scripts_laid` meets its contract.
 use native.Mathlib.Omega.{arith}
 use borrow.Author.Tests.{not-true, not-false}
-use mathlib.Core.Path.{_≡_, refl, _∙_}
+use mathlib.Core.Path.{_≡_, refl}
 use mathlib.Core.Bool.{true}
 use Prim.Native.Nat.{_≤_, _*_, _-_}
 use Rattle.rules.specs.Sound.{below}
@@ -30,9 +30,13 @@ laid-from-requires c κs = search needs
 
 returns : tie.Need-returns Inv-loop μ-loop
 returns c =
-    let laid = laid-here (c .before .before .before .before .before .before .args .s .now) _ _ _ (c .before .before .before .loop .inv .1) (c .before .laid-from .ensures) in
-    scripts-no (c .before .before .before .before .before .before .args .s .now) (turn-fails (scriptLaid (c .before .before .before .before .before .before .args .s .now)) _ _ _ _ (c .before .before .before .before .task-count .ensures)
-    (c .before .before .loop-test .taken) laid (not-true _ (c .if1 .taken)))
+    let c2 = c .before .before in
+    let c3 = c2 .before in
+    let c4 = c3 .before in
+    let c6 = c4 .before .before in
+    let laid = laid-here (c6 .args .s .now) _ _ _ (c3 .loop .inv .1) (c .before .laid-from .ensures) in
+    scripts-no (c6 .args .s .now) (turn-fails (scriptLaid (c6 .args .s .now)) _ _ _ _ (c4 .task-count .ensures)
+    (c2 .loop-test .taken) laid (not-true _ (c .if1 .taken)))
 
 length-at-requires : tie.Need-length-at-requires Inv-loop μ-loop
 length-at-requires c κs = search needs
@@ -51,10 +55,13 @@ loop-less c = omega arith
 
 loop-again : tie.Need-loop-again Inv-loop μ-loop
 loop-again c =
-    let laid = laid-here (c .before .before .before .before .before .before .before .args .s .now) _ _ _ (c .before .before .before .before .loop .inv .1) (c .before .before .laid-from .ensures) in (
+    let c2 = c .before .before in
+    let c4 = c2 .before .before in
+    let c7 = c4 .before .before .before in
+    let laid = laid-here (c7 .args .s .now) _ _ _ (c4 .loop .inv .1) (c2 .laid-from .ensures) in (
       omega arith,
-      ends-more (c .before .before .before .before .before .before .before .args .s .now) _ _ _ (c .before .before .before .before .loop .inv .1) (c .length-at .ensures),
-      turn-on (scriptLaid (c .before .before .before .before .before .before .before .args .s .now)) _ _ (c .before .before .before .before .loop .inv .2) laid (not-false _ (c .before .if1 .left)),
+      ends-more (c7 .args .s .now) _ _ _ (c4 .loop .inv .1) (c .length-at .ensures),
+      turn-on (scriptLaid (c7 .args .s .now)) _ _ (c4 .loop .inv .2) laid (not-false _ (c .before .if1 .left)),
       omega arith,
     )
 
@@ -66,8 +73,11 @@ cast-table c = search needs
 
 returns-2 : tie.Need-returns-2 Inv-loop μ-loop
 returns-2 c =
-    scripts-end (c .before .before .before .before .before .args .s .now) _ _ _ _ (c .before .before .before .task-count .ensures) (c .before .before .loop .inv .0) (c .before .loop-test .left)
-    (c .before .before .loop .inv .1) (c .before .before .loop .inv .2) (c .task-table .ensures)
+    let c2 = c .before .before in
+    let c3 = c2 .before in
+    let c5 = c3 .before .before in
+    scripts-end (c5 .args .s .now) _ _ _ _ (c3 .task-count .ensures) (c2 .loop .inv .0) (c .before .loop-test .left)
+    (c2 .loop .inv .1) (c2 .loop .inv .2) (c .task-table .ensures)
 
 pub scripts-laid-spec : {M : Type 1} → statement M
 scripts-laid-spec =

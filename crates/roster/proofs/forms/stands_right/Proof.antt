@@ -1,5 +1,5 @@
 -- `roster::forms::stands_right` meets its contract.
-use mathlib.Core.Path.{sym, ap, _∙_}
+use mathlib.Core.Path.{sym, ap}
 use Rattle.roster.specs.Form.{standsRight}
 use borrow.Author.Needs.{needs}
 use Rattle.roster.proofs.forms.stands_right.Statement.{statement}

@@ -1,5 +1,5 @@
 -- `roster::forms::step_form` meets its contract.
-use mathlib.Core.Path.{ap, sym, _∙_}
+use mathlib.Core.Path.{ap, _∙_}
 use Prim.Native.Nat.{ℕ}
 use native.Mathlib.Numerals.{add-one}
 use lib.Dec.{eqb}
@@ -37,18 +37,26 @@ step-good-requires c κs = search needs
 returns : tie.Need-returns
 unfolding aAt bAt
 returns c =
-    let k = c .before .before .before .before .before .before .args .k in
-    let x = (c .before .before .step-at .ensures) ∙ steps-at (c .before .before .before .before .before .before .args .part .now) k (c .before .before .before .before .before .before .pre) in
-    form-good _ _ _ (c .before .before .before .before .before .before .args .part .now) k _ _ _ _ _ (c .before .before .before .before .byte-at .ensures) (c .before .before .before .word-at .ensures) x
-    (ap (λ (n : ℕ). eqb n (stepCount (c .before .before .before .before .before .before .args .part .now))) (add-one k)) (c .before .step-good .ensures) (c .if1 .taken)
+    let c2 = c .before .before in
+    let c3 = c2 .before in
+    let c4 = c3 .before in
+    let c6 = c4 .before .before in
+    let k = c6 .args .k in
+    let x = (c2 .step-at .ensures) ∙ steps-at (c6 .args .part .now) k (c6 .pre) in
+    form-good _ _ _ (c6 .args .part .now) k _ _ _ _ _ (c4 .byte-at .ensures) (c3 .word-at .ensures) x
+    (ap (λ (n : ℕ). eqb n (stepCount (c6 .args .part .now))) (add-one k)) (c .before .step-good .ensures) (c .if1 .taken)
 
 returns-2 : tie.Need-returns-2
 unfolding aAt bAt
 returns-2 c =
-    let k = c .before .before .before .before .before .before .args .k in
-    let x = (c .before .before .step-at .ensures) ∙ steps-at (c .before .before .before .before .before .before .args .part .now) k (c .before .before .before .before .before .before .pre) in
-    form-broken _ _ _ (c .before .before .before .before .before .before .args .part .now) k _ _ _ _ _ (c .before .before .before .before .byte-at .ensures) (c .before .before .before .word-at .ensures) x
-    (ap (λ (n : ℕ). eqb n (stepCount (c .before .before .before .before .before .before .args .part .now))) (add-one k)) (c .before .step-good .ensures) (c .if1 .left)
+    let c2 = c .before .before in
+    let c3 = c2 .before in
+    let c4 = c3 .before in
+    let c6 = c4 .before .before in
+    let k = c6 .args .k in
+    let x = (c2 .step-at .ensures) ∙ steps-at (c6 .args .part .now) k (c6 .pre) in
+    form-broken _ _ _ (c6 .args .part .now) k _ _ _ _ _ (c4 .byte-at .ensures) (c3 .word-at .ensures) x
+    (ap (λ (n : ℕ). eqb n (stepCount (c6 .args .part .now))) (add-one k)) (c .before .step-good .ensures) (c .if1 .left)
 
 pub step-form-spec : {M : Type 1} → statement M
 step-form-spec =

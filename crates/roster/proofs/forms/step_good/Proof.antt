@@ -15,15 +15,22 @@ names-listed-requires : tie.Need-names-listed-requires
 names-listed-requires c κs = search needs
 
 returns-2 : tie.Need-returns-2
-returns-2 c = good-unlisted _ _ _ _ _ _ _ _ (c .before .before .before .unused-zero .ensures) (not-false _ (c .before .before .if1 .left)) (c .before .names-listed .ensures) (not-true _ (c .if2 .taken))
+returns-2 c =
+    let c2 = c .before .before in
+    let c3 = c2 .before in
+    good-unlisted _ _ _ _ _ _ _ _ (c3 .unused-zero .ensures) (not-false _ (c2 .if1 .left)) (c .before .names-listed .ensures)
+    (not-true _ (c .if2 .taken))
 
 stands-right-requires : tie.Need-stands-right-requires
 stands-right-requires c κs = search needs
 
 returns-3 : tie.Need-returns-3
 returns-3 c =
-    good-rest _ _ _ _ _ _ _ _ _ (c .before .before .before .before .unused-zero .ensures) (not-false _ (c .before .before .before .if1 .left))
-    (c .before .before .names-listed .ensures) (not-false _ (c .before .if2 .left)) (c .stands-right .ensures)
+    let c2 = c .before .before in
+    let c3 = c2 .before in
+    let c4 = c3 .before in
+    good-rest _ _ _ _ _ _ _ _ _ (c4 .unused-zero .ensures) (not-false _ (c3 .if1 .left))
+    (c2 .names-listed .ensures) (not-false _ (c .before .if2 .left)) (c .stands-right .ensures)
 
 pub step-good-spec : {M : Type 1} → statement M
 step-good-spec =

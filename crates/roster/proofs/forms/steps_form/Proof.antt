@@ -30,9 +30,13 @@ passed-requires c κs = search needs
 returns : tie.Need-returns Inv-loop μ-loop
 unfolding stepsForm
 returns c =
-    let form = stepForm (c .before .before .before .before .before .before .args .tasks) (c .before .before .before .before .before .before .args .objects) (c .before .before .before .before .before .before .args .t) (c .before .before .before .before .before .before .args .part .now) in
-    turn-finds form _ _ _ _ _ refl (c .before .before .before .loop-test .taken)
-    (c .before .before .before .before .loop .inv .1) (c .before .before .step-form .ensures) (c .before .passed .ensures) (not-true _ (c .if1 .taken))
+    let c2 = c .before .before in
+    let c3 = c2 .before in
+    let c4 = c3 .before in
+    let c6 = c4 .before .before in
+    let form = stepForm (c6 .args .tasks) (c6 .args .objects) (c6 .args .t) (c6 .args .part .now) in
+    turn-finds form _ _ _ _ _ refl (c3 .loop-test .taken)
+    (c4 .loop .inv .1) (c2 .step-form .ensures) (c .before .passed .ensures) (not-true _ (c .if1 .taken))
 
 add-k : tie.Need-add-k Inv-loop μ-loop
 add-k c = omega arith
@@ -42,16 +46,20 @@ loop-less c = omega arith
 
 loop-again : tie.Need-loop-again Inv-loop μ-loop
 loop-again c =
-    let form = stepForm (c .before .before .before .before .before .before .args .tasks) (c .before .before .before .before .before .before .args .objects) (c .before .before .before .before .before .before .args .t) (c .before .before .before .before .before .before .args .part .now) in (
+    let c2 = c .before .before in
+    let c4 = c2 .before .before in
+    let c6 = c4 .before .before in
+    let form = stepForm (c6 .args .tasks) (c6 .args .objects) (c6 .args .t) (c6 .args .part .now) in (
       omega arith,
-      turn-passes form _ _ _ (c .before .before .before .before .loop .inv .1)
-          (c .before .before .step-form .ensures) (c .before .passed .ensures) (not-false _ (c .if1 .left)),
+      turn-passes form _ _ _ (c4 .loop .inv .1)
+          (c2 .step-form .ensures) (c .before .passed .ensures) (not-false _ (c .if1 .left)),
     )
 
 returns-2 : tie.Need-returns-2 Inv-loop μ-loop
 unfolding stepsForm
 returns-2 c =
-    let form = stepForm (c .before .before .before .args .tasks) (c .before .before .before .args .objects) (c .before .before .before .args .t) (c .before .before .before .args .part .now) in
+    let c3 = c .before .before .before in
+    let form = stepForm (c3 .args .tasks) (c3 .args .objects) (c3 .args .t) (c3 .args .part .now) in
     turns-pass form _ _ _ refl (c .before .loop .inv .0) (c .loop-test .left) (c .before .loop .inv .1)
 
 pub steps-form-spec : {M : Type 1} → statement M

@@ -26,15 +26,26 @@ cast-table : tie.Need-cast-table
 cast-table c = search needs
 
 returns : tie.Need-returns
-returns c = tables-no (c .before .before .before .before .before .before .before .args .s .now) _ _ _ (c .before .before .before .before .before .task-count .ensures) (c .before .before .before .task-row .ensures) (c .before .object-table .ensures) (c .if1 .taken)
+returns c =
+    let c3 = c .before .before .before in
+    let c5 = c3 .before .before in
+    let c7 = c5 .before .before in
+    tables-no (c7 .args .s .now) _ _ _ (c5 .task-count .ensures) (c3 .task-row .ensures) (c .before .object-table .ensures)
+    (c .if1 .taken)
 
 trailer-of-requires : tie.Need-trailer-of-requires
 trailer-of-requires c κs = search needs
 
 returns-2 : tie.Need-returns-2
 returns-2 c =
-    tables-yes (c .before .before .before .before .before .before .before .before .args .s .now) _ _ _ _ _ _ (c .before .before .before .before .before .before .task-count .ensures) (c .before .before .before .before .before .object-count .ensures)
-    (c .before .before .before .before .task-row .ensures) (c .before .before .before .object-row .ensures) (c .before .before .object-table .ensures) (c .trailer-of .ensures) (c .before .if1 .left)
+    let c2 = c .before .before in
+    let c3 = c2 .before in
+    let c4 = c3 .before in
+    let c5 = c4 .before in
+    let c6 = c5 .before in
+    let c8 = c6 .before .before in
+    tables-yes (c8 .args .s .now) _ _ _ _ _ _ (c6 .task-count .ensures) (c5 .object-count .ensures)
+    (c4 .task-row .ensures) (c3 .object-row .ensures) (c2 .object-table .ensures) (c .trailer-of .ensures) (c .before .if1 .left)
 
 pub tables-good-spec : {M : Type 1} → statement M
 tables-good-spec =

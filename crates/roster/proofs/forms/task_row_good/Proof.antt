@@ -24,10 +24,19 @@ in-range-requires : tie.Need-in-range-requires
 in-range-requires c κs = search needs
 
 returns : tie.Need-returns
-returns c = task-no (c .before .before .before .before .before .before .args .s .now) _ _ _ (c .before .before .before .base-at .ensures) (c .before .in-range .ensures) (not-true _ (c .if1 .taken))
+returns c =
+    let c3 = c .before .before .before in
+    let c6 = c3 .before .before .before in
+    task-no (c6 .args .s .now) _ _ _ (c3 .base-at .ensures) (c .before .in-range .ensures) (not-true _ (c .if1 .taken))
 
 returns-2 : tie.Need-returns-2
-returns-2 c = task-yes (c .before .before .before .before .before .before .args .s .now) _ _ _ _ _ (c .before .before .before .base-at .ensures) (c .before .before .before .before .task-row .ensures) (c .before .before .byte-at .ensures) (c .before .in-range .ensures) (not-false _ (c .if1 .left))
+returns-2 c =
+    let c2 = c .before .before in
+    let c3 = c2 .before in
+    let c4 = c3 .before in
+    let c6 = c4 .before .before in
+    task-yes (c6 .args .s .now) _ _ _ _ _ (c3 .base-at .ensures) (c4 .task-row .ensures) (c2 .byte-at .ensures)
+    (c .before .in-range .ensures) (not-false _ (c .if1 .left))
 
 pub task-row-good-spec : {M : Type 1} → statement M
 task-row-good-spec =

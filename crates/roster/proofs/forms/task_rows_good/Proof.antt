@@ -1,7 +1,7 @@
 -- `roster::forms::task_rows_good` meets its contract.
 use native.Mathlib.Omega.{arith}
 use borrow.Author.Tests.{not-true, not-false}
-use mathlib.Core.Path.{_≡_, refl, _∙_}
+use mathlib.Core.Path.{_≡_, refl}
 use mathlib.Core.Bool.{true}
 use Prim.Native.Nat.{_≤_, _-_}
 use Rattle.rules.specs.Sound.{below}
@@ -29,7 +29,10 @@ task-row-good-requires c κs = search needs
 
 returns : tie.Need-returns Inv-loop μ-loop
 returns c =
-    turn-fails (taskRowGood (c .before .before .before .before .before .before .args .s .now)) _ _ _ _ (c .before .before .before .before .task-count .ensures) (c .before .before .loop-test .taken)
+    let c2 = c .before .before in
+    let c4 = c2 .before .before in
+    let c6 = c4 .before .before in
+    turn-fails (taskRowGood (c6 .args .s .now)) _ _ _ _ (c4 .task-count .ensures) (c2 .loop-test .taken)
     (c .before .task-row-good .ensures) (not-true _ (c .if1 .taken))
 
 add-t : tie.Need-add-t Inv-loop μ-loop
@@ -47,7 +50,9 @@ loop-again c = (
 
 returns-2 : tie.Need-returns-2 Inv-loop μ-loop
 returns-2 c =
-    turns-end (taskRowGood (c .before .before .before .before .args .s .now)) _ _ _ (c .before .before .task-count .ensures) (c .before .loop .inv .0) (c .loop-test .left)
+    let c2 = c .before .before in
+    let c4 = c2 .before .before in
+    turns-end (taskRowGood (c4 .args .s .now)) _ _ _ (c2 .task-count .ensures) (c .before .loop .inv .0) (c .loop-test .left)
     (c .before .loop .inv .1)
 
 pub task-rows-good-spec : {M : Type 1} → statement M

@@ -55,11 +55,15 @@ returns-3 c = sym (ap (unusedZero (c .before .before .args .a) (c .before .befor
 
 returns-4 : tie.Need-returns-4
 unfolding unusedZero
-returns-4 c = c .both-zero .ensures ∙ sym (ap (unusedZero (c .before .before .before .args .a) (c .before .before .before .args .b)) (c .before .enum-told4 .given .1))
+returns-4 c =
+    let c3 = c .before .before .before in
+    c .both-zero .ensures ∙ sym (ap (unusedZero (c3 .args .a) (c3 .args .b)) (c .before .enum-told4 .given .1))
 
 returns-5 : tie.Need-returns-5
 unfolding unusedZero
-returns-5 c = c .both-zero2 .ensures ∙ sym (ap (unusedZero (c .before .before .before .args .a) (c .before .before .before .args .b)) (c .before .enum-told5 .given .1))
+returns-5 c =
+    let c3 = c .before .before .before in
+    c .both-zero2 .ensures ∙ sym (ap (unusedZero (c3 .args .a) (c3 .args .b)) (c .before .enum-told5 .given .1))
 
 returns-6 : tie.Need-returns-6
 unfolding unusedZero
@@ -71,7 +75,9 @@ returns-7 c = sym (ap (unusedZero (c .before .before .args .a) (c .before .befor
 
 returns-8 : tie.Need-returns-8
 unfolding unusedZero
-returns-8 c = c .both-zero3 .ensures ∙ sym (ap (unusedZero (c .before .before .before .args .a) (c .before .before .before .args .b)) (c .before .enum-told8 .given .1))
+returns-8 c =
+    let c3 = c .before .before .before in
+    c .both-zero3 .ensures ∙ sym (ap (unusedZero (c3 .args .a) (c3 .args .b)) (c .before .enum-told8 .given .1))
 
 returns-9 : tie.Need-returns-9
 unfolding unusedZero

@@ -15,7 +15,11 @@ object-rows-good-requires : tie.Need-object-rows-good-requires
 object-rows-good-requires c κs = search needs
 
 returns-2 : tie.Need-returns-2
-returns-2 c = values-objects (c .before .before .before .before .args .s .now) _ _ (c .before .before .task-rows-good .ensures) (not-false _ (c .before .if1 .left)) (c .object-rows-good .ensures)
+returns-2 c =
+    let c2 = c .before .before in
+    let c4 = c2 .before .before in
+    values-objects (c4 .args .s .now) _ _ (c2 .task-rows-good .ensures) (not-false _ (c .before .if1 .left))
+    (c .object-rows-good .ensures)
 
 pub values-good-spec : {M : Type 1} → statement M
 values-good-spec =

@@ -1,7 +1,6 @@
 -- `roster::scripts::script` meets its contract.
 use native.Mathlib.Omega.{arith}
 use mathlib.Core.Path.{refl}
-use Rattle.rules.specs.Limits.{taskLimit}
 use Rattle.roster.proofs.FormedLaws.{tasks-few, part-inside}
 use Rattle.roster.proofs.AnswerLaws.{answered-form, answered-task, answered, part-whole, part-empty}
 use borrow.Author.Needs.{needs}
@@ -29,7 +28,12 @@ script-part-requires c κs =
     part-inside s (answered-form s t ok) t (answered-task s t ok)
 
 returns : tie.Need-returns
-returns c = part-whole (c .before .before .before .before .before .args .roster .now) _ _ _ (c .before .before .before .script-answer .ensures) (c .before .before .passed .ensures) _ (c .before .if1 .taken) (c .script-part .ensures)
+returns c =
+    let c2 = c .before .before in
+    let c3 = c2 .before in
+    let c5 = c3 .before .before in
+    part-whole (c5 .args .roster .now) _ _ _ (c3 .script-answer .ensures) (c2 .passed .ensures) _ (c .before .if1 .taken)
+    (c .script-part .ensures)
 
 sub-result : tie.Need-sub-result
 sub-result c = search needs
@@ -41,7 +45,11 @@ part-result-end : tie.Need-part-result-end
 part-result-end c = search needs
 
 returns-2 : tie.Need-returns-2
-returns-2 c = part-empty (c .before .before .before .before .before .args .roster .now) _ _ _ (c .before .before .before .script-answer .ensures) (c .before .before .passed .ensures) _ (c .before .if1 .left) refl
+returns-2 c =
+    let c2 = c .before .before in
+    let c3 = c2 .before in
+    let c5 = c3 .before .before in
+    part-empty (c5 .args .roster .now) _ _ _ (c3 .script-answer .ensures) (c2 .passed .ensures) _ (c .before .if1 .left) refl
 
 pub script-spec : {M : Type 1} → statement M
 script-spec =

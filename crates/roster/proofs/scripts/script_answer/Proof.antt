@@ -12,7 +12,10 @@ passed-requires : tie.Need-passed-requires
 passed-requires c κs = search needs
 
 returns : tie.Need-returns
-returns c = answer-form (c .before .before .before .before .args .roster .now) _ _ (c .before .before .form .ensures) (c .before .passed .ensures) _ (not-true _ (c .if1 .taken))
+returns c =
+    let c2 = c .before .before in
+    let c4 = c2 .before .before in
+    answer-form (c4 .args .roster .now) _ _ (c2 .form .ensures) (c .before .passed .ensures) _ (not-true _ (c .if1 .taken))
 
 task-count-requires : tie.Need-task-count-requires
 task-count-requires c κs = search needs
@@ -22,13 +25,21 @@ cast-n c = search needs
 
 returns-2 : tie.Need-returns-2
 returns-2 c =
-    let form = form-passed (c .before .before .before .before .before .before .args .roster .now) _ _ (c .before .before .before .before .form .ensures) (c .before .before .before .passed .ensures) (not-false _ (c .before .before .if1 .left)) in
-    answer-task (c .before .before .before .before .before .before .args .roster .now) _ _ form (c .before .task-count .ensures) (c .if2 .taken)
+    let c2 = c .before .before in
+    let c3 = c2 .before in
+    let c4 = c3 .before in
+    let c6 = c4 .before .before in
+    let form = form-passed (c6 .args .roster .now) _ _ (c4 .form .ensures) (c3 .passed .ensures) (not-false _ (c2 .if1 .left)) in
+    answer-task (c6 .args .roster .now) _ _ form (c .before .task-count .ensures) (c .if2 .taken)
 
 returns-3 : tie.Need-returns-3
 returns-3 c =
-    let form = form-passed (c .before .before .before .before .before .before .args .roster .now) _ _ (c .before .before .before .before .form .ensures) (c .before .before .before .passed .ensures) (not-false _ (c .before .before .if1 .left)) in
-    answer-none (c .before .before .before .before .before .before .args .roster .now) _ _ form (c .before .task-count .ensures) (c .if2 .left)
+    let c2 = c .before .before in
+    let c3 = c2 .before in
+    let c4 = c3 .before in
+    let c6 = c4 .before .before in
+    let form = form-passed (c6 .args .roster .now) _ _ (c4 .form .ensures) (c3 .passed .ensures) (not-false _ (c2 .if1 .left)) in
+    answer-none (c6 .args .roster .now) _ _ form (c .before .task-count .ensures) (c .if2 .left)
 
 pub script-answer-spec : {M : Type 1} → statement M
 script-answer-spec =

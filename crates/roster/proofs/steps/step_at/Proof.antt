@@ -29,7 +29,9 @@ step-of-requires c κs = search needs
 
 returns : tie.Need-returns
 unfolding stepAt codeAt aAt bAt
-returns c = cc (steps-at (c .before .before .before .before .before .before .args .part .now) (c .before .before .before .before .before .before .args .k) (search needs))
+returns c =
+    let c6 = c .before .before .before .before .before .before in
+    cc (steps-at (c6 .args .part .now) (c6 .args .k) (search needs))
 
 returns-2 : tie.Need-returns-2
 returns-2 c = sym (steps-past (c .before .before .args .part .now) (c .before .before .args .k) (search needs))

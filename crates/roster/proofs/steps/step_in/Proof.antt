@@ -1,7 +1,6 @@
 -- `roster::steps::step_in` meets its contract.
 use mathlib.Core.Path.{sym, ap, _∙_}
 use mathlib.Core.List.{List}
-use Prim.Native.Nat.{ℕ}
 use Rattle.roster.specs.Steps.{stepsOf, stepIn}
 use Rattle.roster.proofs.FormatLaws.{script-listed}
 use Rattle.roster.specs.declared.Step.{Step}

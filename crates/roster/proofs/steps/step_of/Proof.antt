@@ -37,7 +37,8 @@ returns-6 c = sym (ap (λ (x : ℕ). stepOf x (c .before .args .a) (c .before .a
 returns-7 : tie.Need-returns-7
 unfolding stepOf
 returns-7 c =
-    c .set-step .ensures ∙ sym (ap (λ (x : ℕ). stepOf x (c .before .before .args .a) (c .before .before .args .b)) (c .before .match .keys7))
+    let c2 = c .before .before in
+    c .set-step .ensures ∙ sym (ap (λ (x : ℕ). stepOf x (c2 .args .a) (c2 .args .b)) (c .before .match .keys7))
 
 returns-8 : tie.Need-returns-8
 unfolding stepOf

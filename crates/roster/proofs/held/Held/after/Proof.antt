@@ -1,6 +1,5 @@
 -- `roster::held::Held::after` meets its contract.
 use mathlib.Core.Path.{_≡_, refl}
-use Prim.Native.Nat.{ℕ}
 use lib.ListN.{length}
 use Rattle.rules.specs.Limits.{objectLimit}
 use Rattle.roster.specs.Held.{listOf}
@@ -48,11 +47,16 @@ enum-told-8 c = search needs
 
 returns : tie.Need-returns
 unfolding heldAfter
-returns c = holds-after _ (listOf (c .before .before .before .before .args .self)) _ _ _ (c .pushed .ensures) (c .before .before .x .given .1) refl
+returns c =
+    let c2 = c .before .before in
+    let c4 = c2 .before .before in
+    holds-after _ (listOf (c4 .args .self)) _ _ _ (c .pushed .ensures) (c2 .x .given .1) refl
 
 returns-2 : tie.Need-returns-2
 unfolding heldAfter
-returns-2 c = holds-after _ (listOf (c .before .before .before .args .self)) _ _ _ (c .popped .ensures) (c .before .enum-told .given .1) refl
+returns-2 c =
+    let c3 = c .before .before .before in
+    holds-after _ (listOf (c3 .args .self)) _ _ _ (c .popped .ensures) (c .before .enum-told .given .1) refl
 
 returns-3 : tie.Need-returns-3
 unfolding heldAfter
