@@ -1,0 +1,55 @@
+-- `engine::queues::remove` meets its contract.
+use Prim.Native.Nat.{_-_}
+use borrow.Author.Needs.{needs}
+use Rattle.engine.proofs.GridLaws.{queue-tidy, queue-without}
+use Rattle.engine.proofs.queues.remove.Statement.{statement}
+use Rattle.engine.proofs.queues.remove.Tie as tie
+
+cast-i : tie.Need-cast-i
+cast-i c = search needs
+
+sub-i : tie.Need-sub-i
+sub-i c = search needs
+
+mul-b : tie.Need-mul-b
+mul-b c = search needs
+
+add-row : tie.Need-add-row
+add-row c = search needs
+
+sub-row : tie.Need-sub-row
+sub-row c = search needs
+
+part-row-start : tie.Need-part-row-start
+part-row-start c = search needs
+
+part-row-end : tie.Need-part-row-end
+part-row-end c = search needs
+
+find-requires : tie.Need-find-requires
+find-requires c κs = queue-tidy (c .before .before .before .before .pre .0) (c .before .before .before .before .pre .1)
+
+cut-requires : tie.Need-cut-requires
+cut-requires c κs = queue-tidy (c .before .before .before .before .before .pre .0) (c .before .before .before .before .before .pre .1)
+
+same-length : tie.Need-same-length
+same-length c = search needs
+
+returns : tie.Need-returns
+returns c = queue-without (c .before .before .before .before .before .before .before .before .pre .0) (c .before .before .before .before .before .before .before .before .pre .1) _ _ _ (c .before .before .before .find .ensures) (c .before .before .cut .ensures)
+
+pub remove-spec : {M : Type 1} → statement M
+remove-spec =
+    tie.close
+    (tie.spec
+    cast-i
+    sub-i
+    mul-b
+    add-row
+    sub-row
+    part-row-start
+    part-row-end
+    find-requires
+    cut-requires
+    same-length
+    returns)

@@ -1,0 +1,5 @@
+// Internal: pub only for our own crates. The rules of crate rules, in place on a few lent slices of numbers.
+mod held;
+mod queues;
+mod rows;
+mod sizes;
