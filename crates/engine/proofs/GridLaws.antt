@@ -10,6 +10,7 @@ use borrow.Rule.Slice.PartMut.{same-len-mid, set-mid-at}
 use lib.Dec.{eqb}
 use lib.ListN.{length, take, drop, getD, set, length-take, length-drop, length-set, List·getD-map, length-map}
 use lib.Seq.{take-at, drop-at, take-add, drop-drop, length-take-le, getD-set-same, getD-set-other, getD-take, getD-drop}
+use lib.Seq.{set-getD, set-set}
 use Rattle.rules.specs.Limits.{taskLimit, objectLimit, lastPriority}
 use Rattle.rules.specs.Events.{without}
 use Rattle.engine.specs.Rows.{byteValues, rows, inRow, rowFor, Tidy, Open, lists, Lists, Became, HasQueue}
@@ -96,6 +97,23 @@ cell-put w n i j v l h g b =
 -- a cell read in row i
 pub cell-at : (w n i j : ℕ) (l : List ℕ) → i < n → j < w → getD l (i * w + j) 0 ≡ getD (getD (rows w n l) i []) j 0
 cell-at w n i j l h b = rw (row-at w n i l h, getD-take w (drop (i * w) l) j 0 b, getD-drop (i * w) l j 0)
+
+-- after is before with r for its row i: what a store in that row does to it
+pub record Written (w n : ℕ) (before after : List ℕ) (i : ℕ) (r : List ℕ) : Type 0 where
+  pub size : length after ≡ length before
+  pub same : rows w n after ≡ set (rows w n before) i r
+
+pub unwritten : (w n i : ℕ) (l : List ℕ) → Written w n l l i (getD (rows w n l) i [])
+unwritten w n i l = record { size = refl; same = sym (set-getD (rows w n l) i []) }
+
+pub store : (w n i j v : ℕ) {l l' r : List ℕ} → Written w n l l' i r → i < n → length l ≡ n * w → j < w →
+    Written w n l (set l' (i * w + j) v) i (set r j v)
+store w n i j v {l} {l'} {r} x h g b =
+    let at : getD (set (rows w n l) i r) i [] ≡ r = getD-set-same (rows w n l) i r [] (omega (arith, row-count w n l)) in
+    record {
+      size = simp length-set (x .size);
+      same = cell-put w n i j v l' h (omega (arith, x .size)) b ∙ rw (x .same, at, set-set);
+    }
 
 -- the slice after row i, lent from where it begins to where it ends, has come back as r
 abbrev pub withPart : ℕ → ℕ → List ℕ → List ℕ → List ℕ

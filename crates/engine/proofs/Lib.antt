@@ -1,3 +1,4 @@
 pub mod ShiftLaws
 pub mod RowLaws
 pub mod GridLaws
+pub mod TaskLaws

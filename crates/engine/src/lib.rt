@@ -3,3 +3,4 @@ mod held;
 mod queues;
 mod rows;
 mod sizes;
+pub mod tasks;

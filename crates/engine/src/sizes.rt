@@ -1,4 +1,4 @@
-// The sizes of the slices; specs/ has the same.
+// The sizes of the slices, the cells of their rows and the kinds of place; specs/ has the same.
 pub const TASK_LIMIT: usize = 32;
 
 pub const OBJECT_LIMIT: usize = 16;
@@ -7,3 +7,27 @@ pub const OBJECT_LIMIT: usize = 16;
 pub const QUEUE_WIDTH: usize = TASK_LIMIT + 1;
 
 pub const HELD_WIDTH: usize = OBJECT_LIMIT + 1;
+
+// A task's row, and its cells.
+pub const TASK_WIDTH: usize = 5;
+
+pub const KIND: usize = 0;
+
+pub const DUE: usize = 1;
+
+pub const BASE: usize = 2;
+
+pub const WAITING: usize = 3;
+
+pub const PERMIT: usize = 4;
+
+// The kinds of place.
+pub const ENDED: u64 = 0;
+
+pub const RUNNING: u64 = 1;
+
+pub const READY: u64 = 2;
+
+pub const DELAYED: u64 = 3;
+
+pub const SUSPENDED: u64 = 4;

@@ -1,0 +1,43 @@
+-- `engine::tasks::put` meets its contract.
+use Prim.Native.Nat.{_-_}
+use borrow.Author.Needs.{needs}
+use Rattle.rules.specs.declared.Task.{Task}
+use Rattle.engine.specs.Tasks.{based, waited, permitted}
+use Rattle.engine.proofs.TaskLaws.{then-became}
+use Rattle.engine.proofs.tasks.put.Statement.{statement}
+use Rattle.engine.proofs.tasks.put.Tie as tie
+
+set-place-requires : tie.Need-set-place-requires
+set-place-requires c κs = search needs
+
+set-base-requires : tie.Need-set-base-requires
+set-base-requires c κs = search needs
+
+set-waiting-requires : tie.Need-set-waiting-requires
+set-waiting-requires c κs = search needs
+
+set-permit-requires : tie.Need-set-permit-requires
+set-permit-requires c κs = search needs
+
+same-length : tie.Need-same-length
+same-length c = search needs
+
+returns : tie.Need-returns
+returns c =
+    let a = c .before .before .before .before .before .before .before .before .before .before .before .before .before .before .before .before .before .before in
+    let h = a .pre .0 in
+    let k = a .args .task in
+    let two = then-became _ _ (λ (x : Task). based x (k .base)) h (c .before .before .before .before .before .before .before .before .before .before .before .before .before .before .set-place .ensures) (c .before .before .before .before .before .before .before .before .before .before .set-base .ensures) in
+    let three = then-became _ _ (λ (x : Task). waited x (k .waiting)) h two (c .before .before .before .before .before .before .set-waiting .ensures) in
+    then-became _ _ (λ (x : Task). permitted x (k .permit)) h three (c .before .before .set-permit .ensures)
+
+pub put-spec : {M : Type 1} → statement M
+put-spec =
+    tie.close
+    (tie.spec
+    set-place-requires
+    set-base-requires
+    set-waiting-requires
+    set-permit-requires
+    same-length
+    returns)
