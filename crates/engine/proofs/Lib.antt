@@ -2,3 +2,5 @@ pub mod ShiftLaws
 pub mod RowLaws
 pub mod GridLaws
 pub mod TaskLaws
+pub mod MemoryLaws
+pub mod MoveLaws

@@ -31,3 +31,14 @@ pub const READY: u64 = 2;
 pub const DELAYED: u64 = 3;
 
 pub const SUSPENDED: u64 = 4;
+
+// The head: now, the running task's number + 1 or 0, the number of tasks, the number of objects.
+pub const HEAD_WIDTH: usize = 4;
+
+pub const NOW_CELL: usize = 0;
+
+pub const RUNNING_CELL: usize = 1;
+
+pub const TASKS_CELL: usize = 2;
+
+pub const OBJECTS_CELL: usize = 3;

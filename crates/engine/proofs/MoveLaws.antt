@@ -1,0 +1,146 @@
+-- Laws of the moves: what they may do to the slices, and what they have done.
+use mathlib.Core.Path.{_≡_, refl, ap, _∙_, sym, subst}
+use mathlib.Core.Bool.{Bool, true, false, cond}
+use mathlib.Core.List.{List, [], _∷_, _++_}
+use Prim.Native.Nat.{ℕ, zero, suc, _+_, _-_, _≤_, _<_, max}
+use native.Mathlib.Nat.{not-suc-le-zero}
+use native.Mathlib.Numerals.{add-one, sub-one}
+use native.Mathlib.Omega.{arith}
+use borrow.Author.Tests.{eq-eqb, ne-eqb, le-leb, lt-leb}
+use lib.ListN.{length, take, drop, getD, set, length-set, length-take, drop-of-length-le, List·getD-eq-default}
+use lib.Seq.{drop-cons, getD-take, getD-set-other}
+use Rattle.rules.specs.Limits.{taskLimit, lastPriority}
+use Rattle.rules.specs.Model.{Model, ceilingOf, highestOf, active, taskAt, queue, withPlace, withTask, withQueue, withRunning}
+use Rattle.rules.specs.Moves.{highestTo, highest, headOf, becomeReady, stopped, preempt, start, dispatchBy, dispatch}
+use Rattle.rules.specs.declared.Place.the-variants.{Running, Ready}
+use Rattle.rules.specs.declared.Runner.{Runner}
+use Rattle.rules.specs.declared.Runner.the-variants.{Nobody, Task as Runs}
+use Rattle.rules.proofs.Levels.{highest-top, highest-full}
+use Rattle.engine.specs.Rows.{HasQueue, queueIn, Queues, QueueBecame, heldBy}
+use Rattle.engine.specs.Tasks.{taskIn, Tasks, TaskBecame, placed}
+use Rattle.engine.specs.Memory.{runningCell, taskCount, objectCount, runnerOf, modelOf, Laid, Means}
+use Rattle.engine.specs.Room.{Joins, Starts, Dispatches}
+use Rattle.engine.proofs.MemoryLaws.{then-means, means-by, count-is, task-is, busy, run-law, queue-law, place-law}
+
+-- the highest queue, in a loop from the last priority down
+pub highest-skip : (qs : List (List ℕ)) (p : ℕ) → 0 < p → length (getD qs (p - 1) []) ≤ 0 → highestTo qs p ≡ highestTo qs (p - 1)
+unfolding highestTo
+highest-skip qs zero h e = absurd (not-suc-le-zero h)
+highest-skip qs (suc n) h e = rw (sub-one, eq-eqb (length (getD qs n [])) 0 (omega (arith, rw sub-one at e)))
+
+pub highest-hit : (qs : List (List ℕ)) (p : ℕ) → 0 < p → 0 < length (getD qs (p - 1) []) → p ≡ highestTo qs p
+unfolding highestTo
+highest-hit qs zero h e = absurd (not-suc-le-zero h)
+highest-hit qs (suc n) h e = rw (ne-eqb (length (getD qs n [])) 0 (λ z. omega (arith, z, rw sub-one at e)))
+
+pub highest-none : (qs : List (List ℕ)) (p : ℕ) → p ≤ 0 → 0 ≡ highestTo qs p
+unfolding highestTo
+highest-none qs zero h = refl
+highest-none qs (suc n) h = absurd (not-suc-le-zero h)
+
+-- the highest ceiling, in a loop over a held list
+pub ceiling-none : (cs : List ℕ) (n o : ℕ) → n ≤ o → ceilingOf (take n cs) o ≡ 0
+ceiling-none cs n o h = List·getD-eq-default (take n cs) 0 {n = o} (simp length-take (omega arith))
+
+pub ceiling-at : (cs : List ℕ) (n o : ℕ) → o < n → ceilingOf (take n cs) o ≡ getD cs o 0
+ceiling-at cs n o h = getD-take n cs o 0 h
+
+pub raise-more : (cs l : List ℕ) (p a a' i : ℕ) → i < length l → a' ≡ max a (ceilingOf cs (getD l i 0)) →
+    highestOf cs p l ≡ highestOf cs a (drop i l) → highestOf cs p l ≡ highestOf cs a' (drop (i + 1) l)
+unfolding highestOf
+raise-more cs l p a a' i h e f = f ∙ rw (e, add-one, drop-cons l i 0 h)
+
+pub raise-end : (cs l : List ℕ) (p a i : ℕ) → length l ≤ i → highestOf cs p l ≡ highestOf cs a (drop i l) → a ≡ highestOf cs p l
+unfolding highestOf
+raise-end cs l p a i h f = sym (f ∙ rw (drop-of-length-le l {i = i} h))
+
+-- the tasks' slice is good for a task that is there
+module _ {h ts hd cs qs : List ℕ} (d : Laid h ts hd cs qs) where
+  pub counted : {t : ℕ} → t < length (modelOf h ts hd cs qs .tasks) → t < taskCount h
+  counted g = omega (arith, count-is d)
+
+  pub writable : {t : ℕ} → t < length (modelOf h ts hd cs qs .tasks) → (t < taskLimit) × Tasks ts
+  writable g = (omega (arith, count-is d, d .count), d .tasks)
+
+  pub active-is : (t a b n : ℕ) → t < taskCount h → n ≡ objectCount h → b ≡ taskIn ts t .base .0 →
+      a ≡ highestOf (take n cs) b (heldBy hd t) → a ≡ active (modelOf h ts hd cs qs) t
+  active-is t a b n g k e f = f ∙ rw (task-is d t g, k, e)
+
+  pub open-queue : {t : ℕ} (p : ℕ) → Joins (modelOf h ts hd cs qs) t → p ≡ active (modelOf h ts hd cs qs) t →
+      HasQueue p × (Queues qs × (length (queueIn qs p) < taskLimit))
+  open-queue p j e =
+      (record { low = omega (arith, j .level .low); high = omega (arith, j .level .high) }, (d .queues, rw e (j .room)))
+
+  pub ready-law : {ts' qs' : List ℕ} (t p : ℕ) → t < length (modelOf h ts hd cs qs .tasks) → p ≡ active (modelOf h ts hd cs qs) t →
+      QueueBecame qs qs' p (queueIn qs p ++ (t ∷ [])) → TaskBecame ts ts' t (placed (taskIn ts t) Ready) →
+      Means h ts' hd cs qs' (becomeReady (modelOf h ts hd cs qs) t)
+  unfolding becomeReady
+  ready-law t p g e b r =
+      let x = queue-law d p (queueIn qs p ++ (t ∷ [])) b in
+      let y = place-law (x .laid) t Ready (counted g) r in
+      means-by (then-means (λ (m : Model). withTask m t (withPlace (taskAt m t) Ready)) x y) (rw e)
+
+  pub preempt-law : {ts' qs' : List ℕ} (t p : ℕ) → t < length (modelOf h ts hd cs qs .tasks) →
+      p ≡ active (modelOf h ts hd cs qs) t →
+      QueueBecame qs qs' p (t ∷ queueIn qs p) → TaskBecame ts ts' t (placed (taskIn ts t) Ready) →
+      Means (set h runningCell 0) ts' hd cs qs' (preempt (modelOf h ts hd cs qs) t)
+  unfolding preempt stopped runnerOf
+  preempt-law t p g e b r =
+      let x = queue-law d p (t ∷ queueIn qs p) b in
+      let y = place-law (x .laid) t Ready (counted g) r in
+      let z = run-law (y .laid) 0 in
+      let xy = then-means (λ (m : Model). withTask m t (withPlace (taskAt m t) Ready)) x y in
+      means-by (then-means (λ (m : Model). withRunning m Nobody) xy z) (rw e)
+
+  pub start-law : {ts' qs' : List ℕ} (p t : ℕ) → Starts (modelOf h ts hd cs qs) p → t ≡ headOf (modelOf h ts hd cs qs) p →
+      QueueBecame qs qs' p (drop 1 (queueIn qs p)) → TaskBecame ts ts' t (placed (taskIn ts t) Running) →
+      Means (set h runningCell (t + 1)) ts' hd cs qs' (start (modelOf h ts hd cs qs) p)
+  unfolding start runnerOf
+  start-law p t s e b r =
+      let x = queue-law d p (drop 1 (queueIn qs p)) b in
+      let y = place-law (x .laid) t Running (counted (omega (arith, s .head))) r in
+      let z = run-law (y .laid) (t + 1) in
+      let xy = then-means (λ (m : Model). withTask m t (withPlace (taskAt m t) Running)) x y in
+      let runs : runnerOf (t + 1) ≡ Runs t = rw add-one in
+      means-by (then-means (λ (m : Model). withRunning m (runnerOf (t + 1))) xy z) (rw (runs, e))
+
+-- what a dispatch needs where it starts a task, and where it preempts one first
+pub highest-starts : (m : Model) (p : ℕ) → Dispatches m → p ≡ highestTo (m .ready) lastPriority → (p ≡ 0 → ⊥) → Starts m p
+highest-starts m p d e n =
+    let level : HasQueue p = record { low = omega (arith, n); high = omega (arith, highest-top (m .ready) lastPriority) } in
+    let full : 0 < length (queue m p) = rw e (highest-full (m .ready) lastPriority (omega (arith, n))) in
+    record { level = level; full = full; head = d .heads p level full }
+
+pub preempted-starts : (m : Model) (t p : ℕ) → Starts m p → active m t < p → 1 ≤ active m t → Starts (preempt m t) p
+unfolding preempt stopped
+preempted-starts m t p s l h =
+    let other : queue (preempt m t) p ≡ queue m p =
+    getD-set-other (m .ready) (active m t - 1) (p - 1) (t ∷ queue m (active m t)) [] (λ e. omega arith) in
+    let count : length (preempt m t .tasks) ≡ length (m .tasks) = length-set (m .tasks) t _ in
+    record {
+      level = s .level;
+      full = rw other (s .full);
+      head = subst (λ (q : List ℕ). getD q 0 0 < length (preempt m t .tasks)) (sym other) (omega (arith, count, s .head));
+    }
+
+-- the four ways of a dispatch
+module _ (m : Model) (p : ℕ) (e : p ≡ highestTo (m .ready) lastPriority) where
+  by-runner : (w : Runner) → m .running ≡ w → dispatch m ≡ dispatchBy m w
+  unfolding dispatch
+  by-runner w g = ap (dispatchBy m) g
+
+  pub dispatch-idle : m .running ≡ Nobody → p ≡ 0 → m ≡ dispatch m
+  unfolding dispatchBy highest
+  dispatch-idle w z = sym (by-runner Nobody w ∙ rw (eq-eqb (highestTo (m .ready) lastPriority) 0 (sym e ∙ z)))
+
+  pub dispatch-start : m .running ≡ Nobody → (p ≡ 0 → ⊥) → start m p ≡ dispatch m
+  unfolding dispatchBy highest
+  dispatch-start w z = sym (by-runner Nobody w ∙ rw (ne-eqb (highestTo (m .ready) lastPriority) 0 (λ g. z (e ∙ g)), ← e))
+
+  pub dispatch-stay : (t a : ℕ) → m .running ≡ Runs t → a ≡ active m t → p ≤ a → m ≡ dispatch m
+  unfolding dispatchBy highest
+  dispatch-stay t a w f l = sym (by-runner (Runs t) w ∙ rw (le-leb (highestTo (m .ready) lastPriority) (active m t) (omega (arith, e, f))))
+
+  pub dispatch-switch : (t a : ℕ) → m .running ≡ Runs t → a ≡ active m t → a < p → start (preempt m t) p ≡ dispatch m
+  unfolding dispatchBy highest
+  dispatch-switch t a w f l = sym (by-runner (Runs t) w ∙ rw (lt-leb (highestTo (m .ready) lastPriority) (active m t) (omega (arith, e, f)), ← e))
