@@ -4,3 +4,7 @@ pub mod GridLaws
 pub mod TaskLaws
 pub mod MemoryLaws
 pub mod MoveLaws
+pub mod RoomLaws
+pub mod EventLaws
+pub mod EffectLaws
+pub mod ValidLaws

@@ -96,6 +96,12 @@ module _ {h ts hd cs qs : List ℕ} (d : Laid h ts hd cs qs) where
   pub waiting-is : (t : ℕ) → t < taskCount h → taskAt (modelOf h ts hd cs qs) t .waiting ≡ waitingIn (taskIn ts t .waiting)
   waiting-is t g = ap (λ (k : TaskRecord). k .waiting) (task-is t g)
 
+  pub base-is : (t : ℕ) → t < taskCount h → taskAt (modelOf h ts hd cs qs) t .base ≡ taskIn ts t .base .0
+  base-is t g = ap (λ (k : TaskRecord). k .base) (task-is t g)
+
+  pub permit-is : (t : ℕ) → t < taskCount h → taskAt (modelOf h ts hd cs qs) t .permit ≡ taskIn ts t .permit
+  permit-is t g = ap (λ (k : TaskRecord). k .permit) (task-is t g)
+
   pub idle : getD h runningCell 0 ≡ 0 → modelOf h ts hd cs qs .running ≡ Nobody
   unfolding runnerOf
   idle e = ap runnerOf e

@@ -1,11 +1,13 @@
 -- What the five slices mean together: a Model of the rules. The head is now, the running task's number + 1 or 0, and the two counts.
 use mathlib.Core.Path.{_≡_}
+use mathlib.Core.Bool.{true}
 use mathlib.Core.List.{List, [], _∷_}
 use Prim.Native.Nat.{ℕ, zero, suc, _-_, _≤_}
 use lib.ListN.{length, take, drop, getD, replicate}
 use Rattle.rules.specs.Limits.{taskLimit, objectLimit}
 use Rattle.rules.specs.Model.{Model, TaskRecord, Waiting, none, waits, blank}
 use Rattle.rules.specs.Moved.{Moved}
+use Rattle.rules.specs.Sound.{sound}
 use Rattle.rules.specs.declared.Answer.{Answer}
 use Rattle.rules.specs.declared.Runner.{Runner}
 use Rattle.rules.specs.declared.Runner.the-variants.{Nobody, Task as Runs}
@@ -86,6 +88,11 @@ pub record Laid (h ts hd cs qs : List ℕ) : Type 0 where
 pub record Means (h ts hd cs qs : List ℕ) (m : Model) : Type 0 where
   pub same : modelOf h ts hd cs qs ≡ m
   pub laid : Laid h ts hd cs qs
+
+-- the slices are laid out and mean a sound Model
+pub record Valid (h ts hd cs qs : List ℕ) : Type 0 where
+  pub laid : Laid h ts hd cs qs
+  pub sound : sound (modelOf h ts hd cs qs) ≡ true
 
 -- after an event: its answer too
 pub record Did (h ts hd cs qs : List ℕ) (a : Answer) (r : Moved) : Type 0 where

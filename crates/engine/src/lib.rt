@@ -1,4 +1,6 @@
 // Internal: pub only for our own crates. The rules of crate rules, in place on a few lent slices of numbers.
+mod effects;
+pub mod events;
 mod held;
 mod moves;
 mod queues;

@@ -3,6 +3,9 @@ pub const TASK_LIMIT: usize = 32;
 
 pub const OBJECT_LIMIT: usize = 16;
 
+// The largest reading of the clock.
+pub const LAST_READING: u64 = 281474976710655;
+
 // A row's first cell is the length of its list.
 pub const QUEUE_WIDTH: usize = TASK_LIMIT + 1;
 

@@ -1,0 +1,83 @@
+-- `engine::events::clock` meets its contract.
+use Prim.Native.Nat.{_-_}
+use borrow.Author.Needs.{needs}
+use Rattle.rules.specs.Moves.{dispatch}
+use Rattle.rules.specs.declared.Answer.the-variants.{BadReading}
+use Rattle.engine.proofs.EffectLaws.{clock-law}
+use Rattle.engine.proofs.EventLaws.{did-not, did, clock-past, clock-far, clock-done}
+use Rattle.engine.proofs.MemoryLaws.{then-means, now-law}
+use Rattle.engine.proofs.RoomLaws.{clock-core, clock-wakes}
+use Rattle.engine.proofs.ValidLaws.{dispatchable, core}
+use Rattle.engine.proofs.events.clock.Statement.{statement}
+use Rattle.engine.proofs.events.clock.Tie as tie
+
+element-copy-out-if1 : tie.Need-element-copy-out-if1
+element-copy-out-if1 c = search needs
+
+returns : tie.Need-returns
+returns c =
+    let entry = c .before .before .before .before .before .before in
+    let v = entry .pre in
+    let d = v .laid in
+    did-not BadReading d (clock-past _ _ (c .if1 .taken))
+
+returns-2 : tie.Need-returns-2
+returns-2 c =
+    let entry = c .before .before .before .before .before .before .before in
+    let v = entry .pre in
+    let d = v .laid in
+    did-not BadReading d (clock-far _ _ (c .if2 .taken))
+
+element-write-head : tie.Need-element-write-head
+element-write-head c = search needs
+
+wake-up-requires : tie.Need-wake-up-requires
+wake-up-requires c κs =
+    let entry = c .before .before .before .before .before .before .before .before .before .before in
+    let v = entry .pre in
+    let d = v .laid in
+    let x = now-law d (entry .args .r) in
+    (x .laid, rw (x .same) (clock-wakes _ _ (core v)))
+
+dispatch-requires : tie.Need-dispatch-requires
+dispatch-requires c κs =
+    let at-wake-up = c .before .before .before .before .before .before .before in
+    let entry = at-wake-up .before .before .before .before .before .before .before .before .before .before .before in
+    let v = entry .pre in
+    let d = v .laid in
+    let r = entry .args .r in
+    let x = clock-law d r (at-wake-up .wake-up .ensures) in
+    dispatchable x (clock-core _ r _ (core v))
+
+same-length : tie.Need-same-length
+same-length c = search needs
+
+same-length-2 : tie.Need-same-length-2
+same-length-2 c = search needs
+
+returns-3 : tie.Need-returns-3
+returns-3 c =
+    let at-dispatch = c .before .before .before .before in
+    let at-wake-up = at-dispatch .before .before .before .before .before .before .before .before in
+    let at-if2 = at-wake-up .before .before .before .before in
+    let at-if1 = at-if2 .before in
+    let entry = at-if1 .before .before .before .before .before .before in
+    let v = entry .pre in
+    let d = v .laid in
+    let r = entry .args .r in
+    let x = then-means dispatch (clock-law d r (at-wake-up .wake-up .ensures)) (at-dispatch .dispatch .ensures) in
+    did _ x (clock-done _ r (at-if1 .if1 .left) (at-if2 .if2 .left))
+
+pub clock-spec : {M : Type 1} → statement M
+clock-spec =
+    tie.close
+    (tie.spec
+    element-copy-out-if1
+    returns
+    returns-2
+    element-write-head
+    wake-up-requires
+    dispatch-requires
+    same-length
+    same-length-2
+    returns-3)

@@ -1,0 +1,188 @@
+-- `engine::events::enter` meets its contract.
+use mathlib.Core.Path.{_∙_}
+use Prim.Native.Nat.{_-_}
+use native.Mathlib.Omega.{arith}
+use borrow.Author.Needs.{needs}
+use Rattle.rules.specs.Moves.{dispatch}
+use Rattle.rules.specs.declared.Answer.the-variants.{NoSuchObject, NobodyRuns, InsideAction, AboveCeiling}
+use Rattle.engine.proofs.EffectLaws.{holdable, hold-law}
+use Rattle.engine.proofs.EventLaws.{did-not, did, enter-unknown, enter-idle, enter-held, enter-above, enter-done}
+use Rattle.engine.proofs.MemoryLaws.{then-means, idle}
+use Rattle.engine.proofs.RoomLaws.{hold-core}
+use Rattle.engine.proofs.ValidLaws.{dispatchable, core, runner, runner-counted, listed, unlisted, ceiling-is, holds-is}
+use Rattle.engine.proofs.ValidLaws.{hold-room}
+use Rattle.engine.proofs.events.enter.Statement.{statement}
+use Rattle.engine.proofs.events.enter.Tie as tie
+
+element-copy-out-if1 : tie.Need-element-copy-out-if1
+element-copy-out-if1 c = search needs
+
+returns : tie.Need-returns
+returns c =
+    let entry = c .before .before .before .before .before .before in
+    let v = entry .pre in
+    let d = v .laid in
+    did-not NoSuchObject d (enter-unknown _ _ (unlisted v _ (c .if1 .taken)))
+
+element-copy-out-running : tie.Need-element-copy-out-running
+element-copy-out-running c = search needs
+
+returns-2 : tie.Need-returns-2
+returns-2 c =
+    let at-if1 = c .before .before in
+    let entry = at-if1 .before .before .before .before .before .before in
+    let v = entry .pre in
+    let d = v .laid in
+    did-not NobodyRuns d (enter-idle _ _ (listed v _ (at-if1 .if1 .left)) (idle d (c .if2 .taken)))
+
+sub-t : tie.Need-sub-t
+sub-t c = search needs
+
+cast-object : tie.Need-cast-object
+cast-object c = search needs
+
+holds-requires : tie.Need-holds-requires
+holds-requires c κs =
+    let at-if2 = c .before in
+    let entry = at-if2 .before .before .before .before .before .before .before .before in
+    let v = entry .pre in
+    let d = v .laid in
+    let e = runner v (at-if2 .if2 .left) in
+    let g = runner-counted v (at-if2 .if2 .left) in
+    holdable d _ g
+
+same-length : tie.Need-same-length
+same-length c = search needs
+
+returns-3 : tie.Need-returns-3
+returns-3 c =
+    let at-holds = c .before in
+    let at-if2 = at-holds .before .before in
+    let at-if1 = at-if2 .before .before in
+    let entry = at-if1 .before .before .before .before .before .before in
+    let v = entry .pre in
+    let d = v .laid in
+    let e = runner v (at-if2 .if2 .left) in
+    let g = runner-counted v (at-if2 .if2 .left) in
+    let yes = holds-is v _ _ _ g (at-holds .holds .ensures) ∙ c .if3 .taken in
+    did-not InsideAction d (enter-held _ _ (listed v _ (at-if1 .if1 .left)) _ e yes)
+
+active-requires : tie.Need-active-requires
+active-requires c κs =
+    let at-if2 = c .before .before .before .before .before .before .before in
+    let entry = at-if2 .before .before .before .before .before .before .before .before in
+    let v = entry .pre in
+    let d = v .laid in
+    let e = runner v (at-if2 .if2 .left) in
+    let g = runner-counted v (at-if2 .if2 .left) in
+    (d, g)
+
+shared-slice-read-if4 : tie.Need-shared-slice-read-if4
+shared-slice-read-if4 c = search needs
+
+same-length-2 : tie.Need-same-length-2
+same-length-2 c = search needs
+
+same-length-3 : tie.Need-same-length-3
+same-length-3 c = search needs
+
+same-length-4 : tie.Need-same-length-4
+same-length-4 c = search needs
+
+returns-4 : tie.Need-returns-4
+returns-4 c =
+    let at-active = c .before .before .before in
+    let at-if3 = at-active .before .before .before .before .before in
+    let at-holds = at-if3 .before in
+    let at-if2 = at-holds .before .before in
+    let at-if1 = at-if2 .before .before in
+    let entry = at-if1 .before .before .before .before .before .before in
+    let v = entry .pre in
+    let d = v .laid in
+    let e = runner v (at-if2 .if2 .left) in
+    let g = runner-counted v (at-if2 .if2 .left) in
+    let free = holds-is v _ _ _ g (at-holds .holds .ensures) ∙ at-if3 .if3 .left in
+    let o = entry .args .o in
+    let top = ceiling-is v o (at-if1 .if1 .left) in
+    did-not AboveCeiling d (enter-above _ o (listed v o (at-if1 .if1 .left)) _ e free (omega (arith, top, at-active .active .ensures, c .if4 .taken)))
+
+push-requires : tie.Need-push-requires
+push-requires c κs =
+    let at-if3 = c .before .before .before .before .before .before .before .before .before in
+    let at-holds = at-if3 .before in
+    let at-if2 = at-holds .before .before in
+    let at-if1 = at-if2 .before .before in
+    let entry = at-if1 .before .before .before .before .before .before in
+    let v = entry .pre in
+    let d = v .laid in
+    let e = runner v (at-if2 .if2 .left) in
+    let g = runner-counted v (at-if2 .if2 .left) in
+    let free = holds-is v _ _ _ g (at-holds .holds .ensures) ∙ at-if3 .if3 .left in
+    hold-room v _ _ e g (at-if1 .if1 .left) free
+
+dispatch-requires : tie.Need-dispatch-requires
+dispatch-requires c κs =
+    let at-push = c .before .before .before .before .before .before in
+    let at-if2 = at-push .before .before .before .before .before .before .before .before .before .before .before .before .before in
+    let entry = at-if2 .before .before .before .before .before .before .before .before in
+    let v = entry .pre in
+    let d = v .laid in
+    let e = runner v (at-if2 .if2 .left) in
+    let g = runner-counted v (at-if2 .if2 .left) in
+    dispatchable (hold-law d _ _ g (at-push .push .ensures)) (hold-core _ _ (core v) e _)
+
+same-length-5 : tie.Need-same-length-5
+same-length-5 c = search needs
+
+same-length-6 : tie.Need-same-length-6
+same-length-6 c = search needs
+
+same-length-7 : tie.Need-same-length-7
+same-length-7 c = search needs
+
+returns-5 : tie.Need-returns-5
+returns-5 c =
+    let at-dispatch = c .before .before .before .before in
+    let at-push = at-dispatch .before .before .before .before .before .before .before in
+    let at-if4 = at-push .before .before in
+    let at-active = at-if4 .before .before .before in
+    let at-if3 = at-active .before .before .before .before .before in
+    let at-holds = at-if3 .before in
+    let at-if2 = at-holds .before .before in
+    let at-if1 = at-if2 .before .before in
+    let entry = at-if1 .before .before .before .before .before .before in
+    let v = entry .pre in
+    let d = v .laid in
+    let e = runner v (at-if2 .if2 .left) in
+    let g = runner-counted v (at-if2 .if2 .left) in
+    let free = holds-is v _ _ _ g (at-holds .holds .ensures) ∙ at-if3 .if3 .left in
+    let o = entry .args .o in
+    let x = then-means dispatch (hold-law d _ o g (at-push .push .ensures)) (at-dispatch .dispatch .ensures) in
+    let top = ceiling-is v o (at-if1 .if1 .left) in
+    did _ x (enter-done _ o (listed v o (at-if1 .if1 .left)) _ e free (omega (arith, top, at-active .active .ensures, at-if4 .if4 .left)))
+
+pub enter-spec : {M : Type 1} → statement M
+enter-spec =
+    tie.close
+    (tie.spec
+    element-copy-out-if1
+    returns
+    element-copy-out-running
+    returns-2
+    sub-t
+    cast-object
+    holds-requires
+    same-length
+    returns-3
+    active-requires
+    shared-slice-read-if4
+    same-length-2
+    same-length-3
+    same-length-4
+    returns-4
+    push-requires
+    dispatch-requires
+    same-length-5
+    same-length-6
+    same-length-7
+    returns-5)

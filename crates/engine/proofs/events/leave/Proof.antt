@@ -1,0 +1,198 @@
+-- `engine::events::leave` meets its contract.
+use Prim.Native.Nat.{_-_}
+use native.Mathlib.Omega.{arith}
+use borrow.Author.Needs.{needs}
+use lib.ListN.{getD}
+use Rattle.rules.specs.Events.{settle}
+use Rattle.rules.specs.Model.{Model}
+use Rattle.rules.specs.Moves.{dispatch}
+use Rattle.rules.specs.declared.Answer.the-variants.{NoSuchObject, NobodyRuns, NotInnermost}
+use Rattle.engine.specs.Memory.{runningCell}
+use Rattle.engine.proofs.EffectLaws.{holdable, depth-is, give-up-law, last-is}
+use Rattle.engine.proofs.EventLaws.{did-not, did, leave-unknown, leave-idle, leave-empty, leave-other, leave-done}
+use Rattle.engine.proofs.MemoryLaws.{then-means, idle}
+use Rattle.engine.proofs.RoomLaws.{leave-settles, leave-core}
+use Rattle.engine.proofs.ValidLaws.{dispatchable, runner, runner-counted, listed, unlisted}
+use Rattle.engine.proofs.events.leave.Statement.{statement}
+use Rattle.engine.proofs.events.leave.Tie as tie
+
+element-copy-out-if1 : tie.Need-element-copy-out-if1
+element-copy-out-if1 c = search needs
+
+returns : tie.Need-returns
+returns c =
+    let entry = c .before .before .before .before .before .before in
+    let v = entry .pre in
+    let d = v .laid in
+    did-not NoSuchObject d (leave-unknown _ _ (unlisted v _ (c .if1 .taken)))
+
+element-copy-out-running : tie.Need-element-copy-out-running
+element-copy-out-running c = search needs
+
+returns-2 : tie.Need-returns-2
+returns-2 c =
+    let at-if1 = c .before .before in
+    let entry = at-if1 .before .before .before .before .before .before in
+    let v = entry .pre in
+    let d = v .laid in
+    did-not NobodyRuns d (leave-idle _ _ (listed v _ (at-if1 .if1 .left)) (idle d (c .if2 .taken)))
+
+sub-t : tie.Need-sub-t
+sub-t c = search needs
+
+depth-requires : tie.Need-depth-requires
+depth-requires c κs =
+    let at-if2 = c .before in
+    let entry = at-if2 .before .before .before .before .before .before .before .before in
+    let v = entry .pre in
+    let d = v .laid in
+    let e = runner v (at-if2 .if2 .left) in
+    let g = runner-counted v (at-if2 .if2 .left) in
+    holdable d _ g
+
+same-length : tie.Need-same-length
+same-length c = search needs
+
+returns-3 : tie.Need-returns-3
+returns-3 c =
+    let at-depth = c .before in
+    let at-if2 = at-depth .before .before in
+    let at-if1 = at-if2 .before .before in
+    let entry = at-if1 .before .before .before .before .before .before in
+    let v = entry .pre in
+    let d = v .laid in
+    let e = runner v (at-if2 .if2 .left) in
+    let g = runner-counted v (at-if2 .if2 .left) in
+    let n = depth-is d _ _ g (at-depth .depth .ensures) in
+    did-not NotInnermost d (leave-empty _ _ (listed v _ (at-if1 .if1 .left)) _ e (omega (arith, n, c .if3 .taken)))
+
+last-requires : tie.Need-last-requires
+last-requires c κs =
+    let at-if3 = c .before in
+    let at-depth = at-if3 .before in
+    let at-if2 = at-depth .before .before in
+    let entry = at-if2 .before .before .before .before .before .before .before .before in
+    let v = entry .pre in
+    let d = v .laid in
+    let e = runner v (at-if2 .if2 .left) in
+    let g = runner-counted v (at-if2 .if2 .left) in
+    let h = holdable d _ g in
+    (h .0, (h .1, omega (arith, at-depth .depth .ensures, at-if3 .if3 .left)))
+
+cast-if4 : tie.Need-cast-if4
+cast-if4 c = search needs
+
+same-length-2 : tie.Need-same-length-2
+same-length-2 c = search needs
+
+returns-4 : tie.Need-returns-4
+returns-4 c =
+    let at-last = c .before in
+    let at-if3 = at-last .before .before in
+    let at-depth = at-if3 .before in
+    let at-if2 = at-depth .before .before in
+    let at-if1 = at-if2 .before .before in
+    let entry = at-if1 .before .before .before .before .before .before in
+    let v = entry .pre in
+    let d = v .laid in
+    let e = runner v (at-if2 .if2 .left) in
+    let g = runner-counted v (at-if2 .if2 .left) in
+    let n = depth-is d _ _ g (at-depth .depth .ensures) in
+    let last = last-is d _ _ g (at-last .last .ensures) in
+    did-not NotInnermost d (leave-other _ _ (listed v _ (at-if1 .if1 .left)) _ _ e (omega (arith, n, at-if3 .if3 .left)) last (c .if4 .taken))
+
+drop-last-requires : tie.Need-drop-last-requires
+drop-last-requires c κs =
+    let at-if3 = c .before .before .before .before in
+    let at-depth = at-if3 .before in
+    let at-if2 = at-depth .before .before in
+    let entry = at-if2 .before .before .before .before .before .before .before .before in
+    let v = entry .pre in
+    let d = v .laid in
+    let e = runner v (at-if2 .if2 .left) in
+    let g = runner-counted v (at-if2 .if2 .left) in
+    let h = holdable d _ g in
+    (h .0, (h .1, omega (arith, at-depth .depth .ensures, at-if3 .if3 .left)))
+
+settle-requires : tie.Need-settle-requires
+settle-requires c κs =
+    let at-drop-last = c .before .before .before .before .before .before in
+    let at-if2 = at-drop-last .before .before .before .before .before .before .before .before in
+    let entry = at-if2 .before .before .before .before .before .before .before .before in
+    let v = entry .pre in
+    let d = v .laid in
+    let e = runner v (at-if2 .if2 .left) in
+    let g = runner-counted v (at-if2 .if2 .left) in
+    let x = give-up-law d _ g (at-drop-last .drop-last .ensures) in
+    (x .laid, rw (x .same) (leave-settles _ _ (v .sound) e))
+
+dispatch-requires : tie.Need-dispatch-requires
+dispatch-requires c κs =
+    let at-settle = c .before .before .before .before .before .before .before .before in
+    let at-drop-last = at-settle .before .before .before .before .before .before .before in
+    let at-if2 = at-drop-last .before .before .before .before .before .before .before .before in
+    let entry = at-if2 .before .before .before .before .before .before .before .before in
+    let v = entry .pre in
+    let d = v .laid in
+    let e = runner v (at-if2 .if2 .left) in
+    let g = runner-counted v (at-if2 .if2 .left) in
+    let t = getD (entry .args .head .now) runningCell 0 - 1 in
+    let x = then-means (λ (m : Model). settle m t) (give-up-law d t g (at-drop-last .drop-last .ensures)) (at-settle .settle .ensures) in
+    dispatchable x (leave-core _ t (v .sound) e)
+
+same-length-3 : tie.Need-same-length-3
+same-length-3 c = search needs
+
+same-length-4 : tie.Need-same-length-4
+same-length-4 c = search needs
+
+same-length-5 : tie.Need-same-length-5
+same-length-5 c = search needs
+
+returns-5 : tie.Need-returns-5
+returns-5 c =
+    let at-dispatch = c .before .before .before .before in
+    let at-settle = at-dispatch .before .before .before .before .before .before .before .before .before in
+    let at-drop-last = at-settle .before .before .before .before .before .before .before in
+    let at-if4 = at-drop-last .before .before in
+    let at-last = at-if4 .before in
+    let at-if3 = at-last .before .before in
+    let at-depth = at-if3 .before in
+    let at-if2 = at-depth .before .before in
+    let at-if1 = at-if2 .before .before in
+    let entry = at-if1 .before .before .before .before .before .before in
+    let v = entry .pre in
+    let d = v .laid in
+    let e = runner v (at-if2 .if2 .left) in
+    let g = runner-counted v (at-if2 .if2 .left) in
+    let n = depth-is d _ _ g (at-depth .depth .ensures) in
+    let t = getD (entry .args .head .now) runningCell 0 - 1 in
+    let last = last-is d _ _ g (at-last .last .ensures) in
+    let x = then-means (λ (m : Model). settle m t) (give-up-law d t g (at-drop-last .drop-last .ensures)) (at-settle .settle .ensures) in
+    let y = then-means dispatch x (at-dispatch .dispatch .ensures) in
+    let l = listed v _ (at-if1 .if1 .left) in
+    did _ y (leave-done _ _ l t _ e (omega (arith, n, at-if3 .if3 .left)) last (at-if4 .if4 .left))
+
+pub leave-spec : {M : Type 1} → statement M
+leave-spec =
+    tie.close
+    (tie.spec
+    element-copy-out-if1
+    returns
+    element-copy-out-running
+    returns-2
+    sub-t
+    depth-requires
+    same-length
+    returns-3
+    last-requires
+    cast-if4
+    same-length-2
+    returns-4
+    drop-last-requires
+    settle-requires
+    dispatch-requires
+    same-length-3
+    same-length-4
+    same-length-5
+    returns-5)

@@ -1,0 +1,70 @@
+-- `engine::events::release` meets its contract.
+use mathlib.Core.Path.{refl}
+use Prim.Native.Nat.{_-_}
+use borrow.Author.Needs.{needs}
+use Rattle.rules.specs.Moves.{dispatch}
+use Rattle.rules.specs.declared.Answer.the-variants.{NoSuchTask}
+use Rattle.engine.proofs.EventLaws.{did-not, did, release-unknown, release-done}
+use Rattle.engine.proofs.MemoryLaws.{then-means}
+use Rattle.engine.proofs.RoomLaws.{release-needs, release-core}
+use Rattle.engine.proofs.ValidLaws.{dispatchable, core, there, missing}
+use Rattle.engine.proofs.events.release.Statement.{statement}
+use Rattle.engine.proofs.events.release.Tie as tie
+
+element-copy-out-if1 : tie.Need-element-copy-out-if1
+element-copy-out-if1 c = search needs
+
+returns : tie.Need-returns
+returns c =
+    let entry = c .before .before .before .before .before .before in
+    let v = entry .pre in
+    let d = v .laid in
+    did-not NoSuchTask d (release-unknown _ _ (missing v _ (c .if1 .taken)))
+
+release-from-requires : tie.Need-release-from-requires
+release-from-requires c κs =
+    let at-if1 = c .before .before .before in
+    let entry = at-if1 .before .before .before .before .before .before in
+    let v = entry .pre in
+    let d = v .laid in
+    let l = there v _ (at-if1 .if1 .left) in
+    (d, release-needs _ _ (core v) l)
+
+dispatch-requires : tie.Need-dispatch-requires
+dispatch-requires c κs =
+    let at-release-from = c .before .before .before .before .before .before .before in
+    let at-if1 = at-release-from .before .before .before .before in
+    let entry = at-if1 .before .before .before .before .before .before in
+    let v = entry .pre in
+    let d = v .laid in
+    let l = there v _ (at-if1 .if1 .left) in
+    dispatchable (at-release-from .release-from .ensures) (release-core _ _ (core v) l _ refl)
+
+same-length : tie.Need-same-length
+same-length c = search needs
+
+same-length-2 : tie.Need-same-length-2
+same-length-2 c = search needs
+
+returns-2 : tie.Need-returns-2
+returns-2 c =
+    let at-dispatch = c .before .before .before .before in
+    let at-release-from = at-dispatch .before .before .before .before .before .before .before .before in
+    let at-if1 = at-release-from .before .before .before .before in
+    let entry = at-if1 .before .before .before .before .before .before in
+    let v = entry .pre in
+    let d = v .laid in
+    let l = there v _ (at-if1 .if1 .left) in
+    did _ (then-means dispatch (at-release-from .release-from .ensures) (at-dispatch .dispatch .ensures)) (release-done _ _ l)
+
+pub release-spec : {M : Type 1} → statement M
+release-spec =
+    tie.close
+    (tie.spec
+    element-copy-out-if1
+    returns
+    release-from-requires
+    dispatch-requires
+    same-length
+    same-length-2
+    returns-2)

@@ -1,0 +1,108 @@
+-- `engine::events::suspend` meets its contract.
+use Prim.Native.Nat.{_-_}
+use native.Mathlib.Omega.{arith}
+use borrow.Author.Needs.{needs}
+use Rattle.rules.specs.Moves.{dispatch}
+use Rattle.rules.specs.declared.Answer.the-variants.{NobodyRuns, InsideAction}
+use Rattle.engine.proofs.EffectLaws.{holdable, depth-is}
+use Rattle.engine.proofs.EventLaws.{did-not, did, suspend-idle, suspend-inside, suspend-done}
+use Rattle.engine.proofs.MemoryLaws.{then-means, idle}
+use Rattle.engine.proofs.RoomLaws.{rest-core}
+use Rattle.engine.proofs.ValidLaws.{dispatchable, core, runner, runner-counted}
+use Rattle.engine.proofs.events.suspend.Statement.{statement}
+use Rattle.engine.proofs.events.suspend.Tie as tie
+
+element-copy-out-running : tie.Need-element-copy-out-running
+element-copy-out-running c = search needs
+
+returns : tie.Need-returns
+returns c =
+    let entry = c .before .before .before .before .before .before in
+    let v = entry .pre in
+    let d = v .laid in
+    did-not NobodyRuns d (suspend-idle _ (idle d (c .if1 .taken)))
+
+sub-t : tie.Need-sub-t
+sub-t c = search needs
+
+depth-requires : tie.Need-depth-requires
+depth-requires c κs =
+    let entry = c .before .before .before .before .before .before in
+    let v = entry .pre in
+    let d = v .laid in
+    let e = runner v (c .if1 .left) in
+    let g = runner-counted v (c .if1 .left) in
+    holdable d _ g
+
+returns-2 : tie.Need-returns-2
+returns-2 c =
+    let at-depth = c .before in
+    let at-if1 = at-depth .before in
+    let entry = at-if1 .before .before .before .before .before .before in
+    let v = entry .pre in
+    let d = v .laid in
+    let e = runner v (at-if1 .if1 .left) in
+    let g = runner-counted v (at-if1 .if1 .left) in
+    let n = depth-is d _ _ g (at-depth .depth .ensures) in
+    did-not InsideAction d (suspend-inside _ _ e (omega (arith, n, c .if2 .taken)))
+
+rest-requires : tie.Need-rest-requires
+rest-requires c κs =
+    let at-if1 = c .before .before .before .before .before in
+    let entry = at-if1 .before .before .before .before .before .before in
+    let v = entry .pre in
+    let d = v .laid in
+    let e = runner v (at-if1 .if1 .left) in
+    let g = runner-counted v (at-if1 .if1 .left) in
+    (d, g)
+
+dispatch-requires : tie.Need-dispatch-requires
+dispatch-requires c κs =
+    let at-rest = c .before .before .before .before .before in
+    let at-if2 = at-rest .before .before .before .before in
+    let at-depth = at-if2 .before in
+    let at-if1 = at-depth .before in
+    let entry = at-if1 .before .before .before .before .before .before in
+    let v = entry .pre in
+    let d = v .laid in
+    let e = runner v (at-if1 .if1 .left) in
+    let g = runner-counted v (at-if1 .if1 .left) in
+    let n = depth-is d _ _ g (at-depth .depth .ensures) in
+    dispatchable (at-rest .rest .ensures) (rest-core _ _ (core v) e (omega (arith, n, at-if2 .if2 .left)))
+
+same-length : tie.Need-same-length
+same-length c = search needs
+
+same-length-2 : tie.Need-same-length-2
+same-length-2 c = search needs
+
+returns-3 : tie.Need-returns-3
+returns-3 c =
+    let at-dispatch = c .before .before .before .before in
+    let at-rest = at-dispatch .before .before .before .before .before .before in
+    let at-if2 = at-rest .before .before .before .before in
+    let at-depth = at-if2 .before in
+    let at-if1 = at-depth .before in
+    let entry = at-if1 .before .before .before .before .before .before in
+    let v = entry .pre in
+    let d = v .laid in
+    let e = runner v (at-if1 .if1 .left) in
+    let g = runner-counted v (at-if1 .if1 .left) in
+    let n = depth-is d _ _ g (at-depth .depth .ensures) in
+    let x = then-means dispatch (at-rest .rest .ensures) (at-dispatch .dispatch .ensures) in
+    did _ x (suspend-done _ _ e (omega (arith, n, at-if2 .if2 .left)))
+
+pub suspend-spec : {M : Type 1} → statement M
+suspend-spec =
+    tie.close
+    (tie.spec
+    element-copy-out-running
+    returns
+    sub-t
+    depth-requires
+    returns-2
+    rest-requires
+    dispatch-requires
+    same-length
+    same-length-2
+    returns-3)

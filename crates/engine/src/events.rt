@@ -1,0 +1,275 @@
+// The nine events, as in specs/Events.antt of crate rules. Each may assume that the slices are laid out and mean a sound Model.
+ghost use Rattle.rules.specs.Events.{enter, leave, delay, suspend, release, clock, setBase, work, finish};
+ghost use Rattle.engine.specs.Memory.{modelOf, Valid, Did};
+use crate::effects;
+use crate::held;
+use crate::moves;
+use crate::sizes::HEAD_WIDTH;
+use crate::sizes::LAST_READING;
+use crate::sizes::NOW_CELL;
+use crate::sizes::OBJECTS_CELL;
+use crate::sizes::RUNNING_CELL;
+use crate::sizes::TASKS_CELL;
+use crate::tasks;
+use rules::Answer;
+use rules::Place;
+use rules::Priority;
+
+pub fn enter(
+    head: &mut [u64; HEAD_WIDTH],
+    tasks: &mut [u64],
+    held: &mut [u8],
+    ceilings: &[u8],
+    queues: &mut [u8],
+    o: u64,
+) -> Answer
+    requires { ⌜ Valid (now head) (now tasks) (now held) (now ceilings) (now queues) ⌝ }
+    ensures { λ r.
+        ⌜ Did (now (head .exit)) (now (tasks .exit)) (now (held .exit)) (now (ceilings .entry)) (now (queues .exit)) r
+        (enter
+        (modelOf (now (head .entry)) (now (tasks .entry)) (now (held .entry)) (now (ceilings .entry)) (now (queues .entry)))
+        o) ⌝ }
+{
+    if head[OBJECTS_CELL] <= o {
+        return Answer::NoSuchObject;
+    }
+    let running = head[RUNNING_CELL];
+    if running == 0 {
+        return Answer::NobodyRuns;
+    }
+    let t = (running - 1) as usize;
+    let object = o as u8;
+    if held::holds(held, t, object) {
+        return Answer::InsideAction;
+    }
+    let a = moves::active(head, tasks, held, ceilings, queues, t);
+    if ceilings[o as usize] < a.0 {
+        return Answer::AboveCeiling;
+    }
+    held::push(held, t, object);
+    moves::dispatch(head, tasks, held, ceilings, queues);
+    Answer::Done
+}
+
+pub fn leave(
+    head: &mut [u64; HEAD_WIDTH],
+    tasks: &mut [u64],
+    held: &mut [u8],
+    ceilings: &[u8],
+    queues: &mut [u8],
+    o: u64,
+) -> Answer
+    requires { ⌜ Valid (now head) (now tasks) (now held) (now ceilings) (now queues) ⌝ }
+    ensures { λ r.
+        ⌜ Did (now (head .exit)) (now (tasks .exit)) (now (held .exit)) (now (ceilings .entry)) (now (queues .exit)) r
+        (leave
+        (modelOf (now (head .entry)) (now (tasks .entry)) (now (held .entry)) (now (ceilings .entry)) (now (queues .entry)))
+        o) ⌝ }
+{
+    if head[OBJECTS_CELL] <= o {
+        return Answer::NoSuchObject;
+    }
+    let running = head[RUNNING_CELL];
+    if running == 0 {
+        return Answer::NobodyRuns;
+    }
+    let t = (running - 1) as usize;
+    if held::depth(held, t) == 0 {
+        return Answer::NotInnermost;
+    }
+    if held::last(held, t) as u64 != o {
+        return Answer::NotInnermost;
+    }
+    held::drop_last(held, t);
+    effects::settle(head, tasks, held, ceilings, queues, t);
+    moves::dispatch(head, tasks, held, ceilings, queues);
+    Answer::Done
+}
+
+pub fn delay(
+    head: &mut [u64; HEAD_WIDTH],
+    tasks: &mut [u64],
+    held: &[u8],
+    ceilings: &[u8],
+    queues: &mut [u8],
+    d: u16,
+) -> Answer
+    requires { ⌜ Valid (now head) (now tasks) (now held) (now ceilings) (now queues) ⌝ }
+    ensures { λ r.
+        ⌜ Did (now (head .exit)) (now (tasks .exit)) (now (held .entry)) (now (ceilings .entry)) (now (queues .exit)) r
+        (delay
+        (modelOf (now (head .entry)) (now (tasks .entry)) (now (held .entry)) (now (ceilings .entry)) (now (queues .entry)))
+        d) ⌝ }
+{
+    let running = head[RUNNING_CELL];
+    if running == 0 {
+        return Answer::NobodyRuns;
+    }
+    let t = (running - 1) as usize;
+    if 0 < held::depth(held, t) {
+        return Answer::InsideAction;
+    }
+    head[RUNNING_CELL] = 0;
+    effects::put_off(head, tasks, held, ceilings, queues, t, d);
+    moves::dispatch(head, tasks, held, ceilings, queues);
+    Answer::Done
+}
+
+pub fn suspend(
+    head: &mut [u64; HEAD_WIDTH],
+    tasks: &mut [u64],
+    held: &[u8],
+    ceilings: &[u8],
+    queues: &mut [u8],
+) -> Answer
+    requires { ⌜ Valid (now head) (now tasks) (now held) (now ceilings) (now queues) ⌝ }
+    ensures { λ r.
+        ⌜ Did (now (head .exit)) (now (tasks .exit)) (now (held .entry)) (now (ceilings .entry)) (now (queues .exit)) r
+        (suspend
+        (modelOf (now (head .entry)) (now (tasks .entry)) (now (held .entry)) (now (ceilings .entry)) (now (queues .entry)))) ⌝ }
+{
+    let running = head[RUNNING_CELL];
+    if running == 0 {
+        return Answer::NobodyRuns;
+    }
+    let t = (running - 1) as usize;
+    if 0 < held::depth(held, t) {
+        return Answer::InsideAction;
+    }
+    effects::rest(head, tasks, held, ceilings, queues, t);
+    moves::dispatch(head, tasks, held, ceilings, queues);
+    Answer::Done
+}
+
+pub fn release(
+    head: &mut [u64; HEAD_WIDTH],
+    tasks: &mut [u64],
+    held: &[u8],
+    ceilings: &[u8],
+    queues: &mut [u8],
+    t: u64,
+) -> Answer
+    requires { ⌜ Valid (now head) (now tasks) (now held) (now ceilings) (now queues) ⌝ }
+    ensures { λ r.
+        ⌜ Did (now (head .exit)) (now (tasks .exit)) (now (held .entry)) (now (ceilings .entry)) (now (queues .exit)) r
+        (release
+        (modelOf (now (head .entry)) (now (tasks .entry)) (now (held .entry)) (now (ceilings .entry)) (now (queues .entry)))
+        t) ⌝ }
+{
+    if head[TASKS_CELL] <= t {
+        return Answer::NoSuchTask;
+    }
+    effects::release_from(head, tasks, held, ceilings, queues, t as usize);
+    moves::dispatch(head, tasks, held, ceilings, queues);
+    Answer::Done
+}
+
+pub fn clock(
+    head: &mut [u64; HEAD_WIDTH],
+    tasks: &mut [u64],
+    held: &[u8],
+    ceilings: &[u8],
+    queues: &mut [u8],
+    r: u64,
+) -> Answer
+    requires { ⌜ Valid (now head) (now tasks) (now held) (now ceilings) (now queues) ⌝ }
+    ensures { λ a.
+        ⌜ Did (now (head .exit)) (now (tasks .exit)) (now (held .entry)) (now (ceilings .entry)) (now (queues .exit)) a
+        (clock
+        (modelOf (now (head .entry)) (now (tasks .entry)) (now (held .entry)) (now (ceilings .entry)) (now (queues .entry)))
+        r) ⌝ }
+{
+    if r < head[NOW_CELL] {
+        return Answer::BadReading;
+    }
+    if LAST_READING < r {
+        return Answer::BadReading;
+    }
+    head[NOW_CELL] = r;
+    effects::wake_up(head, tasks, held, ceilings, queues, r);
+    moves::dispatch(head, tasks, held, ceilings, queues);
+    Answer::Done
+}
+
+pub fn set(
+    head: &mut [u64; HEAD_WIDTH],
+    tasks: &mut [u64],
+    held: &[u8],
+    ceilings: &[u8],
+    queues: &mut [u8],
+    t: u64,
+    p: Priority,
+) -> Answer
+    requires { ⌜ Valid (now head) (now tasks) (now held) (now ceilings) (now queues) ⌝ }
+    ensures { λ r.
+        ⌜ Did (now (head .exit)) (now (tasks .exit)) (now (held .entry)) (now (ceilings .entry)) (now (queues .exit)) r
+        (setBase
+        (modelOf (now (head .entry)) (now (tasks .entry)) (now (held .entry)) (now (ceilings .entry)) (now (queues .entry)))
+        t (p .0)) ⌝ }
+{
+    let first = Priority::FIRST;
+    let last = Priority::LAST;
+    if head[TASKS_CELL] <= t {
+        return Answer::NoSuchTask;
+    }
+    if p.0 < first.0 {
+        return Answer::BadPriority;
+    }
+    if last.0 < p.0 {
+        return Answer::BadPriority;
+    }
+    let place = tasks::place(tasks, t as usize);
+    if effects::is_ended(place) {
+        return Answer::EndedTask;
+    }
+    effects::rebase(head, tasks, held, ceilings, queues, t as usize, p);
+    moves::dispatch(head, tasks, held, ceilings, queues);
+    Answer::Done
+}
+
+pub fn work(
+    head: &mut [u64; HEAD_WIDTH],
+    tasks: &mut [u64],
+    held: &[u8],
+    ceilings: &[u8],
+    queues: &mut [u8],
+) -> Answer
+    requires { ⌜ Valid (now head) (now tasks) (now held) (now ceilings) (now queues) ⌝ }
+    ensures { λ r.
+        ⌜ Did (now (head .exit)) (now (tasks .exit)) (now (held .entry)) (now (ceilings .entry)) (now (queues .exit)) r
+        (work
+        (modelOf (now (head .entry)) (now (tasks .entry)) (now (held .entry)) (now (ceilings .entry)) (now (queues .entry)))) ⌝ }
+{
+    if head[RUNNING_CELL] == 0 {
+        return Answer::NobodyRuns;
+    }
+    moves::dispatch(head, tasks, held, ceilings, queues);
+    Answer::Done
+}
+
+pub fn finish(
+    head: &mut [u64; HEAD_WIDTH],
+    tasks: &mut [u64],
+    held: &[u8],
+    ceilings: &[u8],
+    queues: &mut [u8],
+) -> Answer
+    requires { ⌜ Valid (now head) (now tasks) (now held) (now ceilings) (now queues) ⌝ }
+    ensures { λ r.
+        ⌜ Did (now (head .exit)) (now (tasks .exit)) (now (held .entry)) (now (ceilings .entry)) (now (queues .exit)) r
+        (finish
+        (modelOf (now (head .entry)) (now (tasks .entry)) (now (held .entry)) (now (ceilings .entry)) (now (queues .entry)))) ⌝ }
+{
+    let running = head[RUNNING_CELL];
+    if running == 0 {
+        return Answer::NobodyRuns;
+    }
+    let t = (running - 1) as usize;
+    if 0 < held::depth(held, t) {
+        return Answer::InsideAction;
+    }
+    head[RUNNING_CELL] = 0;
+    tasks::set_place(tasks, t, Place::Ended);
+    moves::dispatch(head, tasks, held, ceilings, queues);
+    Answer::Done
+}
