@@ -1,18 +1,18 @@
 -- Laws of what events do to the slices before the dispatch.
 use mathlib.Core.Path.{_≡_, refl, ap, _∙_, sym}
-use mathlib.Core.Bool.{Bool, true, false}
+use mathlib.Core.Bool.{true, false}
 use mathlib.Core.List.{List, [], _∷_, _++_}
 use Prim.Native.Nat.{ℕ, zero, suc, _+_, _-_, _≤_, _<_}
 use native.Mathlib.Numerals.{add-one}
 use native.Mathlib.Omega.{arith}
-use borrow.Author.Tests.{le-ltb}
+use borrow.Author.Tests.{lt-ltb, le-ltb, eq-eqb, ne-eqb}
 use lib.ListN.{length, take, drop, getD, set, drop-of-length-le}
 use lib.Seq.{drop-cons, getD-set-other}
 use Rattle.rules.specs.Limits.{taskLimit}
 use Rattle.rules.specs.Model.{Model, TaskRecord, Waiting, none, waits, blank, withPlace, withBase, withWaiting, withPermit, withHeld}
 use Rattle.rules.specs.Model.{withNow, withRunning, taskAt, withTask, queue, withQueue}
 use Rattle.rules.specs.Moves.{becomeReady, stopped}
-use Rattle.rules.specs.Events.{inside, Due, nobody, earlier, dueAt, firstDue, wakeUp, without, requeue, takeHold, giveUp}
+use Rattle.rules.specs.Events.{inside, innermost, Due, nobody, earlier, dueAt, firstDue, wakeUp, without, requeue, takeHold, giveUp}
 use Rattle.rules.specs.declared.Priority.{Priority}
 use Rattle.rules.specs.declared.Place.{Place}
 use Rattle.rules.specs.declared.Place.the-variants.{Running, Ready, Delayed, Suspended, Ended}
@@ -85,15 +85,31 @@ module _ {h ts hd cs qs : List ℕ} (d : Laid h ts hd cs qs) where
   waits-base t w p g e f = waiting-is d t g ∙ ap waitingIn (sym e ∙ f)
 
   -- how much a task holds
-  pub depth-is : (t n : ℕ) → t < taskCount h → n ≡ length (heldBy hd t) → n ≡ length (taskAt (modelOf h ts hd cs qs) t .held)
+  depth-is : (t n : ℕ) → t < taskCount h → n ≡ length (heldBy hd t) → n ≡ length (taskAt (modelOf h ts hd cs qs) t .held)
   depth-is t n g e = e ∙ ap length (sym (held-is d t g))
 
-  pub outside : (t n : ℕ) → t < taskCount h → n ≡ length (heldBy hd t) → n ≤ 0 → inside (taskAt (modelOf h ts hd cs qs) t) ≡ false
-  outside t n g e z = le-ltb 0 (length (taskAt (modelOf h ts hd cs qs) t .held)) (omega (arith, depth-is t n g e))
+  pub inside-is : (t n : ℕ) → t < taskCount h → n ≡ length (heldBy hd t) → 0 < n → inside (taskAt (modelOf h ts hd cs qs) t) ≡ true
+  inside-is t n g e z = lt-ltb 0 (length (taskAt (modelOf h ts hd cs qs) t .held)) (omega (arith, depth-is t n g e))
 
-  pub last-is : (t x : ℕ) → t < taskCount h → x ≡ getD (heldBy hd t) (length (heldBy hd t) - 1) 0 →
+  pub outside-is : (t n : ℕ) → t < taskCount h → n ≡ length (heldBy hd t) → n ≤ 0 → inside (taskAt (modelOf h ts hd cs qs) t) ≡ false
+  outside-is t n g e z = le-ltb 0 (length (taskAt (modelOf h ts hd cs qs) t .held)) (omega (arith, depth-is t n g e))
+
+  -- the object that it entered last
+  last-is : (t x : ℕ) → t < taskCount h → x ≡ getD (heldBy hd t) (length (heldBy hd t) - 1) 0 →
       x ≡ getD (taskAt (modelOf h ts hd cs qs) t .held) (length (taskAt (modelOf h ts hd cs qs) t .held) - 1) 0
   last-is t x g e = e ∙ rw (held-is d t g)
+
+  pub innermost-none : (t o n : ℕ) → t < taskCount h → n ≡ length (heldBy hd t) → n ≤ 0 →
+      innermost (taskAt (modelOf h ts hd cs qs) t) o ≡ false
+  innermost-none t o n g e z = rw (outside-is t n g e z)
+
+  module _ (t o n x : ℕ) (g : t < taskCount h) (e : n ≡ length (heldBy hd t)) (z : 0 < n)
+      (f : x ≡ getD (heldBy hd t) (length (heldBy hd t) - 1) 0) where
+    pub innermost-other : (x ≡ o → ⊥) → innermost (taskAt (modelOf h ts hd cs qs) t) o ≡ false
+    innermost-other k = rw (inside-is t n g e z) (ne-eqb _ o (λ i. k (last-is t x g f ∙ i)))
+
+    pub innermost-is : x ≡ o → innermost (taskAt (modelOf h ts hd cs qs) t) o ≡ true
+    innermost-is i = rw (inside-is t n g e z) (eq-eqb _ o (sym (last-is t x g f) ∙ i))
 
   -- a clock reading, and the wakings
   pub clock-law : {ts' qs' : List ℕ} (r : ℕ) →

@@ -11,11 +11,11 @@ use lib.ListN.{length, take, drop, getD, set, length-set, length-take, drop-of-l
 use lib.Seq.{drop-cons, getD-take, getD-set-other}
 use Rattle.rules.specs.Limits.{taskLimit, lastPriority}
 use Rattle.rules.specs.Model.{Model, ceilingOf, highestOf, active, taskAt, queue, withPlace, withTask, withQueue, withRunning}
-use Rattle.rules.specs.Moves.{highestTo, highest, headOf, becomeReady, stopped, preempt, start, dispatchBy, dispatch}
+use Rattle.rules.specs.Moves.{highestTo, highest, headOf, becomeReady, stopped, preempt, start, dispatch}
 use Rattle.rules.specs.declared.Place.the-variants.{Running, Ready}
-use Rattle.rules.specs.declared.Runner.{Runner}
 use Rattle.rules.specs.declared.Runner.the-variants.{Nobody, Task as Runs}
 use Rattle.rules.proofs.Levels.{highest-top, highest-full}
+use Rattle.rules.proofs.MoveLaws.{dispatch-idle, dispatch-start, dispatch-stay, dispatch-switch}
 use Rattle.engine.specs.Rows.{HasQueue, queueIn, Queues, QueueBecame, heldBy}
 use Rattle.engine.specs.Tasks.{taskIn, Tasks, TaskBecame, placed}
 use Rattle.engine.specs.Memory.{runningCell, taskCount, objectCount, runnerOf, modelOf, Laid, Means}
@@ -123,24 +123,21 @@ preempted-starts m t p s l h =
       head = subst (λ (q : List ℕ). getD q 0 0 < length (preempt m t .tasks)) (sym other) (omega (arith, count, s .head));
     }
 
--- the four ways of a dispatch
+-- the four ways of a dispatch, p being the highest queue
 module _ (m : Model) (p : ℕ) (e : p ≡ highestTo (m .ready) lastPriority) where
-  by-runner : (w : Runner) → m .running ≡ w → dispatch m ≡ dispatchBy m w
-  unfolding dispatch
-  by-runner w g = ap (dispatchBy m) g
+  pub idle-way : m .running ≡ Nobody → p ≡ 0 → m ≡ dispatch m
+  unfolding highest
+  idle-way w z = sym (dispatch-idle m w (eq-eqb (highest m) 0 (sym e ∙ z)))
 
-  pub dispatch-idle : m .running ≡ Nobody → p ≡ 0 → m ≡ dispatch m
-  unfolding dispatchBy highest
-  dispatch-idle w z = sym (by-runner Nobody w ∙ rw (eq-eqb (highestTo (m .ready) lastPriority) 0 (sym e ∙ z)))
+  pub start-way : m .running ≡ Nobody → (p ≡ 0 → ⊥) → start m p ≡ dispatch m
+  unfolding highest
+  start-way w n = ap (start m) e ∙ sym (dispatch-start m w (ne-eqb (highest m) 0 (λ z. n (e ∙ z))))
 
-  pub dispatch-start : m .running ≡ Nobody → (p ≡ 0 → ⊥) → start m p ≡ dispatch m
-  unfolding dispatchBy highest
-  dispatch-start w z = sym (by-runner Nobody w ∙ rw (ne-eqb (highestTo (m .ready) lastPriority) 0 (λ g. z (e ∙ g)), ← e))
+  pub stay-way : (t a : ℕ) → m .running ≡ Runs t → a ≡ active m t → p ≤ a → m ≡ dispatch m
+  unfolding highest
+  stay-way t a w f l = sym (dispatch-stay m t w (le-leb (highest m) (active m t) (omega (arith, e, f))))
 
-  pub dispatch-stay : (t a : ℕ) → m .running ≡ Runs t → a ≡ active m t → p ≤ a → m ≡ dispatch m
-  unfolding dispatchBy highest
-  dispatch-stay t a w f l = sym (by-runner (Runs t) w ∙ rw (le-leb (highestTo (m .ready) lastPriority) (active m t) (omega (arith, e, f))))
-
-  pub dispatch-switch : (t a : ℕ) → m .running ≡ Runs t → a ≡ active m t → a < p → start (preempt m t) p ≡ dispatch m
-  unfolding dispatchBy highest
-  dispatch-switch t a w f l = sym (by-runner (Runs t) w ∙ rw (lt-leb (highestTo (m .ready) lastPriority) (active m t) (omega (arith, e, f)), ← e))
+  pub switch-way : (t a : ℕ) → m .running ≡ Runs t → a ≡ active m t → a < p → start (preempt m t) p ≡ dispatch m
+  unfolding highest
+  switch-way t a w f l =
+      ap (start (preempt m t)) e ∙ sym (dispatch-switch m t w (lt-leb (highest m) (active m t) (omega (arith, e, f))))

@@ -1,36 +1,32 @@
--- What soundness gives the engine: tasks that are there, priorities in range, and room for the task on its way, at every move of an event.
+-- What the standing of a Model gives the moves: tasks that are there, priorities in range, room for the task on its way.
 use mathlib.Core.Path.{_≡_, refl, ap, _∙_, sym, subst}
 use mathlib.Core.Bool.{Bool, true, false}
-use mathlib.Core.List.{List, [], _∷_, _++_}
+use mathlib.Core.List.{List}
 use Prim.Native.Nat.{ℕ, zero, suc, _+_, _-_, _≤_, _<_}
 use native.Mathlib.Omega.{arith}
 use borrow.Author.Tests.{ltb-false}
-use lib.Dec.{eqb, ltb}
-use lib.ListN.{length, getD, set, length-set}
-use Rattle.rules.specs.Limits.{taskLimit, objectLimit, firstPriority, lastPriority}
+use lib.Dec.{ltb}
+use lib.ListN.{length, length-set}
+use Rattle.rules.specs.Limits.{taskLimit, objectLimit}
 use Rattle.rules.specs.Priorities.{inRange}
-use Rattle.rules.specs.Model.{Model, TaskRecord, Waiting, none, waits, blank, withPlace, withBase, withWaiting, withPermit, withHeld}
-use Rattle.rules.specs.Model.{withNow, taskAt, withTask, queue, withQueue, active}
-use Rattle.rules.specs.Moves.{headOf, becomeReady, stopped}
-use Rattle.rules.specs.Events.{timesIn, inside, takeHold, giveUp, settleWith, settle, putOff, rest, permitOn, releaseFrom}
-use Rattle.rules.specs.Events.{Due, nobody, task, firstDue, wake, wakeUp, without, requeue, rebase}
-use Rattle.rules.specs.Sound.{sound, isReady, isRunning, runs, waitingGood}
+use Rattle.rules.specs.Model.{Model, TaskRecord, none, waits, blank, withBase, withWaiting, withHeld, withNow}
+use Rattle.rules.specs.Model.{taskAt, withTask, queue, withQueue, active}
+use Rattle.rules.specs.Moves.{headOf, stopped}
+use Rattle.rules.specs.Events.{timesIn, holds, inside, giveUp, Due, nobody, task, firstDue, wake, wakeUp, without}
+use Rattle.rules.specs.Sound.{isReady, isRunning, runs, waitingGood}
 use Rattle.rules.specs.declared.Place.{Place}
 use Rattle.rules.specs.declared.Place.the-variants.{Running, Ready, Delayed, Suspended, Ended}
 use Rattle.rules.specs.declared.Runner.the-variants.{Task}
-use Rattle.rules.proofs.Choices.{compare, clash, both-ways}
+use Rattle.rules.proofs.Choices.{compare, clash}
 use Rattle.rules.proofs.PriorityLaws.{in-bounds}
 use Rattle.rules.proofs.Counts.{times-same, times-head, queued-at}
-use Rattle.rules.proofs.TaskLaws.{ready, running, depth, baseOf, runs-named, runs-is, at-same, out-of}
+use Rattle.rules.proofs.TaskLaws.{ready, depth, baseOf, runs-named, runs-is, at-same, out-of}
 use Rattle.rules.proofs.Standing.{all-runs, all-queueing, stand-unqueued}
-use Rattle.rules.proofs.Core.{Core, act-low, act-high, runner-in, core-out, core-wake, core-put, core-away, core-ready, core-held}
-use Rattle.rules.proofs.Core.{core-same}
+use Rattle.rules.proofs.Core.{Core, act-low, act-high, runner-in, core-out, core-wake, core-put, core-held}
 use Rattle.rules.proofs.Room.{queue-room, runner-room}
 use Rattle.rules.proofs.HeldLaws.{held-room}
-use Rattle.rules.proofs.WakingLaws.{Finds, finds, delayed-off, core-now}
-use Rattle.rules.proofs.Kept.{Good}
-use Rattle.rules.proofs.Soundness.{sound-good}
-use Rattle.engine.specs.Rows.{HasQueue}
+use Rattle.rules.proofs.WakingLaws.{Finds, finds, woke, delayed-off, core-now}
+use Rattle.rules.proofs.Pending.{Good, Pending, hold-none, t-runs, t-in, t-fair}
 use Rattle.engine.specs.Room.{Joins, Dispatches, settled, Settles, isSuspended, Releases, Wakes, Requeues, Rebases}
 
 -- the task on its way can join its queue, and so can the running task
@@ -42,7 +38,7 @@ core-joins m x c h =
       room = omega (arith, queue-room m x c (active m x - 1) h, c .count);
     }
 
-pub runner-joins : {ord : Bool} (m : Model) (t : ℕ) → Core ord m taskLimit → m .running ≡ Task t → Joins m t
+runner-joins : {ord : Bool} (m : Model) (t : ℕ) → Core ord m taskLimit → m .running ≡ Task t → Joins m t
 runner-joins m t c e =
     let r = runs-named (m .running) t e in
     let h = runner-in m c t r in
@@ -66,167 +62,81 @@ head-there m p c f =
 pub core-dispatches : {ord : Bool} (m : Model) → Core ord m taskLimit → Dispatches m
 core-dispatches m c = record { runner = λ t e. runner-joins m t c e; heads = λ p q f. head-there m p c f }
 
--- a sound Model
-pub sound-core : (m : Model) → sound m ≡ true → Core false m taskLimit
-sound-core m s = sound-good m s .pending .core
+-- the running task t, with another record k, stops and goes on its way
+stop-core : {ord : Bool} (m : Model) (t : ℕ) (k : TaskRecord) → Core ord m taskLimit → m .running ≡ Task t → depth (taskAt m t) ≡ 0 →
+    depth k ≡ 0 → inRange (baseOf k) ≡ true → Core ord (stopped (withTask m t k)) t
+unfolding stopped
+stop-core m t k c e z y g =
+    let b = in-bounds (baseOf k) g in
+    let r = runs-named (m .running) t e in
+    core-put (stopped m) t (core-out m c t r z) k (runner-in m c t r) y (b .0) (b .1)
 
-hold-none : (k : TaskRecord) → inside k ≡ false → depth k ≡ 0
-hold-none k z = omega (arith, ltb-false 0 (depth k) z)
+module _ {ord : Bool} (m : Model) (t : ℕ) (h : Good ord m) (e : m .running ≡ Task t) where
+  -- Enter: room for an object that it does not hold
+  pub enter-room : (o : ℕ) → o < length (m .ceilings) → holds (taskAt m t) o ≡ false → length (taskAt m t .held) < objectLimit
+  enter-room o l z =
+      let f = t-fair m t h e in
+      let none : timesIn o (taskAt m t .held) ≡ 0 = omega (arith, ltb-false 0 (timesIn o (taskAt m t .held)) z) in
+      omega (arith, held-room (length (m .ceilings)) o (taskAt m t .held) (f .listing) (f .once) l none, h .pending .sizes .objects)
 
--- the running task t
-module _ {ord : Bool} (m : Model) (t : ℕ) (c : Core ord m taskLimit) (e : m .running ≡ Task t) where
-  pub running-there : t < length (m .tasks)
-  running-there = runner-in m c t (runs-named (m .running) t e)
+  -- Leave: a base that waits can take effect
+  left-core : Core ord (giveUp m t) taskLimit
+  left-core = core-held m (h .pending .core) t _ (t-runs m t h e) refl refl refl
 
-  -- holds one object more, or gives one up
-  pub hold-core : (l : List ℕ) → Core ord (withTask m t (withHeld (taskAt m t) l)) taskLimit
-  hold-core l = core-held m c t (withHeld (taskAt m t) l) (runs-named (m .running) t e) refl refl refl
-
-  pub permit-core : (b : Bool) → Core ord (withTask m t (withPermit (taskAt m t) b)) taskLimit
-  permit-core b = core-held m c t (withPermit (taskAt m t) b) (runs-named (m .running) t e) refl refl refl
-
-  -- stops, and goes on its way; another base is in range
-  pub stop-core : depth (taskAt m t) ≡ 0 → Core ord (stopped m) t
-  stop-core z = core-out m c t (runs-named (m .running) t e) z
-
-  pub settle-core : (k : TaskRecord) → depth (taskAt m t) ≡ 0 → depth k ≡ 0 → inRange (baseOf k) ≡ true →
-      Core ord (stopped (withTask m t k)) t
-  unfolding stopped
-  settle-core k z y g =
-      let b = in-bounds (baseOf k) g in
-      core-put (stopped m) t (core-out m c t (runs-named (m .running) t e) z) k running-there y (b .0) (b .1)
-
-  -- goes away to the place x
-  pub away-core : (x : Place) → depth (taskAt m t) ≡ 0 → isReady x + isRunning x ≡ 0 →
-      Core ord (withTask (stopped m) t (withPlace (taskAt m t) x)) taskLimit
-  unfolding stopped
-  away-core x z o =
-      let k = withPlace (taskAt m t) x in
-      let h = running-there in
-      let is-ready = at-same ready blank (m .tasks) t k t refl h in
-      let is-running = at-same running blank (m .tasks) t k t refl h in
-      core-away _ t (core-put (stopped m) t (core-out m c t (runs-named (m .running) t e) z) k h z (c .low t h) (c .high t h))
-      (omega (arith, o, is-ready, is-running))
-
-  pub put-off-core : (d : ℕ) → depth (taskAt m t) ≡ 0 → Core ord (putOff (stopped m) t d) taskLimit
-  unfolding putOff stopped isReady isRunning
-  put-off-core d z =
-      both-ways (λ (n : Model). Core ord n taskLimit) (eqb d 0) _ _
-      (λ i. core-ready (stopped m) t (stop-core z) running-there)
-      (λ i. away-core (Delayed (m .now + d)) z refl)
-
-  pub rest-core : depth (taskAt m t) ≡ 0 → Core ord (rest m t) taskLimit
-  unfolding rest isReady isRunning
-  rest-core z =
-      both-ways (λ (n : Model). Core ord n taskLimit) (taskAt m t .permit) _ _ (λ i. permit-core false) (λ i. away-core Suspended z refl)
-
-  pub finish-core : depth (taskAt m t) ≡ 0 → Core ord (withTask (stopped m) t (withPlace (taskAt m t) Ended)) taskLimit
-  unfolding isReady isRunning
-  finish-core z = away-core Ended z refl
-
--- Enter: room for an object that the running task does not hold
-pub enter-room : (m : Model) (t o : ℕ) → sound m ≡ true → m .running ≡ Task t → o < length (m .ceilings) →
-    ltb 0 (timesIn o (taskAt m t .held)) ≡ false → length (taskAt m t .held) < objectLimit
-enter-room m t o s e l z =
-    let g = sound-good m s .pending in
-    let f = g .fair t (running-there m t (g .core) e) in
-    let no : timesIn o (taskAt m t .held) ≡ 0 = omega (arith, ltb-false 0 (timesIn o (taskAt m t .held)) z) in
-    let few = held-room (length (m .ceilings)) o (taskAt m t .held) (f .listing) (f .once) l no in
-    omega (arith, few, g .sizes .objects)
-
--- Leave: the running task t of a sound Model gives an object up, and a base that waits may be due
-module _ (m : Model) (t : ℕ) (s : sound m ≡ true) (e : m .running ≡ Task t) where
-  left-core : Core false (giveUp m t) taskLimit
-  left-core = hold-core m t (sound-core m s) e _
-
-  left-there : t < length (giveUp m t .tasks)
-  left-there = running-there (giveUp m t) t left-core e
-
-  -- the base that waits is in range
   left-range : (p : ℕ) → taskAt (giveUp m t) t .waiting ≡ waits p → inRange p ≡ true
   unfolding waitingGood
   left-range p w =
-      let h = running-there m t (sound-core m s) e in
-      let same = at-same (λ (k : TaskRecord). k .waiting) blank (m .tasks) t _ t refl h in
-      sym (ap waitingGood (sym same ∙ w)) ∙ sound-good m s .pending .fair t h .waiting
+      let same = at-same (λ (k : TaskRecord). k .waiting) blank (m .tasks) t _ t refl (t-in m t h e) in
+      sym (ap waitingGood (sym same ∙ w)) ∙ t-fair m t h e .waiting
 
-  effect-core : (p : ℕ) → inside (taskAt (giveUp m t) t) ≡ false → taskAt (giveUp m t) t .waiting ≡ waits p →
-      Core false (settled (giveUp m t) t p) t
-  effect-core p z w =
-      let none-held = hold-none (taskAt (giveUp m t) t) z in
-      settle-core (giveUp m t) t left-core e _ none-held none-held (left-range p w)
-
-  effect-there : (p : ℕ) → t < length (settled (giveUp m t) t p .tasks)
+  effect : (p : ℕ) → inside (taskAt (giveUp m t) t) ≡ false → taskAt (giveUp m t) t .waiting ≡ waits p → Joins (settled (giveUp m t) t p) t
   unfolding stopped
-  effect-there p = omega (arith, left-there, length-set (giveUp m t .tasks) t (withWaiting (withBase (taskAt (giveUp m t) t) p) none))
+  effect p z w =
+      let k = withWaiting (withBase (taskAt (giveUp m t) t) p) none in
+      let bare = hold-none (taskAt (giveUp m t) t) z in
+      let n : t < length (giveUp m t .tasks) = runner-in (giveUp m t) left-core t (t-runs m t h e) in
+      core-joins _ t (stop-core (giveUp m t) t k left-core e bare bare (left-range p w))
+      (omega (arith, length-set (giveUp m t .tasks) t k))
 
   pub leave-settles : Settles (giveUp m t) t
-  leave-settles =
-      record { there = left-there; due = λ p z w. core-joins _ t (effect-core p z w) (effect-there p) }
+  leave-settles = record { there = runner-in (giveUp m t) left-core t (t-runs m t h e); due = effect }
 
-  pub leave-core : Core false (settle (giveUp m t) t) taskLimit
-  unfolding settle settleWith
-  leave-core =
-      both-ways (λ (n : Model). Core false n taskLimit) (inside (taskAt (giveUp m t) t)) _ _ (λ z. left-core)
-      (λ z. by-waiting (taskAt (giveUp m t) t .waiting) refl z)
-    where
-      by-waiting : (w : Waiting) → taskAt (giveUp m t) t .waiting ≡ w → inside (taskAt (giveUp m t) t) ≡ false →
-          Core false (settleWith (giveUp m t) t w) taskLimit
-      by-waiting none w z = left-core
-      by-waiting (waits p) w z = core-ready (settled (giveUp m t) t p) t (effect-core p z w) (effect-there p)
+  -- Delay
+  pub delay-joins : inside (taskAt m t) ≡ false → Joins (stopped m) t
+  unfolding stopped
+  delay-joins z =
+      core-joins (stopped m) t (core-out m (h .pending .core) t (t-runs m t h e) (hold-none (taskAt m t) z)) (t-in m t h e)
 
--- Release
-module _ {ord : Bool} (m : Model) (t : ℕ) (c : Core ord m taskLimit) (h : t < length (m .tasks)) where
-  wake-up-core : taskAt m t .place ≡ Suspended → Core ord m t
-  unfolding isReady isRunning
-  wake-up-core e = core-wake m c t (ap (λ (x : Place). isReady x + isRunning x) e)
+-- Release of a suspended task
+pub release-needs : {ord : Bool} (m : Model) (t : ℕ) → Core ord m taskLimit → t < length (m .tasks) → Releases m t
+unfolding isSuspended isReady isRunning
+release-needs m t c h = record { there = h; suspended = go (taskAt m t .place) refl }
+  where
+    go : (x : Place) → taskAt m t .place ≡ x → isSuspended x ≡ true → Joins m t
+    go Running e f = clash (sym f)
+    go Ready e f = clash (sym f)
+    go (Delayed d) e f = clash (sym f)
+    go Suspended e f = core-joins m t (core-wake m c t (ap (λ (x : Place). isReady x + isRunning x) e)) h
+    go Ended e f = clash (sym f)
 
-  released : (x : Place) → taskAt m t .place ≡ x → isSuspended x ≡ true → Joins m t
-  unfolding isSuspended
-  released Running e f = clash (sym f)
-  released Ready e f = clash (sym f)
-  released (Delayed d) e f = clash (sym f)
-  released Suspended e f = core-joins m t (wake-up-core e) h
-  released Ended e f = clash (sym f)
-
-  pub release-needs : Releases m t
-  release-needs = record { there = h; suspended = released (taskAt m t .place) refl }
-
-  pub release-core : (x : Place) → taskAt m t .place ≡ x → Core ord (releaseFrom m t x) taskLimit
-  unfolding releaseFrom
-  release-core Running e = core-same m c t (withPermit (taskAt m t) true) h refl refl refl refl refl
-  release-core Ready e = core-same m c t (withPermit (taskAt m t) true) h refl refl refl refl refl
-  release-core (Delayed d) e = core-same m c t (withPermit (taskAt m t) true) h refl refl refl refl refl
-  release-core Suspended e = core-ready m t (wake-up-core e) h
-  release-core Ended e = core-same m c t (withPermit (taskAt m t) true) h refl refl refl refl refl
-
--- Clock: whoever is due is away, and there
-due-core : {ord : Bool} (m : Model) (r t d : ℕ) → Core ord m taskLimit → Finds r 0 (m .tasks) (task t d) →
-    Core ord m t × (t < length (m .tasks))
-due-core m r t d c f =
-    let at : t ≡ f .at = omega (arith, f .is) in
-    let place : taskAt m t .place ≡ Delayed d = ap (λ (v : ℕ). taskAt m v .place) at ∙ f .place in
-    (core-wake m c t (delayed-off (taskAt m t .place) d place), omega (arith, f .low))
-
-one-core : {ord : Bool} (m : Model) (r : ℕ) (x : Due) → Core ord m taskLimit → Finds r 0 (m .tasks) x → Core ord (wake m x) taskLimit
-unfolding wake
-one-core m r nobody c f = c
-one-core m r (task t d) c f = let x = due-core m r t d c f in core-ready m t (x .0) (x .1)
-
-pub wake-core : {ord : Bool} (r n : ℕ) (m : Model) → Core ord m taskLimit → Core ord (wakeUp r n m) taskLimit
+-- Clock: after any number of wakings, whoever is due is away and there
+wake-core : {ord : Bool} (r n : ℕ) (m : Model) → Core ord m taskLimit → Core ord (wakeUp r n m) taskLimit
 unfolding wakeUp
 wake-core r zero m c = c
-wake-core r (suc n) m c = wake-core r n _ (one-core m r (firstDue r nobody 0 (m .tasks)) c (finds r 0 (m .tasks)))
+wake-core r (suc n) m c = wake-core r n _ (woke r m (firstDue r nobody 0 (m .tasks)) c (finds r 0 (m .tasks)) .core)
 
-pub clock-core : {ord : Bool} (m : Model) (r n : ℕ) → Core ord m taskLimit → Core ord (wakeUp r n (withNow m r)) taskLimit
-clock-core m r n c = wake-core r n (withNow m r) (core-now m r c)
+due-joins : {ord : Bool} (m : Model) (r t d : ℕ) → Core ord m taskLimit → Finds r 0 (m .tasks) (task t d) → Joins m t
+due-joins m r t d c f =
+    let at : t ≡ f .at = omega (arith, f .is) in
+    let place : taskAt m t .place ≡ Delayed d = ap (λ (v : ℕ). taskAt m v .place) at ∙ f .place in
+    core-joins m t (core-wake m c t (delayed-off (taskAt m t .place) d place)) (omega (arith, f .low))
 
 pub clock-wakes : {ord : Bool} (m : Model) (r : ℕ) → Core ord m taskLimit → Wakes (withNow m r) r
 clock-wakes m r c =
     record {
       next = λ n t d e.
-          let x = due-core _ r t d (clock-core m r n c) (subst (Finds r 0 (wakeUp r n (withNow m r) .tasks)) e (finds r 0 _)) in
-          core-joins _ t (x .0) (x .1);
+          let found = subst (Finds r 0 (wakeUp r n (withNow m r) .tasks)) e (finds r 0 (wakeUp r n (withNow m r) .tasks)) in
+          due-joins _ r t d (wake-core r n (withNow m r) (core-now m r c)) found;
     }
 
 -- Set of a task that holds nothing, with the base p
@@ -235,12 +145,14 @@ module _ {ord : Bool} (m : Model) (t p : ℕ) (c : Core ord m taskLimit) (h : t 
   based-there : t < length (withTask m t (withBase (taskAt m t) p) .tasks)
   based-there = omega (arith, length-set (m .tasks) t (withBase (taskAt m t) p))
 
-  run-core : m .running ≡ Task t → Core ord (stopped (withTask m t (withBase (taskAt m t) p))) t
-  run-core e = settle-core m t c e (withBase (taskAt m t) p) z z g
+  runs-at : taskAt m t .place ≡ Running → m .running ≡ Task t
+  unfolding isRunning
+  runs-at e = runs-is (m .running) t (omega (arith, all-runs _ _ _ _ taskLimit (c .stand) (c .count) t, ap isRunning e))
 
-  queue-core : ready (taskAt m t) ≡ 1 →
+  -- a ready one has left its queue
+  unqueued-core : ready (taskAt m t) ≡ 1 →
       Core ord (withQueue (withTask m t (withBase (taskAt m t) p)) (active m t) (without t (queue m (active m t)))) t
-  queue-core o =
+  unqueued-core o =
       let b = in-bounds p g in
       let low = act-low m taskLimit c t h in
       let high = act-high m taskLimit c t h in
@@ -256,46 +168,16 @@ module _ {ord : Bool} (m : Model) (t p : ℕ) (c : Core ord m taskLimit) (h : t 
       } in
       core-put _ t out (withBase (taskAt m t) p) h z (b .0) (b .1)
 
-  off-core : ready (taskAt m t) + running (taskAt m t) ≡ 0 → Core ord (withTask m t (withBase (taskAt m t) p)) taskLimit
-  off-core o =
-      let b = in-bounds p g in
-      let k = withBase (taskAt m t) p in
-      let is-ready = at-same ready blank (m .tasks) t k t refl h in
-      let is-running = at-same running blank (m .tasks) t k t refl h in
-      core-away _ t (core-put m t (core-wake m c t o) k h z (b .0) (b .1)) (omega (arith, o, is-ready, is-running))
-
-  runs-at : taskAt m t .place ≡ Running → m .running ≡ Task t
-  unfolding isRunning
-  runs-at e = runs-is (m .running) t (omega (arith, all-runs _ _ _ _ taskLimit (c .stand) (c .count) t, ap isRunning e))
-
-  pub requeue-needs : (x : Place) → taskAt m t .place ≡ x → Requeues (withTask m t (withBase (taskAt m t) p)) t (active m t) x
+  requeue-needs : (x : Place) → taskAt m t .place ≡ x → Requeues (withTask m t (withBase (taskAt m t) p)) t (active m t) x
   unfolding isReady stopped
   requeue-needs x e =
       record {
         there = based-there;
-        running = λ f. core-joins _ t (run-core (runs-at (e ∙ f))) based-there;
+        running = λ f. core-joins _ t (stop-core m t (withBase (taskAt m t) p) c (runs-at (e ∙ f)) z z g) based-there;
         ready = λ f. record { low = act-low m taskLimit c t h; high = act-high m taskLimit c t h };
-        again = λ f. core-joins _ t (queue-core (ap isReady (e ∙ f))) based-there;
+        again = λ f. core-joins _ t (unqueued-core (ap isReady (e ∙ f))) based-there;
       }
 
-  pub requeue-core : (x : Place) → taskAt m t .place ≡ x →
-      Core ord (requeue (withTask m t (withBase (taskAt m t) p)) t (active m t) x) taskLimit
-  unfolding requeue isReady isRunning stopped
-  requeue-core Running e = core-ready _ t (run-core (runs-at e)) based-there
-  requeue-core Ready e = core-ready _ t (queue-core (ap isReady e)) based-there
-  requeue-core (Delayed d) e = off-core (ap (λ (v : Place). isReady v + isRunning v) e)
-  requeue-core Suspended e = off-core (ap (λ (v : Place). isReady v + isRunning v) e)
-  requeue-core Ended e = off-core (ap (λ (v : Place). isReady v + isRunning v) e)
-
-module _ {ord : Bool} (m : Model) (t p : ℕ) (c : Core ord m taskLimit) (h : t < length (m .tasks)) (g : inRange p ≡ true) where
-  pub rebase-needs : Rebases m t p
-  rebase-needs =
-      record { there = h; outside = λ z. requeue-needs m t p c h g (hold-none (taskAt m t) z) (taskAt m t .place) refl }
-
-  pub rebase-core : Core ord (rebase m t p) taskLimit
-  unfolding rebase
-  rebase-core =
-      both-ways (λ (n : Model). Core ord n taskLimit) (inside (taskAt m t)) _ _
-      (λ z. core-same m c t (withWaiting (taskAt m t) (waits p)) h refl refl refl refl refl)
-      (λ z. both-ways (λ (n : Model). Core ord n taskLimit) (eqb (taskAt m t .base) p) _ _ (λ i. c)
-      (λ i. requeue-core m t p c h g (hold-none (taskAt m t) z) (taskAt m t .place) refl))
+pub rebase-needs : {ord : Bool} (m : Model) (t p : ℕ) → Core ord m taskLimit → t < length (m .tasks) → inRange p ≡ true → Rebases m t p
+rebase-needs m t p c h g =
+    record { there = h; outside = λ z. requeue-needs m t p c h g (hold-none (taskAt m t) z) (taskAt m t .place) refl }

@@ -1,77 +1,96 @@
--- What the slices of a sound Model give an event: its running task, its objects, and what its moves and its dispatch need.
+-- What the slices of a sound Model give an event: its running task, its objects, the tests of its rule, and what its dispatch needs.
 use mathlib.Core.Path.{_≡_, refl, ap, _∙_, sym}
-use mathlib.Core.Bool.{Bool, true, false}
-use mathlib.Core.List.{List, [], _∷_, _++_}
+use mathlib.Core.Bool.{Bool, true, false, _&&_, _||_}
+use mathlib.Core.List.{List}
 use Prim.Native.Nat.{ℕ, _-_, _≤_, _<_}
 use native.Mathlib.Omega.{arith}
-use lib.Dec.{ltb}
+use borrow.Author.Tests.{le-leb, lt-leb, lt-ltb, le-ltb}
+use lib.Dec.{leb, ltb}
 use lib.ListN.{length, getD}
 use lib.Seq.{getD-take}
-use Rattle.rules.specs.Limits.{taskLimit, objectLimit, lastReading}
-use Rattle.rules.specs.Model.{Model, TaskRecord, taskAt, ceilingOf, active}
-use Rattle.rules.specs.Moves.{stopped}
-use Rattle.rules.specs.Events.{timesIn, holds}
+use Rattle.rules.specs.Limits.{taskLimit, objectLimit, firstPriority, lastPriority, lastReading}
+use Rattle.rules.specs.Priorities.{inRange}
+use Rattle.rules.specs.Model.{Model, taskAt, ceilingOf, active}
+use Rattle.rules.specs.Events.{noTask, noObject, timesIn, holds}
 use Rattle.rules.specs.declared.Runner.the-variants.{Task}
+use Rattle.rules.proofs.Choices.{or-first, or-second}
 use Rattle.rules.proofs.Core.{Core}
+use Rattle.rules.proofs.Pending.{Good, Pending, t-in}
 use Rattle.rules.proofs.Soundness.{sound-good}
 use Rattle.engine.specs.Rows.{heldBy, Held}
 use Rattle.engine.specs.Memory.{nowCell, runningCell, taskCount, objectCount, modelOf, Laid, Means, Valid}
-use Rattle.engine.specs.Room.{Joins, Dispatches}
+use Rattle.engine.specs.Room.{Dispatches}
 use Rattle.engine.proofs.MemoryLaws.{count-is, objects-is, held-is, busy}
 use Rattle.engine.proofs.MoveLaws.{counted}
-use Rattle.engine.proofs.EffectLaws.{stop-law}
-use Rattle.engine.proofs.RoomLaws.{core-joins, core-dispatches, sound-core, running-there, stop-core, enter-room}
+use Rattle.engine.proofs.RoomLaws.{core-dispatches, enter-room}
 
--- a dispatch of the Model n, of which the laws of the rules show the standing
-pub dispatchable : {h ts hd cs qs : List ℕ} {n : Model} → Means h ts hd cs qs n → Core false n taskLimit →
+-- a dispatch of the Model n, which keeps what the rules promise up to a dispatch
+pub dispatchable : {h ts hd cs qs : List ℕ} {n : Model} → Means h ts hd cs qs n → Pending false n →
     Laid h ts hd cs qs × Dispatches (modelOf h ts hd cs qs)
-dispatchable {n = n} x c = (x .laid, rw (x .same) (core-dispatches n c))
+dispatchable {n = n} x p = (x .laid, rw (x .same) (core-dispatches n (p .core)))
+
+-- a reading below now or above the largest
+pub reading-past : (now r : ℕ) → r < now → (ltb r now || ltb lastReading r) ≡ true
+reading-past now r h = or-first (ltb r now) (ltb lastReading r) (lt-ltb r now h)
+
+pub reading-far : (now r : ℕ) → lastReading < r → (ltb r now || ltb lastReading r) ≡ true
+reading-far now r h = or-second (ltb r now) (ltb lastReading r) (lt-ltb lastReading r h)
+
+pub reading-good : (now r : ℕ) → now ≤ r → r ≤ lastReading → (ltb r now || ltb lastReading r) ≡ false
+reading-good now r h g = rw (le-ltb r now h) (le-ltb lastReading r g)
+
+-- a priority outside the range
+pub too-low : (p : ℕ) → p < firstPriority → inRange p ≡ false
+too-low p h = rw (lt-leb firstPriority p h)
+
+pub too-high : (p : ℕ) → firstPriority ≤ p → lastPriority < p → inRange p ≡ false
+too-high p g h = rw (le-leb firstPriority p g) (lt-leb p lastPriority h)
 
 module _ {h ts hd cs qs : List ℕ} (v : Valid h ts hd cs qs) where
-  pub core : Core false (modelOf h ts hd cs qs) taskLimit
-  core = sound-core (modelOf h ts hd cs qs) (v .sound)
+  pub good : Good false (modelOf h ts hd cs qs)
+  good = sound-good (modelOf h ts hd cs qs) (v .sound)
 
   -- somebody runs
   pub runner : (getD h runningCell 0 ≡ 0 → ⊥) → modelOf h ts hd cs qs .running ≡ Task (getD h runningCell 0 - 1)
   runner n = busy (v .laid) n
 
   pub runner-counted : (getD h runningCell 0 ≡ 0 → ⊥) → getD h runningCell 0 - 1 < taskCount h
-  runner-counted n = counted (v .laid) (running-there (modelOf h ts hd cs qs) _ core (runner n))
-
-  pub reading : getD h nowCell 0 ≤ lastReading
-  reading = sound-good (modelOf h ts hd cs qs) (v .sound) .pending .sizes .reading
+  runner-counted n = counted (v .laid) (t-in (modelOf h ts hd cs qs) _ good (runner n))
 
   -- tasks and objects
   pub there : (t : ℕ) → t < taskCount h → t < length (modelOf h ts hd cs qs .tasks)
   there t l = omega (arith, count-is (v .laid))
 
-  pub missing : (t : ℕ) → taskCount h ≤ t → length (modelOf h ts hd cs qs .tasks) ≤ t
-  missing t l = omega (arith, count-is (v .laid))
+  pub known-task : (t : ℕ) → t < taskCount h → noTask (modelOf h ts hd cs qs) t ≡ false
+  known-task t l = lt-leb (length (modelOf h ts hd cs qs .tasks)) t (there t l)
 
-  pub listed : (o : ℕ) → o < objectCount h → o < length (modelOf h ts hd cs qs .ceilings)
-  listed o l = omega (arith, objects-is (v .laid))
+  pub unknown-task : (t : ℕ) → taskCount h ≤ t → noTask (modelOf h ts hd cs qs) t ≡ true
+  unknown-task t l = le-leb (length (modelOf h ts hd cs qs .tasks)) t (omega (arith, count-is (v .laid)))
 
-  pub unlisted : (o : ℕ) → objectCount h ≤ o → length (modelOf h ts hd cs qs .ceilings) ≤ o
-  unlisted o l = omega (arith, objects-is (v .laid))
+  pub known-object : (o : ℕ) → o < objectCount h → noObject (modelOf h ts hd cs qs) o ≡ false
+  known-object o l = lt-leb (length (modelOf h ts hd cs qs .ceilings)) o (omega (arith, objects-is (v .laid)))
 
-  pub ceiling-is : (o : ℕ) → o < objectCount h → ceilingOf (modelOf h ts hd cs qs .ceilings) o ≡ getD cs o 0
-  ceiling-is o l = getD-take (objectCount h) cs o 0 l
+  pub unknown-object : (o : ℕ) → objectCount h ≤ o → noObject (modelOf h ts hd cs qs) o ≡ true
+  unknown-object o l = le-leb (length (modelOf h ts hd cs qs .ceilings)) o (omega (arith, objects-is (v .laid)))
 
   pub holds-is : (t o : ℕ) (b : Bool) → t < taskCount h → b ≡ ltb 0 (timesIn o (heldBy hd t)) →
       holds (taskAt (modelOf h ts hd cs qs) t) o ≡ b
   holds-is t o b g e = ap (λ (l : List ℕ). ltb 0 (timesIn o l)) (held-is (v .laid) t g) ∙ sym e
 
+  -- the ceiling of an object against the active priority a
+  module _ (t o a : ℕ) (l : o < objectCount h) (e : a ≡ active (modelOf h ts hd cs qs) t) where
+    ceiling-is : ceilingOf (modelOf h ts hd cs qs .ceilings) o ≡ getD cs o 0
+    ceiling-is = getD-take (objectCount h) cs o 0 l
+
+    pub above-ceiling : getD cs o 0 < a → ltb (ceilingOf (modelOf h ts hd cs qs .ceilings) o) (active (modelOf h ts hd cs qs) t) ≡ true
+    above-ceiling b = lt-ltb (ceilingOf (modelOf h ts hd cs qs .ceilings) o) (active (modelOf h ts hd cs qs) t) (omega (arith, ceiling-is, e))
+
+    pub within-ceiling : a ≤ getD cs o 0 → ltb (ceilingOf (modelOf h ts hd cs qs .ceilings) o) (active (modelOf h ts hd cs qs) t) ≡ false
+    within-ceiling b = le-ltb (ceilingOf (modelOf h ts hd cs qs .ceilings) o) (active (modelOf h ts hd cs qs) t) (omega (arith, ceiling-is, e))
+
   -- the running task can hold one object more
   pub hold-room : (t o : ℕ) → modelOf h ts hd cs qs .running ≡ Task t → t < taskCount h → o < objectCount h →
       holds (taskAt (modelOf h ts hd cs qs) t) o ≡ false → (t < taskLimit) × (Held hd × (length (heldBy hd t) < objectLimit))
-  hold-room t o e g l not-held =
-      let room = enter-room (modelOf h ts hd cs qs) t o (v .sound) e (listed o l) not-held in
+  hold-room t o e g l free =
+      let room = enter-room (modelOf h ts hd cs qs) t good e o (omega (arith, objects-is (v .laid))) free in
       (omega (arith, v .laid .count), (v .laid .held, rw (held-is (v .laid) t g) at room))
-
-  -- the running task that holds nothing can stop and join its queue
-  pub stop-joins : (t : ℕ) → modelOf h ts hd cs qs .running ≡ Task t → length (taskAt (modelOf h ts hd cs qs) t .held) ≡ 0 →
-      Joins (stopped (modelOf h ts hd cs qs)) t
-  unfolding stopped
-  stop-joins t e z =
-      core-joins (stopped (modelOf h ts hd cs qs)) t (stop-core (modelOf h ts hd cs qs) t core e z)
-      (running-there (modelOf h ts hd cs qs) t core e)

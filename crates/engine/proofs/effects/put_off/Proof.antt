@@ -2,7 +2,8 @@
 use mathlib.Core.Path.{sym}
 use Prim.Native.Nat.{_-_}
 use borrow.Author.Needs.{needs}
-use Rattle.engine.proofs.EventLaws.{put-off-tail, put-off-later}
+use borrow.Author.Tests.{eq-eqb, ne-eqb}
+use Rattle.rules.proofs.EventLaws.{put-tail, put-until}
 use Rattle.engine.proofs.MemoryLaws.{means-by, place-law}
 use Rattle.engine.proofs.MoveLaws.{counted, writable}
 use Rattle.engine.proofs.effects.put_off.Statement.{statement}
@@ -21,7 +22,7 @@ returns : tie.Need-returns
 returns c =
     let at-become-ready = c .before .before .before .before in
     let at-if1 = at-become-ready .before .before .before in
-    means-by (at-become-ready .become-ready .ensures) (sym (put-off-tail _ _ _ (at-if1 .if1 .taken)))
+    means-by (at-become-ready .become-ready .ensures) (sym (put-tail _ _ _ (eq-eqb _ 0 (at-if1 .if1 .taken))))
 
 element-copy-out-due : tie.Need-element-copy-out-due
 element-copy-out-due c = search needs
@@ -44,7 +45,7 @@ returns-2 c =
     let entry = at-if1 .before .before .before .before .before in
     let d = entry .pre .0 in
     let g = counted d (entry .pre .1 .0 .there) in
-    means-by (place-law d _ _ g (at-set-place .set-place .ensures)) (sym (put-off-later _ _ _ (at-if1 .if1 .left)))
+    means-by (place-law d _ _ g (at-set-place .set-place .ensures)) (sym (put-until _ _ _ (ne-eqb _ 0 (at-if1 .if1 .left))))
 
 pub put-off-spec : {M : Type 1} → statement M
 put-off-spec =

@@ -1,13 +1,13 @@
 -- `engine::effects::rebase` meets its contract.
 use mathlib.Core.Path.{ap, _∙_, sym}
 use Prim.Native.Nat.{_-_}
-use native.Mathlib.Omega.{arith}
 use borrow.Author.Needs.{needs}
+use borrow.Author.Tests.{eq-eqb, ne-eqb}
 use Rattle.rules.specs.Events.{requeue}
 use Rattle.rules.specs.Model.{Model}
 use Rattle.rules.specs.declared.Priority.{Priority}
-use Rattle.engine.proofs.EffectLaws.{readable, holdable, depth-is, outside, wait-law}
-use Rattle.engine.proofs.EventLaws.{rebase-inside, rebase-same, rebase-other}
+use Rattle.rules.proofs.EventLaws.{rebase-inside, rebase-same, rebase-other}
+use Rattle.engine.proofs.EffectLaws.{readable, holdable, wait-law, inside-is, outside-is}
 use Rattle.engine.proofs.MemoryLaws.{as-laid, means-by, then-means, place-is, base-is, base-law}
 use Rattle.engine.proofs.MoveLaws.{counted}
 use Rattle.engine.proofs.effects.rebase.Statement.{statement}
@@ -38,8 +38,8 @@ returns c =
     let entry = at-depth .before .before .before .before .before in
     let d = entry .pre .0 in
     let g = counted d (entry .pre .1 .there) in
-    let n = depth-is d _ _ g (at-depth .depth .ensures) in
-    means-by (wait-law d _ _ g (at-set-waiting .set-waiting .ensures)) (sym (rebase-inside _ _ _ (omega (arith, n, at-if1 .if1 .taken))))
+    let in-action = inside-is d _ _ g (at-depth .depth .ensures) (at-if1 .if1 .taken) in
+    means-by (wait-law d _ _ g (at-set-waiting .set-waiting .ensures)) (sym (rebase-inside _ _ _ in-action))
 
 base-requires : tie.Need-base-requires
 base-requires c κs =
@@ -59,9 +59,9 @@ returns-2 c =
     let entry = at-depth .before .before .before .before .before in
     let d = entry .pre .0 in
     let g = counted d (entry .pre .1 .there) in
-    let n = depth-is d _ _ g (at-depth .depth .ensures) in
+    let bare = outside-is d _ _ g (at-depth .depth .ensures) (at-if1 .if1 .left) in
     let same = base-is d _ g ∙ (ap (λ (p : Priority). p .0) (sym (at-base .base .ensures)) ∙ c .if2 .taken) in
-    means-by (as-laid d) (sym (rebase-same _ _ _ (omega (arith, n, at-if1 .if1 .left)) same))
+    means-by (as-laid d) (sym (rebase-same _ _ _ bare (eq-eqb _ _ same)))
 
 active-requires : tie.Need-active-requires
 active-requires c κs =
@@ -98,10 +98,10 @@ requeue-requires c κs =
     let entry = at-depth .before .before .before .before .before in
     let d = entry .pre .0 in
     let g = counted d (entry .pre .1 .there) in
+    let bare = outside-is d _ _ g (at-depth .depth .ensures) (at-if1 .if1 .left) in
     let x = base-law d _ _ g (at-set-base .set-base .ensures) in
     let place = at-place .place .ensures ∙ sym (place-is d _ g) in
-    let none = outside d _ _ g (at-depth .depth .ensures) (at-if1 .if1 .left) in
-    (x .laid, rw (x .same, at-active .active .ensures, place) (entry .pre .1 .outside none))
+    (x .laid, rw (x .same, at-active .active .ensures, place) (entry .pre .1 .outside bare))
 
 same-length-3 : tie.Need-same-length-3
 same-length-3 c = search needs
@@ -122,13 +122,14 @@ returns-3 c =
     let entry = at-depth .before .before .before .before .before in
     let d = entry .pre .0 in
     let g = counted d (entry .pre .1 .there) in
+    let bare = outside-is d _ _ g (at-depth .depth .ensures) (at-if1 .if1 .left) in
     let t = entry .args .t in
-    let n = depth-is d _ _ g (at-depth .depth .ensures) in
     let x = base-law d _ _ g (at-set-base .set-base .ensures) in
     let place = at-place .place .ensures ∙ sym (place-is d _ g) in
     let base = ap (λ (p : Priority). p .0) (at-base .base .ensures) ∙ sym (base-is d _ g) in
+    let other = ne-eqb _ _ (λ e. at-if2 .if2 .left (base ∙ e)) in
     let y = then-means (λ (m : Model). requeue m t (at-active .active .result .0) (at-place .place .result)) x (at-requeue .requeue .ensures) in
-    means-by y (rebase-other _ t _ _ _ (omega (arith, n, at-if1 .if1 .left)) (λ e. at-if2 .if2 .left (base ∙ e)) (at-active .active .ensures) place)
+    means-by y (rw (at-active .active .ensures, place) (sym (rebase-other _ t _ bare other)))
 
 pub rebase-spec : {M : Type 1} → statement M
 rebase-spec =

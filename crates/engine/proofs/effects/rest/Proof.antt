@@ -4,8 +4,8 @@ use mathlib.Core.Bool.{false}
 use Prim.Native.Nat.{_-_}
 use borrow.Author.Needs.{needs}
 use Rattle.rules.specs.declared.Place.the-variants.{Suspended}
+use Rattle.rules.proofs.EventLaws.{rest-permit, rest-none}
 use Rattle.engine.proofs.EffectLaws.{away-law}
-use Rattle.engine.proofs.EventLaws.{rest-permit, rest-suspended}
 use Rattle.engine.proofs.MemoryLaws.{means-by, permit-is, permit-law}
 use Rattle.engine.proofs.effects.rest.Statement.{statement}
 use Rattle.engine.proofs.effects.rest.Tie as tie
@@ -26,9 +26,8 @@ returns c =
     let at-permit = at-if1 .before in
     let entry = at-permit .before .before .before .before .before .before in
     let d = entry .pre .0 in
-    let g = entry .pre .1 in
-    let on = permit-is d _ g ∙ (sym (at-permit .permit .ensures) ∙ at-if1 .if1 .taken) in
-    means-by (permit-law d _ false g (at-set-permit .set-permit .ensures)) (sym (rest-permit _ _ on))
+    let on = permit-is d _ (entry .pre .1) ∙ (sym (at-permit .permit .ensures) ∙ at-if1 .if1 .taken) in
+    means-by (permit-law d _ false (entry .pre .1) (at-set-permit .set-permit .ensures)) (sym (rest-permit _ _ on))
 
 element-write-head : tie.Need-element-write-head
 element-write-head c = search needs
@@ -46,9 +45,8 @@ returns-2 c =
     let at-permit = at-if1 .before in
     let entry = at-permit .before .before .before .before .before .before in
     let d = entry .pre .0 in
-    let g = entry .pre .1 in
-    let off = permit-is d _ g ∙ (sym (at-permit .permit .ensures) ∙ at-if1 .if1 .left) in
-    means-by (away-law d _ Suspended g (at-set-place .set-place .ensures)) (sym (rest-suspended _ _ off))
+    let off = permit-is d _ (entry .pre .1) ∙ (sym (at-permit .permit .ensures) ∙ at-if1 .if1 .left) in
+    means-by (away-law d _ Suspended (entry .pre .1) (at-set-place .set-place .ensures)) (sym (rest-none _ _ off))
 
 pub rest-spec : {M : Type 1} → statement M
 rest-spec =

@@ -1,10 +1,10 @@
 -- `engine::effects::settle` meets its contract.
 use mathlib.Core.Path.{sym}
 use Prim.Native.Nat.{_-_}
-use native.Mathlib.Omega.{arith}
 use borrow.Author.Needs.{needs}
-use Rattle.engine.proofs.EffectLaws.{readable, holdable, waits-none, waits-base, depth-is, outside}
-use Rattle.engine.proofs.EventLaws.{settle-inside, settle-none, settle-due}
+use Rattle.rules.specs.Events.{settle}
+use Rattle.rules.proofs.EventLaws.{settle-inside, settle-none, settle-due}
+use Rattle.engine.proofs.EffectLaws.{readable, holdable, waits-none, waits-base, inside-is, outside-is}
 use Rattle.engine.proofs.MemoryLaws.{as-laid, means-by}
 use Rattle.engine.proofs.MoveLaws.{counted}
 use Rattle.engine.proofs.effects.settle.Statement.{statement}
@@ -20,8 +20,9 @@ returns c =
     let at-depth = c .before in
     let entry = at-depth .before .before .before .before .before in
     let d = entry .pre .0 in
-    let n = depth-is d _ _ (counted d (entry .pre .1 .there)) (at-depth .depth .ensures) in
-    means-by (as-laid d) (sym (settle-inside _ _ (omega (arith, n, c .if1 .taken))))
+    let g = counted d (entry .pre .1 .there) in
+    let in-action = inside-is d _ _ g (at-depth .depth .ensures) (c .if1 .taken) in
+    means-by (as-laid d) (sym (settle-inside _ _ in-action))
 
 waiting-requires : tie.Need-waiting-requires
 waiting-requires c κs =
@@ -43,9 +44,9 @@ take-effect-requires c κs =
     let entry = at-depth .before .before .before .before .before in
     let d = entry .pre .0 in
     let g = counted d (entry .pre .1 .there) in
-    let none = outside d _ _ g (at-depth .depth .ensures) (at-if1 .if1 .left) in
+    let bare = outside-is d _ _ g (at-depth .depth .ensures) (at-if1 .if1 .left) in
     let w = waits-base d _ _ _ g (at-waiting .waiting .ensures) (at-waiting2 .waiting2 .given .1) in
-    (d, (g, entry .pre .1 .due _ none w))
+    (d, (g, entry .pre .1 .due _ bare w))
 
 same-length : tie.Need-same-length
 same-length c = search needs
@@ -58,9 +59,9 @@ returns-2 c =
     let entry = at-depth .before .before .before .before .before in
     let d = entry .pre .0 in
     let g = counted d (entry .pre .1 .there) in
-    let n = depth-is d _ _ g (at-depth .depth .ensures) in
+    let bare = outside-is d _ _ g (at-depth .depth .ensures) (at-if1 .if1 .left) in
     let w = waits-none d _ _ g (at-waiting .waiting .ensures) (c .enum-told .given .1) in
-    means-by (as-laid d) (sym (settle-none _ _ (omega (arith, n, at-if1 .if1 .left)) w))
+    means-by (as-laid d) (sym (settle-none _ _ bare w))
 
 same-length-2 : tie.Need-same-length-2
 same-length-2 c = search needs
@@ -78,9 +79,9 @@ returns-3 c =
     let entry = at-depth .before .before .before .before .before in
     let d = entry .pre .0 in
     let g = counted d (entry .pre .1 .there) in
-    let n = depth-is d _ _ g (at-depth .depth .ensures) in
+    let bare = outside-is d _ _ g (at-depth .depth .ensures) (at-if1 .if1 .left) in
     let w = waits-base d _ _ _ g (at-waiting .waiting .ensures) (at-waiting2 .waiting2 .given .1) in
-    means-by (at-take-effect .take-effect .ensures) (sym (settle-due _ _ _ (omega (arith, n, at-if1 .if1 .left)) w))
+    means-by (at-take-effect .take-effect .ensures) (sym (settle-due _ _ _ bare w))
 
 pub settle-spec : {M : Type 1} → statement M
 settle-spec =

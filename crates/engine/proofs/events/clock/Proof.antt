@@ -3,11 +3,13 @@ use Prim.Native.Nat.{_-_}
 use borrow.Author.Needs.{needs}
 use Rattle.rules.specs.Moves.{dispatch}
 use Rattle.rules.specs.declared.Answer.the-variants.{BadReading}
+use Rattle.rules.proofs.EventLaws.{clock-4, clock-0}
+use Rattle.rules.proofs.Pending.{pending-clock}
 use Rattle.engine.proofs.EffectLaws.{clock-law}
-use Rattle.engine.proofs.EventLaws.{did-not, did, clock-past, clock-far, clock-done}
+use Rattle.engine.proofs.EventLaws.{did-not, did}
 use Rattle.engine.proofs.MemoryLaws.{then-means, now-law}
-use Rattle.engine.proofs.RoomLaws.{clock-core, clock-wakes}
-use Rattle.engine.proofs.ValidLaws.{dispatchable, core}
+use Rattle.engine.proofs.RoomLaws.{clock-wakes}
+use Rattle.engine.proofs.ValidLaws.{dispatchable, reading-past, reading-far, reading-good, good}
 use Rattle.engine.proofs.events.clock.Statement.{statement}
 use Rattle.engine.proofs.events.clock.Tie as tie
 
@@ -19,14 +21,14 @@ returns c =
     let entry = c .before .before .before .before .before .before in
     let v = entry .pre in
     let d = v .laid in
-    did-not BadReading d (clock-past _ _ (c .if1 .taken))
+    did-not BadReading d (clock-4 _ _ (reading-past _ _ (c .if1 .taken)))
 
 returns-2 : tie.Need-returns-2
 returns-2 c =
     let entry = c .before .before .before .before .before .before .before in
     let v = entry .pre in
     let d = v .laid in
-    did-not BadReading d (clock-far _ _ (c .if2 .taken))
+    did-not BadReading d (clock-4 _ _ (reading-far _ _ (c .if2 .taken)))
 
 element-write-head : tie.Need-element-write-head
 element-write-head c = search needs
@@ -37,17 +39,18 @@ wake-up-requires c κs =
     let v = entry .pre in
     let d = v .laid in
     let x = now-law d (entry .args .r) in
-    (x .laid, rw (x .same) (clock-wakes _ _ (core v)))
+    (x .laid, rw (x .same) (clock-wakes _ _ (good v .pending .core)))
 
 dispatch-requires : tie.Need-dispatch-requires
 dispatch-requires c κs =
     let at-wake-up = c .before .before .before .before .before .before .before in
-    let entry = at-wake-up .before .before .before .before .before .before .before .before .before .before .before in
+    let at-if2 = at-wake-up .before .before .before .before in
+    let at-if1 = at-if2 .before in
+    let entry = at-if1 .before .before .before .before .before .before in
     let v = entry .pre in
     let d = v .laid in
-    let r = entry .args .r in
-    let x = clock-law d r (at-wake-up .wake-up .ensures) in
-    dispatchable x (clock-core _ r _ (core v))
+    let x = clock-law d _ (at-wake-up .wake-up .ensures) in
+    dispatchable x (pending-clock _ _ (good v .pending) (at-if1 .if1 .left) (at-if2 .if2 .left))
 
 same-length : tie.Need-same-length
 same-length c = search needs
@@ -64,9 +67,8 @@ returns-3 c =
     let entry = at-if1 .before .before .before .before .before .before in
     let v = entry .pre in
     let d = v .laid in
-    let r = entry .args .r in
-    let x = then-means dispatch (clock-law d r (at-wake-up .wake-up .ensures)) (at-dispatch .dispatch .ensures) in
-    did _ x (clock-done _ r (at-if1 .if1 .left) (at-if2 .if2 .left))
+    let x = then-means dispatch (clock-law d _ (at-wake-up .wake-up .ensures)) (at-dispatch .dispatch .ensures) in
+    did _ x (clock-0 _ _ (reading-good _ _ (at-if1 .if1 .left) (at-if2 .if2 .left)))
 
 pub clock-spec : {M : Type 1} → statement M
 clock-spec =

@@ -7,12 +7,14 @@ use Rattle.rules.specs.Events.{putOff}
 use Rattle.rules.specs.Model.{Model}
 use Rattle.rules.specs.Moves.{dispatch}
 use Rattle.rules.specs.declared.Answer.the-variants.{NobodyRuns, InsideAction}
+use Rattle.rules.proofs.EventLaws.{delay-5, delay-7, delay-0}
+use Rattle.rules.proofs.Pending.{pending-delay}
 use Rattle.engine.specs.Memory.{runningCell}
-use Rattle.engine.proofs.EffectLaws.{holdable, stop-law, depth-is, still-read}
-use Rattle.engine.proofs.EventLaws.{did-not, did, delay-idle, delay-inside, delay-done}
+use Rattle.engine.proofs.EffectLaws.{holdable, stop-law, still-read, inside-is, outside-is}
+use Rattle.engine.proofs.EventLaws.{did-not, did}
 use Rattle.engine.proofs.MemoryLaws.{then-means, idle}
-use Rattle.engine.proofs.RoomLaws.{put-off-core}
-use Rattle.engine.proofs.ValidLaws.{dispatchable, core, runner, runner-counted, reading, stop-joins}
+use Rattle.engine.proofs.RoomLaws.{delay-joins}
+use Rattle.engine.proofs.ValidLaws.{dispatchable, runner, runner-counted, good}
 use Rattle.engine.proofs.events.delay.Statement.{statement}
 use Rattle.engine.proofs.events.delay.Tie as tie
 
@@ -24,7 +26,7 @@ returns c =
     let entry = c .before .before .before .before .before .before in
     let v = entry .pre in
     let d = v .laid in
-    did-not NobodyRuns d (delay-idle _ _ (idle d (c .if1 .taken)))
+    did-not NobodyRuns d (delay-5 _ _ (idle d (c .if1 .taken)))
 
 sub-t : tie.Need-sub-t
 sub-t c = search needs
@@ -47,8 +49,8 @@ returns-2 c =
     let d = v .laid in
     let e = runner v (at-if1 .if1 .left) in
     let g = runner-counted v (at-if1 .if1 .left) in
-    let n = depth-is d _ _ g (at-depth .depth .ensures) in
-    did-not InsideAction d (delay-inside _ _ _ e (omega (arith, n, c .if2 .taken)))
+    let in-action = inside-is d _ _ g (at-depth .depth .ensures) (c .if2 .taken) in
+    did-not InsideAction d (delay-7 _ _ _ e in-action)
 
 element-write-head : tie.Need-element-write-head
 element-write-head c = search needs
@@ -63,9 +65,9 @@ put-off-requires c κs =
     let d = v .laid in
     let e = runner v (at-if1 .if1 .left) in
     let g = runner-counted v (at-if1 .if1 .left) in
-    let n = depth-is d _ _ g (at-depth .depth .ensures) in
+    let bare = outside-is d _ _ g (at-depth .depth .ensures) (at-if2 .if2 .left) in
     let x = stop-law d in
-    (x .laid, (rw (x .same) (stop-joins v _ e (omega (arith, n, at-if2 .if2 .left))), rw (still-read _ _) (reading v)))
+    (x .laid, (rw (x .same) (delay-joins _ _ (good v) e bare), rw (still-read _ _) (good v .pending .sizes .reading)))
 
 dispatch-requires : tie.Need-dispatch-requires
 dispatch-requires c κs =
@@ -78,10 +80,10 @@ dispatch-requires c κs =
     let d = v .laid in
     let e = runner v (at-if1 .if1 .left) in
     let g = runner-counted v (at-if1 .if1 .left) in
-    let n = depth-is d _ _ g (at-depth .depth .ensures) in
+    let bare = outside-is d _ _ g (at-depth .depth .ensures) (at-if2 .if2 .left) in
     let t = getD (entry .args .head .now) runningCell 0 - 1 in
     let x = then-means (λ (m : Model). putOff m t (entry .args .d)) (stop-law d) (at-put-off .put-off .ensures) in
-    dispatchable x (put-off-core _ t (core v) e _ (omega (arith, n, at-if2 .if2 .left)))
+    dispatchable x (pending-delay _ _ t (omega (arith, entry .fits .d)) (good v) e bare)
 
 same-length : tie.Need-same-length
 same-length c = search needs
@@ -101,10 +103,10 @@ returns-3 c =
     let d = v .laid in
     let e = runner v (at-if1 .if1 .left) in
     let g = runner-counted v (at-if1 .if1 .left) in
-    let n = depth-is d _ _ g (at-depth .depth .ensures) in
+    let bare = outside-is d _ _ g (at-depth .depth .ensures) (at-if2 .if2 .left) in
     let t = getD (entry .args .head .now) runningCell 0 - 1 in
     let x = then-means (λ (m : Model). putOff m t (entry .args .d)) (stop-law d) (at-put-off .put-off .ensures) in
-    did _ (then-means dispatch x (at-dispatch .dispatch .ensures)) (delay-done _ _ t e (omega (arith, n, at-if2 .if2 .left)))
+    did _ (then-means dispatch x (at-dispatch .dispatch .ensures)) (delay-0 _ _ t e bare)
 
 pub delay-spec : {M : Type 1} → statement M
 delay-spec =

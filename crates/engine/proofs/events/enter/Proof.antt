@@ -1,16 +1,16 @@
 -- `engine::events::enter` meets its contract.
 use mathlib.Core.Path.{_∙_}
 use Prim.Native.Nat.{_-_}
-use native.Mathlib.Omega.{arith}
 use borrow.Author.Needs.{needs}
 use Rattle.rules.specs.Moves.{dispatch}
 use Rattle.rules.specs.declared.Answer.the-variants.{NoSuchObject, NobodyRuns, InsideAction, AboveCeiling}
+use Rattle.rules.proofs.EventLaws.{enter-2, enter-5, enter-7, enter-8, enter-0}
+use Rattle.rules.proofs.Pending.{pending-enter}
 use Rattle.engine.proofs.EffectLaws.{holdable, hold-law}
-use Rattle.engine.proofs.EventLaws.{did-not, did, enter-unknown, enter-idle, enter-held, enter-above, enter-done}
+use Rattle.engine.proofs.EventLaws.{did-not, did}
 use Rattle.engine.proofs.MemoryLaws.{then-means, idle}
-use Rattle.engine.proofs.RoomLaws.{hold-core}
-use Rattle.engine.proofs.ValidLaws.{dispatchable, core, runner, runner-counted, listed, unlisted, ceiling-is, holds-is}
-use Rattle.engine.proofs.ValidLaws.{hold-room}
+use Rattle.engine.proofs.ValidLaws.{dispatchable, runner, runner-counted, holds-is, hold-room, good, known-object}
+use Rattle.engine.proofs.ValidLaws.{unknown-object, above-ceiling, within-ceiling}
 use Rattle.engine.proofs.events.enter.Statement.{statement}
 use Rattle.engine.proofs.events.enter.Tie as tie
 
@@ -22,7 +22,7 @@ returns c =
     let entry = c .before .before .before .before .before .before in
     let v = entry .pre in
     let d = v .laid in
-    did-not NoSuchObject d (enter-unknown _ _ (unlisted v _ (c .if1 .taken)))
+    did-not NoSuchObject d (enter-2 _ _ (unknown-object v _ (c .if1 .taken)))
 
 element-copy-out-running : tie.Need-element-copy-out-running
 element-copy-out-running c = search needs
@@ -33,7 +33,7 @@ returns-2 c =
     let entry = at-if1 .before .before .before .before .before .before in
     let v = entry .pre in
     let d = v .laid in
-    did-not NobodyRuns d (enter-idle _ _ (listed v _ (at-if1 .if1 .left)) (idle d (c .if2 .taken)))
+    did-not NobodyRuns d (enter-5 _ _ (known-object v _ (at-if1 .if1 .left)) (idle d (c .if2 .taken)))
 
 sub-t : tie.Need-sub-t
 sub-t c = search needs
@@ -64,8 +64,8 @@ returns-3 c =
     let d = v .laid in
     let e = runner v (at-if2 .if2 .left) in
     let g = runner-counted v (at-if2 .if2 .left) in
-    let yes = holds-is v _ _ _ g (at-holds .holds .ensures) ∙ c .if3 .taken in
-    did-not InsideAction d (enter-held _ _ (listed v _ (at-if1 .if1 .left)) _ e yes)
+    let held = holds-is v _ _ _ g (at-holds .holds .ensures) ∙ c .if3 .taken in
+    did-not InsideAction d (enter-7 _ _ _ (known-object v _ (at-if1 .if1 .left)) e held)
 
 active-requires : tie.Need-active-requires
 active-requires c κs =
@@ -102,9 +102,8 @@ returns-4 c =
     let e = runner v (at-if2 .if2 .left) in
     let g = runner-counted v (at-if2 .if2 .left) in
     let free = holds-is v _ _ _ g (at-holds .holds .ensures) ∙ at-if3 .if3 .left in
-    let o = entry .args .o in
-    let top = ceiling-is v o (at-if1 .if1 .left) in
-    did-not AboveCeiling d (enter-above _ o (listed v o (at-if1 .if1 .left)) _ e free (omega (arith, top, at-active .active .ensures, c .if4 .taken)))
+    let above = above-ceiling v _ _ _ (at-if1 .if1 .left) (at-active .active .ensures) (c .if4 .taken) in
+    did-not AboveCeiling d (enter-8 _ _ _ (known-object v _ (at-if1 .if1 .left)) e free above)
 
 push-requires : tie.Need-push-requires
 push-requires c κs =
@@ -123,13 +122,20 @@ push-requires c κs =
 dispatch-requires : tie.Need-dispatch-requires
 dispatch-requires c κs =
     let at-push = c .before .before .before .before .before .before in
-    let at-if2 = at-push .before .before .before .before .before .before .before .before .before .before .before .before .before in
-    let entry = at-if2 .before .before .before .before .before .before .before .before in
+    let at-if4 = at-push .before .before in
+    let at-active = at-if4 .before .before .before in
+    let at-if3 = at-active .before .before .before .before .before in
+    let at-holds = at-if3 .before in
+    let at-if2 = at-holds .before .before in
+    let at-if1 = at-if2 .before .before in
+    let entry = at-if1 .before .before .before .before .before .before in
     let v = entry .pre in
     let d = v .laid in
     let e = runner v (at-if2 .if2 .left) in
     let g = runner-counted v (at-if2 .if2 .left) in
-    dispatchable (hold-law d _ _ g (at-push .push .ensures)) (hold-core _ _ (core v) e _)
+    let free = holds-is v _ _ _ g (at-holds .holds .ensures) ∙ at-if3 .if3 .left in
+    let within = within-ceiling v _ _ _ (at-if1 .if1 .left) (at-active .active .ensures) (at-if4 .if4 .left) in
+    dispatchable (hold-law d _ _ g (at-push .push .ensures)) (pending-enter _ _ _ (good v) e (known-object v _ (at-if1 .if1 .left)) free within)
 
 same-length-5 : tie.Need-same-length-5
 same-length-5 c = search needs
@@ -156,10 +162,9 @@ returns-5 c =
     let e = runner v (at-if2 .if2 .left) in
     let g = runner-counted v (at-if2 .if2 .left) in
     let free = holds-is v _ _ _ g (at-holds .holds .ensures) ∙ at-if3 .if3 .left in
-    let o = entry .args .o in
-    let x = then-means dispatch (hold-law d _ o g (at-push .push .ensures)) (at-dispatch .dispatch .ensures) in
-    let top = ceiling-is v o (at-if1 .if1 .left) in
-    did _ x (enter-done _ o (listed v o (at-if1 .if1 .left)) _ e free (omega (arith, top, at-active .active .ensures, at-if4 .if4 .left)))
+    let within = within-ceiling v _ _ _ (at-if1 .if1 .left) (at-active .active .ensures) (at-if4 .if4 .left) in
+    let x = then-means dispatch (hold-law d _ _ g (at-push .push .ensures)) (at-dispatch .dispatch .ensures) in
+    did _ x (enter-0 _ _ _ (known-object v _ (at-if1 .if1 .left)) e free within)
 
 pub enter-spec : {M : Type 1} → statement M
 enter-spec =

@@ -1,15 +1,15 @@
 -- `engine::events::finish` meets its contract.
 use Prim.Native.Nat.{_-_}
-use native.Mathlib.Omega.{arith}
 use borrow.Author.Needs.{needs}
 use Rattle.rules.specs.Moves.{dispatch}
 use Rattle.rules.specs.declared.Answer.the-variants.{NobodyRuns, InsideAction}
 use Rattle.rules.specs.declared.Place.the-variants.{Ended}
-use Rattle.engine.proofs.EffectLaws.{readable, holdable, away-law, depth-is}
-use Rattle.engine.proofs.EventLaws.{did-not, did, finish-idle, finish-inside, finish-done}
+use Rattle.rules.proofs.EventLaws.{finish-5, finish-7, finish-0}
+use Rattle.rules.proofs.Pending.{pending-end}
+use Rattle.engine.proofs.EffectLaws.{readable, holdable, away-law, inside-is, outside-is}
+use Rattle.engine.proofs.EventLaws.{did-not, did}
 use Rattle.engine.proofs.MemoryLaws.{then-means, idle}
-use Rattle.engine.proofs.RoomLaws.{finish-core}
-use Rattle.engine.proofs.ValidLaws.{dispatchable, core, runner, runner-counted}
+use Rattle.engine.proofs.ValidLaws.{dispatchable, runner, runner-counted, good}
 use Rattle.engine.proofs.events.finish.Statement.{statement}
 use Rattle.engine.proofs.events.finish.Tie as tie
 
@@ -21,7 +21,7 @@ returns c =
     let entry = c .before .before .before .before .before .before in
     let v = entry .pre in
     let d = v .laid in
-    did-not NobodyRuns d (finish-idle _ (idle d (c .if1 .taken)))
+    did-not NobodyRuns d (finish-5 _ (idle d (c .if1 .taken)))
 
 sub-t : tie.Need-sub-t
 sub-t c = search needs
@@ -44,8 +44,8 @@ returns-2 c =
     let d = v .laid in
     let e = runner v (at-if1 .if1 .left) in
     let g = runner-counted v (at-if1 .if1 .left) in
-    let n = depth-is d _ _ g (at-depth .depth .ensures) in
-    did-not InsideAction d (finish-inside _ _ e (omega (arith, n, c .if2 .taken)))
+    let in-action = inside-is d _ _ g (at-depth .depth .ensures) (c .if2 .taken) in
+    did-not InsideAction d (finish-7 _ _ e in-action)
 
 element-write-head : tie.Need-element-write-head
 element-write-head c = search needs
@@ -71,9 +71,8 @@ dispatch-requires c κs =
     let d = v .laid in
     let e = runner v (at-if1 .if1 .left) in
     let g = runner-counted v (at-if1 .if1 .left) in
-    let n = depth-is d _ _ g (at-depth .depth .ensures) in
-    let x = away-law d _ Ended g (at-set-place .set-place .ensures) in
-    dispatchable x (finish-core _ _ (core v) e (omega (arith, n, at-if2 .if2 .left)))
+    let bare = outside-is d _ _ g (at-depth .depth .ensures) (at-if2 .if2 .left) in
+    dispatchable (away-law d _ Ended g (at-set-place .set-place .ensures)) (pending-end _ _ (good v) e bare)
 
 same-length : tie.Need-same-length
 same-length c = search needs
@@ -93,9 +92,9 @@ returns-3 c =
     let d = v .laid in
     let e = runner v (at-if1 .if1 .left) in
     let g = runner-counted v (at-if1 .if1 .left) in
-    let n = depth-is d _ _ g (at-depth .depth .ensures) in
+    let bare = outside-is d _ _ g (at-depth .depth .ensures) (at-if2 .if2 .left) in
     let x = away-law d _ Ended g (at-set-place .set-place .ensures) in
-    did _ (then-means dispatch x (at-dispatch .dispatch .ensures)) (finish-done _ _ e (omega (arith, n, at-if2 .if2 .left)))
+    did _ (then-means dispatch x (at-dispatch .dispatch .ensures)) (finish-0 _ _ e bare)
 
 pub finish-spec : {M : Type 1} → statement M
 finish-spec =

@@ -7,12 +7,14 @@ use Rattle.rules.specs.Events.{settle}
 use Rattle.rules.specs.Model.{Model}
 use Rattle.rules.specs.Moves.{dispatch}
 use Rattle.rules.specs.declared.Answer.the-variants.{NoSuchObject, NobodyRuns, NotInnermost}
+use Rattle.rules.proofs.EventLaws.{leave-2, leave-5, leave-9, leave-0}
+use Rattle.rules.proofs.Pending.{pending-leave}
 use Rattle.engine.specs.Memory.{runningCell}
-use Rattle.engine.proofs.EffectLaws.{holdable, depth-is, give-up-law, last-is}
-use Rattle.engine.proofs.EventLaws.{did-not, did, leave-unknown, leave-idle, leave-empty, leave-other, leave-done}
+use Rattle.engine.proofs.EffectLaws.{holdable, give-up-law, innermost-none, innermost-other, innermost-is}
+use Rattle.engine.proofs.EventLaws.{did-not, did}
 use Rattle.engine.proofs.MemoryLaws.{then-means, idle}
-use Rattle.engine.proofs.RoomLaws.{leave-settles, leave-core}
-use Rattle.engine.proofs.ValidLaws.{dispatchable, runner, runner-counted, listed, unlisted}
+use Rattle.engine.proofs.RoomLaws.{leave-settles}
+use Rattle.engine.proofs.ValidLaws.{dispatchable, runner, runner-counted, good, known-object, unknown-object}
 use Rattle.engine.proofs.events.leave.Statement.{statement}
 use Rattle.engine.proofs.events.leave.Tie as tie
 
@@ -24,7 +26,7 @@ returns c =
     let entry = c .before .before .before .before .before .before in
     let v = entry .pre in
     let d = v .laid in
-    did-not NoSuchObject d (leave-unknown _ _ (unlisted v _ (c .if1 .taken)))
+    did-not NoSuchObject d (leave-2 _ _ (unknown-object v _ (c .if1 .taken)))
 
 element-copy-out-running : tie.Need-element-copy-out-running
 element-copy-out-running c = search needs
@@ -35,7 +37,7 @@ returns-2 c =
     let entry = at-if1 .before .before .before .before .before .before in
     let v = entry .pre in
     let d = v .laid in
-    did-not NobodyRuns d (leave-idle _ _ (listed v _ (at-if1 .if1 .left)) (idle d (c .if2 .taken)))
+    did-not NobodyRuns d (leave-5 _ _ (known-object v _ (at-if1 .if1 .left)) (idle d (c .if2 .taken)))
 
 sub-t : tie.Need-sub-t
 sub-t c = search needs
@@ -63,8 +65,8 @@ returns-3 c =
     let d = v .laid in
     let e = runner v (at-if2 .if2 .left) in
     let g = runner-counted v (at-if2 .if2 .left) in
-    let n = depth-is d _ _ g (at-depth .depth .ensures) in
-    did-not NotInnermost d (leave-empty _ _ (listed v _ (at-if1 .if1 .left)) _ e (omega (arith, n, c .if3 .taken)))
+    let none = innermost-none d _ _ _ g (at-depth .depth .ensures) (omega (arith, c .if3 .taken)) in
+    did-not NotInnermost d (leave-9 _ _ _ (known-object v _ (at-if1 .if1 .left)) e none)
 
 last-requires : tie.Need-last-requires
 last-requires c κs =
@@ -97,9 +99,8 @@ returns-4 c =
     let d = v .laid in
     let e = runner v (at-if2 .if2 .left) in
     let g = runner-counted v (at-if2 .if2 .left) in
-    let n = depth-is d _ _ g (at-depth .depth .ensures) in
-    let last = last-is d _ _ g (at-last .last .ensures) in
-    did-not NotInnermost d (leave-other _ _ (listed v _ (at-if1 .if1 .left)) _ _ e (omega (arith, n, at-if3 .if3 .left)) last (c .if4 .taken))
+    let other = innermost-other d _ _ _ _ g (at-depth .depth .ensures) (omega (arith, at-if3 .if3 .left)) (at-last .last .ensures) (c .if4 .taken) in
+    did-not NotInnermost d (leave-9 _ _ _ (known-object v _ (at-if1 .if1 .left)) e other)
 
 drop-last-requires : tie.Need-drop-last-requires
 drop-last-requires c κs =
@@ -124,7 +125,7 @@ settle-requires c κs =
     let e = runner v (at-if2 .if2 .left) in
     let g = runner-counted v (at-if2 .if2 .left) in
     let x = give-up-law d _ g (at-drop-last .drop-last .ensures) in
-    (x .laid, rw (x .same) (leave-settles _ _ (v .sound) e))
+    (x .laid, rw (x .same) (leave-settles _ _ (good v) e))
 
 dispatch-requires : tie.Need-dispatch-requires
 dispatch-requires c κs =
@@ -138,7 +139,7 @@ dispatch-requires c κs =
     let g = runner-counted v (at-if2 .if2 .left) in
     let t = getD (entry .args .head .now) runningCell 0 - 1 in
     let x = then-means (λ (m : Model). settle m t) (give-up-law d t g (at-drop-last .drop-last .ensures)) (at-settle .settle .ensures) in
-    dispatchable x (leave-core _ t (v .sound) e)
+    dispatchable x (pending-leave _ t (good v) e)
 
 same-length-3 : tie.Need-same-length-3
 same-length-3 c = search needs
@@ -165,13 +166,11 @@ returns-5 c =
     let d = v .laid in
     let e = runner v (at-if2 .if2 .left) in
     let g = runner-counted v (at-if2 .if2 .left) in
-    let n = depth-is d _ _ g (at-depth .depth .ensures) in
     let t = getD (entry .args .head .now) runningCell 0 - 1 in
-    let last = last-is d _ _ g (at-last .last .ensures) in
     let x = then-means (λ (m : Model). settle m t) (give-up-law d t g (at-drop-last .drop-last .ensures)) (at-settle .settle .ensures) in
     let y = then-means dispatch x (at-dispatch .dispatch .ensures) in
-    let l = listed v _ (at-if1 .if1 .left) in
-    did _ y (leave-done _ _ l t _ e (omega (arith, n, at-if3 .if3 .left)) last (at-if4 .if4 .left))
+    let own = innermost-is d _ _ _ _ g (at-depth .depth .ensures) (omega (arith, at-if3 .if3 .left)) (at-last .last .ensures) (at-if4 .if4 .left) in
+    did _ y (leave-0 _ _ t (known-object v _ (at-if1 .if1 .left)) e own)
 
 pub leave-spec : {M : Type 1} → statement M
 leave-spec =

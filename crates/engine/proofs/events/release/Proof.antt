@@ -1,13 +1,14 @@
 -- `engine::events::release` meets its contract.
-use mathlib.Core.Path.{refl}
 use Prim.Native.Nat.{_-_}
 use borrow.Author.Needs.{needs}
 use Rattle.rules.specs.Moves.{dispatch}
 use Rattle.rules.specs.declared.Answer.the-variants.{NoSuchTask}
-use Rattle.engine.proofs.EventLaws.{did-not, did, release-unknown, release-done}
+use Rattle.rules.proofs.EventLaws.{release-1, release-0}
+use Rattle.rules.proofs.Pending.{pending-release}
+use Rattle.engine.proofs.EventLaws.{did-not, did}
 use Rattle.engine.proofs.MemoryLaws.{then-means}
-use Rattle.engine.proofs.RoomLaws.{release-needs, release-core}
-use Rattle.engine.proofs.ValidLaws.{dispatchable, core, there, missing}
+use Rattle.engine.proofs.RoomLaws.{release-needs}
+use Rattle.engine.proofs.ValidLaws.{dispatchable, there, good, known-task, unknown-task}
 use Rattle.engine.proofs.events.release.Statement.{statement}
 use Rattle.engine.proofs.events.release.Tie as tie
 
@@ -19,7 +20,7 @@ returns c =
     let entry = c .before .before .before .before .before .before in
     let v = entry .pre in
     let d = v .laid in
-    did-not NoSuchTask d (release-unknown _ _ (missing v _ (c .if1 .taken)))
+    did-not NoSuchTask d (release-1 _ _ (unknown-task v _ (c .if1 .taken)))
 
 release-from-requires : tie.Need-release-from-requires
 release-from-requires c κs =
@@ -28,7 +29,7 @@ release-from-requires c κs =
     let v = entry .pre in
     let d = v .laid in
     let l = there v _ (at-if1 .if1 .left) in
-    (d, release-needs _ _ (core v) l)
+    (d, release-needs _ _ (good v .pending .core) l)
 
 dispatch-requires : tie.Need-dispatch-requires
 dispatch-requires c κs =
@@ -38,7 +39,7 @@ dispatch-requires c κs =
     let v = entry .pre in
     let d = v .laid in
     let l = there v _ (at-if1 .if1 .left) in
-    dispatchable (at-release-from .release-from .ensures) (release-core _ _ (core v) l _ refl)
+    dispatchable (at-release-from .release-from .ensures) (pending-release _ _ (good v .pending) l)
 
 same-length : tie.Need-same-length
 same-length c = search needs
@@ -54,8 +55,8 @@ returns-2 c =
     let entry = at-if1 .before .before .before .before .before .before in
     let v = entry .pre in
     let d = v .laid in
-    let l = there v _ (at-if1 .if1 .left) in
-    did _ (then-means dispatch (at-release-from .release-from .ensures) (at-dispatch .dispatch .ensures)) (release-done _ _ l)
+    let x = then-means dispatch (at-release-from .release-from .ensures) (at-dispatch .dispatch .ensures) in
+    did _ x (release-0 _ _ (known-task v _ (at-if1 .if1 .left)))
 
 pub release-spec : {M : Type 1} → statement M
 release-spec =

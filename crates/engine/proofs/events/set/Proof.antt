@@ -6,11 +6,13 @@ use lib.ListN.{set}
 use Rattle.rules.specs.Events.{isEnded}
 use Rattle.rules.specs.Moves.{dispatch}
 use Rattle.rules.specs.declared.Answer.the-variants.{NoSuchTask, BadPriority, EndedTask}
+use Rattle.rules.proofs.EventLaws.{set-1, set-3, set-6, set-0}
+use Rattle.rules.proofs.Pending.{pending-rebase}
 use Rattle.rules.proofs.PriorityLaws.{bounds-in}
-use Rattle.engine.proofs.EventLaws.{did-not, did, set-unknown, set-low, set-high, set-ended, set-done}
+use Rattle.engine.proofs.EventLaws.{did-not, did}
 use Rattle.engine.proofs.MemoryLaws.{then-means, place-is}
-use Rattle.engine.proofs.RoomLaws.{rebase-needs, rebase-core}
-use Rattle.engine.proofs.ValidLaws.{dispatchable, core, there, missing}
+use Rattle.engine.proofs.RoomLaws.{rebase-needs}
+use Rattle.engine.proofs.ValidLaws.{dispatchable, there, too-low, too-high, good, known-task, unknown-task}
 use Rattle.engine.proofs.events.set.Statement.{statement}
 use Rattle.engine.proofs.events.set.Tie as tie
 
@@ -22,7 +24,7 @@ returns c =
     let entry = c .before .before .before .before .before .before in
     let v = entry .pre in
     let d = v .laid in
-    did-not NoSuchTask d (set-unknown _ _ _ (missing v _ (c .if1 .taken)))
+    did-not NoSuchTask d (set-1 _ _ _ (unknown-task v _ (c .if1 .taken)))
 
 returns-2 : tie.Need-returns-2
 returns-2 c =
@@ -30,8 +32,8 @@ returns-2 c =
     let entry = at-if1 .before .before .before .before .before .before in
     let v = entry .pre in
     let d = v .laid in
-    let l = there v _ (at-if1 .if1 .left) in
-    did-not BadPriority d (set-low _ _ _ l (c .if2 .taken))
+    let here = known-task v _ (at-if1 .if1 .left) in
+    did-not BadPriority d (set-3 _ _ _ here (too-low _ (c .if2 .taken)))
 
 returns-3 : tie.Need-returns-3
 returns-3 c =
@@ -40,8 +42,8 @@ returns-3 c =
     let entry = at-if1 .before .before .before .before .before .before in
     let v = entry .pre in
     let d = v .laid in
-    let l = there v _ (at-if1 .if1 .left) in
-    did-not BadPriority d (set-high _ _ _ l (at-if2 .if2 .left) (c .if3 .taken))
+    let here = known-task v _ (at-if1 .if1 .left) in
+    did-not BadPriority d (set-3 _ _ _ here (too-high _ (at-if2 .if2 .left) (c .if3 .taken)))
 
 place-requires : tie.Need-place-requires
 place-requires c κs = search needs
@@ -62,10 +64,11 @@ returns-4 c =
     let entry = at-if1 .before .before .before .before .before .before in
     let v = entry .pre in
     let d = v .laid in
-    let l = there v _ (at-if1 .if1 .left) in
+    let here = known-task v _ (at-if1 .if1 .left) in
+    let range = bounds-in _ (at-if2 .if2 .left) (at-if3 .if3 .left) in
     let place = place-is d _ (at-if1 .if1 .left) ∙ sym (at-place .place .ensures) in
     let ended = ap isEnded place ∙ (sym (at-is-ended .is-ended .ensures) ∙ c .if4 .taken) in
-    did-not EndedTask d (set-ended _ _ _ l (at-if2 .if2 .left) (at-if3 .if3 .left) ended)
+    did-not EndedTask d (set-6 _ _ _ here range ended)
 
 rebase-requires : tie.Need-rebase-requires
 rebase-requires c κs =
@@ -76,7 +79,8 @@ rebase-requires c κs =
     let v = entry .pre in
     let d = v .laid in
     let l = there v _ (at-if1 .if1 .left) in
-    (d, rebase-needs _ _ _ (core v) l (bounds-in _ (at-if2 .if2 .left) (at-if3 .if3 .left)))
+    let range = bounds-in _ (at-if2 .if2 .left) (at-if3 .if3 .left) in
+    (d, rebase-needs _ _ _ (good v .pending .core) l range)
 
 dispatch-requires : tie.Need-dispatch-requires
 dispatch-requires c κs =
@@ -88,7 +92,8 @@ dispatch-requires c κs =
     let v = entry .pre in
     let d = v .laid in
     let l = there v _ (at-if1 .if1 .left) in
-    dispatchable (at-rebase .rebase .ensures) (rebase-core _ _ _ (core v) l (bounds-in _ (at-if2 .if2 .left) (at-if3 .if3 .left)))
+    let range = bounds-in _ (at-if2 .if2 .left) (at-if3 .if3 .left) in
+    dispatchable (at-rebase .rebase .ensures) (pending-rebase _ _ _ (good v .pending) l range)
 
 same-length-2 : tie.Need-same-length-2
 same-length-2 c = search needs
@@ -109,11 +114,12 @@ returns-5 c =
     let entry = at-if1 .before .before .before .before .before .before in
     let v = entry .pre in
     let d = v .laid in
-    let l = there v _ (at-if1 .if1 .left) in
+    let here = known-task v _ (at-if1 .if1 .left) in
+    let range = bounds-in _ (at-if2 .if2 .left) (at-if3 .if3 .left) in
     let place = place-is d _ (at-if1 .if1 .left) ∙ sym (at-place .place .ensures) in
     let alive = ap isEnded place ∙ (sym (at-is-ended .is-ended .ensures) ∙ at-if4 .if4 .left) in
     let x = then-means dispatch (at-rebase .rebase .ensures) (at-dispatch .dispatch .ensures) in
-    did _ x (set-done _ _ _ l (at-if2 .if2 .left) (at-if3 .if3 .left) alive)
+    did _ x (set-0 _ _ _ here range alive)
 
 pub set-spec : {M : Type 1} → statement M
 set-spec =

@@ -1,14 +1,14 @@
 -- `engine::events::suspend` meets its contract.
 use Prim.Native.Nat.{_-_}
-use native.Mathlib.Omega.{arith}
 use borrow.Author.Needs.{needs}
 use Rattle.rules.specs.Moves.{dispatch}
 use Rattle.rules.specs.declared.Answer.the-variants.{NobodyRuns, InsideAction}
-use Rattle.engine.proofs.EffectLaws.{holdable, depth-is}
-use Rattle.engine.proofs.EventLaws.{did-not, did, suspend-idle, suspend-inside, suspend-done}
+use Rattle.rules.proofs.EventLaws.{suspend-5, suspend-7, suspend-0}
+use Rattle.rules.proofs.Pending.{pending-rest}
+use Rattle.engine.proofs.EffectLaws.{holdable, inside-is, outside-is}
+use Rattle.engine.proofs.EventLaws.{did-not, did}
 use Rattle.engine.proofs.MemoryLaws.{then-means, idle}
-use Rattle.engine.proofs.RoomLaws.{rest-core}
-use Rattle.engine.proofs.ValidLaws.{dispatchable, core, runner, runner-counted}
+use Rattle.engine.proofs.ValidLaws.{dispatchable, runner, runner-counted, good}
 use Rattle.engine.proofs.events.suspend.Statement.{statement}
 use Rattle.engine.proofs.events.suspend.Tie as tie
 
@@ -20,7 +20,7 @@ returns c =
     let entry = c .before .before .before .before .before .before in
     let v = entry .pre in
     let d = v .laid in
-    did-not NobodyRuns d (suspend-idle _ (idle d (c .if1 .taken)))
+    did-not NobodyRuns d (suspend-5 _ (idle d (c .if1 .taken)))
 
 sub-t : tie.Need-sub-t
 sub-t c = search needs
@@ -43,8 +43,8 @@ returns-2 c =
     let d = v .laid in
     let e = runner v (at-if1 .if1 .left) in
     let g = runner-counted v (at-if1 .if1 .left) in
-    let n = depth-is d _ _ g (at-depth .depth .ensures) in
-    did-not InsideAction d (suspend-inside _ _ e (omega (arith, n, c .if2 .taken)))
+    let in-action = inside-is d _ _ g (at-depth .depth .ensures) (c .if2 .taken) in
+    did-not InsideAction d (suspend-7 _ _ e in-action)
 
 rest-requires : tie.Need-rest-requires
 rest-requires c κs =
@@ -67,8 +67,8 @@ dispatch-requires c κs =
     let d = v .laid in
     let e = runner v (at-if1 .if1 .left) in
     let g = runner-counted v (at-if1 .if1 .left) in
-    let n = depth-is d _ _ g (at-depth .depth .ensures) in
-    dispatchable (at-rest .rest .ensures) (rest-core _ _ (core v) e (omega (arith, n, at-if2 .if2 .left)))
+    let bare = outside-is d _ _ g (at-depth .depth .ensures) (at-if2 .if2 .left) in
+    dispatchable (at-rest .rest .ensures) (pending-rest _ _ (good v) e bare)
 
 same-length : tie.Need-same-length
 same-length c = search needs
@@ -88,9 +88,8 @@ returns-3 c =
     let d = v .laid in
     let e = runner v (at-if1 .if1 .left) in
     let g = runner-counted v (at-if1 .if1 .left) in
-    let n = depth-is d _ _ g (at-depth .depth .ensures) in
-    let x = then-means dispatch (at-rest .rest .ensures) (at-dispatch .dispatch .ensures) in
-    did _ x (suspend-done _ _ e (omega (arith, n, at-if2 .if2 .left)))
+    let bare = outside-is d _ _ g (at-depth .depth .ensures) (at-if2 .if2 .left) in
+    did _ (then-means dispatch (at-rest .rest .ensures) (at-dispatch .dispatch .ensures)) (suspend-0 _ _ e bare)
 
 pub suspend-spec : {M : Type 1} → statement M
 suspend-spec =

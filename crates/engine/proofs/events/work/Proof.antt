@@ -2,9 +2,10 @@
 use Prim.Native.Nat.{_-_}
 use borrow.Author.Needs.{needs}
 use Rattle.rules.specs.declared.Answer.the-variants.{NobodyRuns}
-use Rattle.engine.proofs.EventLaws.{did-not, did, work-idle, work-done}
+use Rattle.rules.proofs.EventLaws.{work-5, work-0}
+use Rattle.engine.proofs.EventLaws.{did-not, did}
 use Rattle.engine.proofs.MemoryLaws.{as-laid, idle}
-use Rattle.engine.proofs.ValidLaws.{dispatchable, core, runner, runner-counted}
+use Rattle.engine.proofs.ValidLaws.{dispatchable, runner, good}
 use Rattle.engine.proofs.events.work.Statement.{statement}
 use Rattle.engine.proofs.events.work.Tie as tie
 
@@ -16,14 +17,14 @@ returns c =
     let entry = c .before .before .before .before .before .before in
     let v = entry .pre in
     let d = v .laid in
-    did-not NobodyRuns d (work-idle _ (idle d (c .if1 .taken)))
+    did-not NobodyRuns d (work-5 _ (idle d (c .if1 .taken)))
 
 dispatch-requires : tie.Need-dispatch-requires
 dispatch-requires c κs =
     let entry = c .before .before .before .before .before .before .before .before .before in
     let v = entry .pre in
     let d = v .laid in
-    dispatchable (as-laid d) (core v)
+    dispatchable (as-laid d) (good v .pending)
 
 same-length : tie.Need-same-length
 same-length c = search needs
@@ -38,9 +39,7 @@ returns-2 c =
     let entry = at-if1 .before .before .before .before .before .before in
     let v = entry .pre in
     let d = v .laid in
-    let e = runner v (at-if1 .if1 .left) in
-    let g = runner-counted v (at-if1 .if1 .left) in
-    did _ (at-dispatch .dispatch .ensures) (work-done _ _ e)
+    did _ (at-dispatch .dispatch .ensures) (work-0 _ _ (runner v (at-if1 .if1 .left)))
 
 pub work-spec : {M : Type 1} → statement M
 work-spec =

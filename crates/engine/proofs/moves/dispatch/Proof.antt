@@ -5,8 +5,8 @@ use borrow.Author.Needs.{needs}
 use Rattle.rules.specs.Model.{Model}
 use Rattle.rules.specs.Moves.{start}
 use Rattle.engine.proofs.MemoryLaws.{as-laid, means-by, then-means, idle, busy}
-use Rattle.engine.proofs.MoveLaws.{counted, highest-starts, preempted-starts, dispatch-idle, dispatch-start, dispatch-stay}
-use Rattle.engine.proofs.MoveLaws.{dispatch-switch}
+use Rattle.engine.proofs.MoveLaws.{counted, highest-starts, preempted-starts, idle-way, start-way, stay-way}
+use Rattle.engine.proofs.MoveLaws.{switch-way}
 use Rattle.engine.proofs.moves.dispatch.Statement.{statement}
 use Rattle.engine.proofs.moves.dispatch.Tie as tie
 
@@ -25,7 +25,7 @@ returns c =
     let at-highest = at-if1 .before .before in
     let entry = at-highest .before .before .before .before .before .before in
     let d = entry .pre .0 in
-    means-by (as-laid d) (dispatch-idle _ _ (at-highest .highest .ensures) (idle d (at-if1 .if1 .taken)) (c .if2 .taken))
+    means-by (as-laid d) (idle-way _ _ (at-highest .highest .ensures) (idle d (at-if1 .if1 .taken)) (c .if2 .taken))
 
 start-requires : tie.Need-start-requires
 start-requires c κs =
@@ -48,7 +48,7 @@ returns-2 c =
     let at-highest = at-if1 .before .before in
     let entry = at-highest .before .before .before .before .before .before in
     let d = entry .pre .0 in
-    means-by (at-start .start .ensures) (dispatch-start _ _ (at-highest .highest .ensures) (idle d (at-if1 .if1 .taken)) (at-if2 .if2 .left))
+    means-by (at-start .start .ensures) (start-way _ _ (at-highest .highest .ensures) (idle d (at-if1 .if1 .taken)) (at-if2 .if2 .left))
 
 sub-t : tie.Need-sub-t
 sub-t c = search needs
@@ -73,7 +73,7 @@ returns-3 c =
     let at-highest = at-if1 .before .before in
     let entry = at-highest .before .before .before .before .before .before in
     let d = entry .pre .0 in
-    means-by (as-laid d) (dispatch-stay _ _ (at-highest .highest .ensures) _ _ (busy d (at-if1 .if1 .left)) (at-active .active .ensures) (c .if3 .taken))
+    means-by (as-laid d) (stay-way _ _ (at-highest .highest .ensures) _ _ (busy d (at-if1 .if1 .left)) (at-active .active .ensures) (c .if3 .taken))
 
 preempt-requires : tie.Need-preempt-requires
 preempt-requires c κs =
@@ -115,7 +115,7 @@ returns-4 c =
     let d = entry .pre .0 in
     let p = at-highest .highest .result .0 in
     let x = then-means (λ (m : Model). start m p) (at-preempt .preempt .ensures) (at-start2 .start2 .ensures) in
-    means-by x (dispatch-switch _ _ (at-highest .highest .ensures) _ _ (busy d (at-if1 .if1 .left)) (at-active .active .ensures) (at-if3 .if3 .left))
+    means-by x (switch-way _ _ (at-highest .highest .ensures) _ _ (busy d (at-if1 .if1 .left)) (at-active .active .ensures) (at-if3 .if3 .left))
 
 pub dispatch-spec : {M : Type 1} → statement M
 dispatch-spec =
