@@ -83,10 +83,12 @@ module _ {h ts hd cs qs : List ℕ} (v : Valid h ts hd cs qs) where
     ceiling-is = getD-take (objectCount h) cs o 0 l
 
     pub above-ceiling : getD cs o 0 < a → ltb (ceilingOf (modelOf h ts hd cs qs .ceilings) o) (active (modelOf h ts hd cs qs) t) ≡ true
-    above-ceiling b = lt-ltb (ceilingOf (modelOf h ts hd cs qs .ceilings) o) (active (modelOf h ts hd cs qs) t) (omega (arith, ceiling-is, e))
+    above-ceiling b =
+        lt-ltb (ceilingOf (modelOf h ts hd cs qs .ceilings) o) (active (modelOf h ts hd cs qs) t) (omega (arith, ceiling-is, e))
 
     pub within-ceiling : a ≤ getD cs o 0 → ltb (ceilingOf (modelOf h ts hd cs qs .ceilings) o) (active (modelOf h ts hd cs qs) t) ≡ false
-    within-ceiling b = le-ltb (ceilingOf (modelOf h ts hd cs qs .ceilings) o) (active (modelOf h ts hd cs qs) t) (omega (arith, ceiling-is, e))
+    within-ceiling b =
+        le-ltb (ceilingOf (modelOf h ts hd cs qs .ceilings) o) (active (modelOf h ts hd cs qs) t) (omega (arith, ceiling-is, e))
 
   -- the running task can hold one object more
   pub hold-room : (t o : ℕ) → modelOf h ts hd cs qs .running ≡ Task t → t < taskCount h → o < objectCount h →

@@ -45,7 +45,9 @@ pub fn drop_last(held: &mut [u8], t: usize)
     requires { ⌜ t < taskLimit ⌝ }
     requires { ⌜ Held (now held) ⌝ }
     requires { ⌜ 0 < length (heldBy (now held) t) ⌝ }
-    ensures { λ u. ⌜ HeldBecame (now (held .entry)) (now (held .exit)) t (take (length (heldBy (now (held .entry)) t) - 1) (heldBy (now (held .entry)) t)) ⌝ }
+    ensures { λ u.
+        ⌜ HeldBecame (now (held .entry)) (now (held .exit)) t
+        (take (length (heldBy (now (held .entry)) t) - 1) (heldBy (now (held .entry)) t)) ⌝ }
 {
     let b = t * HELD_WIDTH;
     let d = held[b] as usize;

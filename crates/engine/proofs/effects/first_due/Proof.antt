@@ -54,7 +54,9 @@ loop-again c =
     let d = entry .pre in
     let l = at-loop .loop in
     let count = count-is d in
-    let x = c .earlier .ensures ∙ ap (λ (y : RuleDue). earlier (dueOf (l .best)) y) (at-due-at .due-at .ensures ∙ ap (dueAt _ _) (at-place .place .ensures ∙ sym (place-is d (l .t) (omega arith)))) in
+    let x =
+    c .earlier .ensures ∙ ap (λ (y : RuleDue). earlier (dueOf (l .best)) y)
+    (at-due-at .due-at .ensures ∙ ap (dueAt _ _) (at-place .place .ensures ∙ sym (place-is d (l .t) (omega arith)))) in
     (search needs, search-more _ (l .t) _ _ _ (omega (arith, count)) x (l .inv .1))
 
 returns : tie.Need-returns Inv-loop μ-loop

@@ -128,7 +128,9 @@ returns-3 c =
     let place = at-place .place .ensures ∙ sym (place-is d _ g) in
     let base = ap (λ (p : Priority). p .0) (at-base .base .ensures) ∙ sym (base-is d _ g) in
     let other = ne-eqb _ _ (λ e. at-if2 .if2 .left (base ∙ e)) in
-    let y = then-means (λ (m : Model). requeue m t (at-active .active .result .0) (at-place .place .result)) x (at-requeue .requeue .ensures) in
+    let y =
+    then-means (λ (m : Model). requeue m t (at-active .active .result .0) (at-place .place .result)) x
+    (at-requeue .requeue .ensures) in
     means-by y (rw (at-active .active .ensures, place) (sym (rebase-other _ t _ bare other)))
 
 pub rebase-spec : {M : Type 1} → statement M

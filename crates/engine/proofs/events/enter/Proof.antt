@@ -135,7 +135,8 @@ dispatch-requires c κs =
     let g = runner-counted v (at-if2 .if2 .left) in
     let free = holds-is v _ _ _ g (at-holds .holds .ensures) ∙ at-if3 .if3 .left in
     let within = within-ceiling v _ _ _ (at-if1 .if1 .left) (at-active .active .ensures) (at-if4 .if4 .left) in
-    dispatchable (hold-law d _ _ g (at-push .push .ensures)) (pending-enter _ _ _ (good v) e (known-object v _ (at-if1 .if1 .left)) free within)
+    dispatchable (hold-law d _ _ g (at-push .push .ensures))
+    (pending-enter _ _ _ (good v) e (known-object v _ (at-if1 .if1 .left)) free within)
 
 same-length-5 : tie.Need-same-length-5
 same-length-5 c = search needs

@@ -99,7 +99,9 @@ returns-4 c =
     let d = v .laid in
     let e = runner v (at-if2 .if2 .left) in
     let g = runner-counted v (at-if2 .if2 .left) in
-    let other = innermost-other d _ _ _ _ g (at-depth .depth .ensures) (omega (arith, at-if3 .if3 .left)) (at-last .last .ensures) (c .if4 .taken) in
+    let other =
+    innermost-other d _ _ _ _ g (at-depth .depth .ensures) (omega (arith, at-if3 .if3 .left)) (at-last .last .ensures)
+    (c .if4 .taken) in
     did-not NotInnermost d (leave-9 _ _ _ (known-object v _ (at-if1 .if1 .left)) e other)
 
 drop-last-requires : tie.Need-drop-last-requires
@@ -169,7 +171,9 @@ returns-5 c =
     let t = getD (entry .args .head .now) runningCell 0 - 1 in
     let x = then-means (λ (m : Model). settle m t) (give-up-law d t g (at-drop-last .drop-last .ensures)) (at-settle .settle .ensures) in
     let y = then-means dispatch x (at-dispatch .dispatch .ensures) in
-    let own = innermost-is d _ _ _ _ g (at-depth .depth .ensures) (omega (arith, at-if3 .if3 .left)) (at-last .last .ensures) (at-if4 .if4 .left) in
+    let own =
+    innermost-is d _ _ _ _ g (at-depth .depth .ensures) (omega (arith, at-if3 .if3 .left)) (at-last .last .ensures)
+    (at-if4 .if4 .left) in
     did _ y (leave-0 _ _ t (known-object v _ (at-if1 .if1 .left)) e own)
 
 pub leave-spec : {M : Type 1} → statement M

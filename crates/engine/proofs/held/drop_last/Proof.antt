@@ -14,7 +14,11 @@ slice-read-d : tie.Need-slice-read-d
 slice-read-d c = search needs
 
 cast-d : tie.Need-cast-d
-cast-d c = omega (arith, held-size _ (c .before .before .pre .0) (c .before .before .pre .1 .0), held-room _ (c .before .before .pre .0) (c .before .before .pre .1 .0))
+cast-d c =
+    let entry = c .before .before in
+    let low = entry .pre .0 in
+    let good = entry .pre .1 .0 in
+    omega (arith, held-size _ low good, held-room _ low good)
 
 add-cut : tie.Need-add-cut
 add-cut c = search needs

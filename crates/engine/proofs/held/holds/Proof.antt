@@ -14,7 +14,11 @@ shared-slice-read-d : tie.Need-shared-slice-read-d
 shared-slice-read-d c = search needs
 
 cast-d : tie.Need-cast-d
-cast-d c = omega (arith, held-size _ (c .before .before .pre .0) (c .before .before .pre .1), held-room _ (c .before .before .pre .0) (c .before .before .pre .1))
+cast-d c =
+    let entry = c .before .before in
+    let low = entry .pre .0 in
+    let good = entry .pre .1 in
+    omega (arith, held-size _ low good, held-room _ low good)
 
 add-find : tie.Need-add-find
 add-find c = search needs

@@ -39,7 +39,8 @@ returns c =
     let at-push-tail = at-set-place .before .before .before .before in
     let at-active = at-push-tail .before .before in
     let entry = at-active .before .before .before .before .before .before .before in
-    ready-law (entry .pre .0) _ _ (entry .pre .1 .there) (at-active .active .ensures) (at-push-tail .push-tail .ensures) (at-set-place .set-place .ensures)
+    ready-law (entry .pre .0) _ _ (entry .pre .1 .there) (at-active .active .ensures) (at-push-tail .push-tail .ensures)
+    (at-set-place .set-place .ensures)
 
 pub become-ready-spec : {M : Type 1} → statement M
 become-ready-spec =

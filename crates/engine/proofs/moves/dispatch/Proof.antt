@@ -73,7 +73,8 @@ returns-3 c =
     let at-highest = at-if1 .before .before in
     let entry = at-highest .before .before .before .before .before .before in
     let d = entry .pre .0 in
-    means-by (as-laid d) (stay-way _ _ (at-highest .highest .ensures) _ _ (busy d (at-if1 .if1 .left)) (at-active .active .ensures) (c .if3 .taken))
+    means-by (as-laid d)
+    (stay-way _ _ (at-highest .highest .ensures) _ _ (busy d (at-if1 .if1 .left)) (at-active .active .ensures) (c .if3 .taken))
 
 preempt-requires : tie.Need-preempt-requires
 preempt-requires c κs =
@@ -115,7 +116,8 @@ returns-4 c =
     let d = entry .pre .0 in
     let p = at-highest .highest .result .0 in
     let x = then-means (λ (m : Model). start m p) (at-preempt .preempt .ensures) (at-start2 .start2 .ensures) in
-    means-by x (switch-way _ _ (at-highest .highest .ensures) _ _ (busy d (at-if1 .if1 .left)) (at-active .active .ensures) (at-if3 .if3 .left))
+    means-by x
+    (switch-way _ _ (at-highest .highest .ensures) _ _ (busy d (at-if1 .if1 .left)) (at-active .active .ensures) (at-if3 .if3 .left))
 
 pub dispatch-spec : {M : Type 1} → statement M
 dispatch-spec =

@@ -42,7 +42,8 @@ returns c =
     let at-push-head = at-set-place .before .before .before .before in
     let at-active = at-push-head .before .before in
     let entry = at-active .before .before .before .before .before .before .before .before in
-    preempt-law (entry .pre .0) _ _ (entry .pre .1 .there) (at-active .active .ensures) (at-push-head .push-head .ensures) (at-set-place .set-place .ensures)
+    preempt-law (entry .pre .0) _ _ (entry .pre .1 .there) (at-active .active .ensures) (at-push-head .push-head .ensures)
+    (at-set-place .set-place .ensures)
 
 pub preempt-spec : {M : Type 1} → statement M
 preempt-spec =

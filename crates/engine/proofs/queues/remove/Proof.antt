@@ -36,7 +36,11 @@ same-length : tie.Need-same-length
 same-length c = search needs
 
 returns : tie.Need-returns
-returns c = queue-without (c .before .before .before .before .before .before .before .before .pre .0) (c .before .before .before .before .before .before .before .before .pre .1) _ _ _ (c .before .before .before .find .ensures) (c .before .before .cut .ensures)
+returns c =
+    let at-cut = c .before .before in
+    let at-find = at-cut .before in
+    let entry = at-find .before .before .before .before .before in
+    queue-without (entry .pre .0) (entry .pre .1) _ _ _ (at-find .find .ensures) (at-cut .cut .ensures)
 
 pub remove-spec : {M : Type 1} → statement M
 remove-spec =

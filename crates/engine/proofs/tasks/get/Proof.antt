@@ -18,7 +18,11 @@ permit-requires : tie.Need-permit-requires
 permit-requires c κs = search needs
 
 returns : tie.Need-returns
-returns c = four-parts _ _ _ _ _ (c .before .before .before .place .ensures) (c .before .before .base .ensures) (c .before .waiting .ensures) (c .permit .ensures)
+returns c =
+    let at-waiting = c .before in
+    let at-base = at-waiting .before in
+    let at-place = at-base .before in
+    four-parts _ _ _ _ _ (at-place .place .ensures) (at-base .base .ensures) (at-waiting .waiting .ensures) (c .permit .ensures)
 
 pub get-spec : {M : Type 1} → statement M
 get-spec =

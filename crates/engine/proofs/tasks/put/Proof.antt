@@ -24,12 +24,16 @@ same-length c = search needs
 
 returns : tie.Need-returns
 returns c =
-    let a = c .before .before .before .before .before .before .before .before .before .before .before .before .before .before .before .before .before .before in
-    let h = a .pre .0 in
-    let k = a .args .task in
-    let two = then-became _ _ (λ (x : Task). based x (k .base)) h (c .before .before .before .before .before .before .before .before .before .before .before .before .before .before .set-place .ensures) (c .before .before .before .before .before .before .before .before .before .before .set-base .ensures) in
-    let three = then-became _ _ (λ (x : Task). waited x (k .waiting)) h two (c .before .before .before .before .before .before .set-waiting .ensures) in
-    then-became _ _ (λ (x : Task). permitted x (k .permit)) h three (c .before .before .set-permit .ensures)
+    let at-set-permit = c .before .before in
+    let at-set-waiting = at-set-permit .before .before .before .before in
+    let at-set-base = at-set-waiting .before .before .before .before in
+    let at-set-place = at-set-base .before .before .before .before in
+    let entry = at-set-place .before .before .before .before in
+    let h = entry .pre .0 in
+    let k = entry .args .task in
+    let two = then-became _ _ (λ (x : Task). based x (k .base)) h (at-set-place .set-place .ensures) (at-set-base .set-base .ensures) in
+    let three = then-became _ _ (λ (x : Task). waited x (k .waiting)) h two (at-set-waiting .set-waiting .ensures) in
+    then-became _ _ (λ (x : Task). permitted x (k .permit)) h three (at-set-permit .set-permit .ensures)
 
 pub put-spec : {M : Type 1} → statement M
 put-spec =

@@ -24,7 +24,9 @@ same-length : tie.Need-same-length
 same-length c = search needs
 
 returns : tie.Need-returns
-returns c = waiting-became _ _ (c .before .before .pre .1) (c .before .before .pre .0) _ _ (c .waiting-code .ensures .0) (c .waiting-code .ensures .1)
+returns c =
+    let entry = c .before .before in
+    waiting-became _ _ (entry .pre .1) (entry .pre .0) _ _ (c .waiting-code .ensures .0) (c .waiting-code .ensures .1)
 
 pub set-waiting-spec : {M : Type 1} → statement M
 set-waiting-spec =
