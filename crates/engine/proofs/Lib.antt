@@ -8,3 +8,4 @@ pub mod RoomLaws
 pub mod EventLaws
 pub mod EffectLaws
 pub mod ValidLaws
+pub mod FreshLaws

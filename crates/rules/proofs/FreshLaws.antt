@@ -96,24 +96,28 @@ module _ (bs cs : List ℕ) (count : length bs ≤ taskLimit) (bases : allOf inR
   }
 
   -- the tasks below i have joined
-  record Joined (i : ℕ) (m : Model) : Type 0 where
-    core : Core true m taskLimit
-    now : m .now ≡ 0
-    objects : m .ceilings ≡ cs
-    size : length (m .tasks) ≡ length bs
-    done : (u : ℕ) → u < i → taskAt m u ≡ withPlace (newTask (getD bs u 0)) Ready
-    left : (u : ℕ) → i ≤ u → taskAt m u ≡ entry (newTasks bs) u
+  pub record Joined (i : ℕ) (m : Model) : Type 0 where
+    pub core : Core true m taskLimit
+    pub now : m .now ≡ 0
+    pub objects : m .ceilings ≡ cs
+    pub size : length (m .tasks) ≡ length bs
+    pub done : (u : ℕ) → u < i → taskAt m u ≡ withPlace (newTask (getD bs u 0)) Ready
+    pub left : (u : ℕ) → i ≤ u → taskAt m u ≡ entry (newTasks bs) u
 
-  join-one : (i : ℕ) (m : Model) → i < length bs → Joined i m → Joined (suc i) (becomeReady m i)
+  -- the next one is on its way
+  pub join-core : (i : ℕ) (m : Model) → Joined i m → Core true m i
+  join-core i m a =
+      let is : taskAt m i ≡ entry (newTasks bs) i = a .left i (omega arith) in
+      core-wake m (a .core) i (omega (arith, ap ready is, ap running is, new-off bs i .0, new-off bs i .1))
+
+  pub join-one : (i : ℕ) (m : Model) → i < length bs → Joined i m → Joined (suc i) (becomeReady m i)
   unfolding becomeReady
   join-one i m h a =
       let is : taskAt m i ≡ entry (newTasks bs) i = a .left i (omega arith) in
-      let off : ready (taskAt m i) + running (taskAt m i) ≡ 0 =
-      omega (arith, ap ready is, ap running is, new-off bs i .0, new-off bs i .1) in
       let k : TaskRecord = withPlace (taskAt m i) Ready in
       let l : i < length (m .tasks) = omega (arith, a .size) in
       record {
-        core = core-ready m i (core-wake m (a .core) i off) l;
+        core = core-ready m i (join-core i m a) l;
         now = a .now;
         objects = a .objects;
         size = length-set (m .tasks) i k ∙ a .size;
@@ -130,15 +134,18 @@ module _ (bs cs : List ℕ) (count : length bs ≤ taskLimit) (bases : allOf inR
   join-all zero i m h a = let e : i ≡ length bs = omega arith in subst (λ (v : ℕ). Joined v m) e a
   join-all (suc n) i m h a = join-all n (suc i) (becomeReady m i) (omega arith) (join-one i m (omega arith) a)
 
-  joined : Joined (length bs) (joinFrom 0 (length bs) (unstarted bs cs))
-  joined = join-all (length bs) 0 (unstarted bs cs) (omega arith) (record {
+  pub joined-none : Joined 0 (unstarted bs cs)
+  joined-none = record {
     core = core-new;
     now = refl;
     objects = refl;
     size = new-length bs;
     done = λ u g. absurd (not-suc-le-zero g);
     left = λ u g. refl;
-  })
+  }
+
+  joined : Joined (length bs) (joinFrom 0 (length bs) (unstarted bs cs))
+  joined = join-all (length bs) 0 (unstarted bs cs) (omega arith) joined-none
 
   -- sound, in ceiling order, and each task as document 01 says
   pub fresh-good : 1 ≤ length bs → length cs ≤ objectLimit → Good true (freshModel bs cs)

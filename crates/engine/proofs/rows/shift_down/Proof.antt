@@ -41,9 +41,9 @@ loop-again c =
     let s = c .before .before .before .args .cells .now in
     let n = c .before .before .before .args .n in
     let k = down-length s n (omega arith) (omega arith) in
-    let e = over-read s (down s n) (l .cells) (l .i) (l .inv .1) (l .i + 1) (omega (arith, k)) (omega arith) in (
+    let e = over-read 0 s (down s n) (l .cells) (l .i) (l .inv .1) (l .i + 1) (omega (arith, k)) (omega arith) in (
       search needs,
-      over-step s (down s n) (l .cells) (l .i) (l .inv .1) _ (omega arith) (omega (arith, k))
+      over-step 0 s (down s n) (l .cells) (l .i) (l .inv .1) _ (omega arith) (omega (arith, k))
           (e ∙ sym (down-at s n (l .i) (omega arith) (omega arith))),
       search needs,
     )
@@ -63,7 +63,7 @@ returns c =
     let e : l .i ≡ n - 1 = omega arith in
     let f : n - 1 + 1 ≡ n = omega arith in
     let z = sym (down-last s n (omega arith) (omega arith)) in
-    over-step s (down s n) (l .cells) (n - 1) (rw e at (l .inv .1)) 0 (omega arith) (omega (arith, k)) z
+    over-step 0 s (down s n) (l .cells) (n - 1) (rw e at (l .inv .1)) 0 (omega arith) (omega (arith, k)) z
     ∙ rw f (down-end s n (omega arith) (omega arith))
 
 pub shift-down-spec : {M : Type 1} → statement M

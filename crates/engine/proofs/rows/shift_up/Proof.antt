@@ -38,8 +38,8 @@ loop-again c =
     let s = c .before .before .before .args .cells .now in
     let x = c .before .before .before .args .x in (
       search needs,
-      over-step s (x ∷ s) (l .cells) (l .i) (l .inv .1) _ (omega arith) (omega arith) (l .inv .2),
-      rw add-one (over-read s (x ∷ s) (l .cells) (l .i) (l .inv .1) (l .i) (omega arith) (omega arith)),
+      over-step 0 s (x ∷ s) (l .cells) (l .i) (l .inv .1) _ (omega arith) (omega arith) (l .inv .2),
+      rw add-one (over-read 0 s (x ∷ s) (l .cells) (l .i) (l .inv .1) (l .i) (omega arith) (omega arith)),
       search needs,
     )
 

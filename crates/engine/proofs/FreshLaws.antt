@@ -1,0 +1,204 @@
+-- Laws of a fresh start: blank slices, newcomers, and the tasks that join one after the other.
+use mathlib.Core.Path.{_≡_, refl, ap, _∙_, sym, subst}
+use mathlib.Core.List.{List, [], _∷_, _++_, map}
+use Prim.Native.Nat.{ℕ, zero, suc, _+_, _-_, _*_, _≤_, _<_}
+use native.Mathlib.Nat.{suc-mul, zero-mul}
+use native.Mathlib.Omega.{arith}
+use lib.ListN.{length, take, drop, getD, set, replicate, length-append, length-replicate, length-map, replicate-append-replicate}
+use lib.Seq.{take-at, drop-at, take-append-seam, drop-append-seam, take-length}
+use Rattle.rules.specs.Limits.{taskLimit, objectLimit, lastPriority}
+use Rattle.rules.specs.Model.{Model, TaskRecord, blank}
+use Rattle.rules.specs.Moves.{becomeReady}
+use Rattle.rules.specs.Fresh.{newTask, newTasks, unstarted, joinFrom}
+use Rattle.rules.proofs.FreshLaws.{Joined, join-core, join-one, joined-none}
+use Rattle.rules.specs.declared.Runner.the-variants.{Nobody}
+use Rattle.rules.specs.declared.Task.{Task}
+use Rattle.engine.specs.Rows.{rows, inRow, rowFor, Tidy, lists, Lists, queueWidth, queuesIn, Queues, heldWidth, heldIn, Held}
+use Rattle.engine.specs.Tasks.{taskWidth, placeOf, waitingOf, taskOf, taskRow, blankTask, tasksIn, Neat, Tasks}
+use Rattle.engine.specs.Memory.{nowCell, runningCell, tasksCell, objectsCell, headWidth, runnerOf, waitingIn, recordOf, together}
+use Rattle.engine.specs.Memory.{taskCount, allRecords, modelOf, Laid, Means}
+use Rattle.engine.specs.Fresh.{newcomer, Startable, Enrolled, JoinAll}
+use Rattle.engine.specs.Room.{Dispatches}
+use Rattle.engine.proofs.RowLaws.{in-row, tidy-row}
+use Rattle.engine.proofs.TaskLaws.{task-back}
+use Rattle.engine.proofs.MemoryLaws.{then-means, means-by, count-is}
+use Rattle.engine.proofs.RoomLaws.{core-joins, core-dispatches}
+
+take-same : {A : Type 0} (n m : ℕ) (x : A) → take n (replicate (n + m) x) ≡ replicate n x
+take-same n m x =
+    rw (← replicate-append-replicate n m x) (take-at (replicate n x) (replicate m x) n (length-replicate n x))
+
+drop-same : {A : Type 0} (n m : ℕ) (x : A) → drop n (replicate (n + m) x) ≡ replicate m x
+drop-same n m x =
+    rw (← replicate-append-replicate n m x) (drop-at (replicate n x) (replicate m x) n (length-replicate n x))
+
+-- the rows of zeros
+zero-rows : (w n : ℕ) → rows w n (replicate (n * w) 0) ≡ replicate n (replicate w 0)
+unfolding rows
+zero-rows w zero = refl
+zero-rows w (suc n) =
+    let e : suc n * w ≡ w + n * w = omega (arith, suc-mul n w) in
+    rw (e, take-same {A = ℕ} w (n * w) 0, drop-same {A = ℕ} w (n * w) 0) (ap (λ (v : List (List ℕ)). replicate w 0 ∷ v) (zero-rows w n))
+
+map-same : {A B : Type 0} (f : A → B) (n : ℕ) (x : A) → map f (replicate n x) ≡ replicate n (f x)
+map-same f zero x = refl
+map-same f (suc n) x = ap (λ (v : List _). f x ∷ v) (map-same f n x)
+
+same-at : {A : Type 0} (P : A → Type 0) (n i : ℕ) (x d : A) → P x → i < n → P (getD (replicate n x) i d)
+same-at P zero i x d p h = absurd (omega arith)
+same-at P (suc n) zero x d p h = p
+same-at P (suc n) (suc i) x d p h = same-at P n i x d p (omega arith)
+
+module _ (l : List ℕ) (w n : ℕ) (e : l ≡ replicate (n * w) 0) (h : 0 < w) where
+  zero-row : replicate w 0 ≡ rowFor w []
+  unfolding rowFor
+  zero-row = let k : w ≡ suc (w - 1) = omega arith in ap (λ (v : ℕ). replicate v 0) k
+
+  blank-lists : lists w n l ≡ replicate n []
+  unfolding lists
+  blank-lists = rw (e, zero-rows w n) (map-same inRow n (replicate w 0) ∙ ap (replicate n) (ap inRow zero-row ∙ in-row w []))
+
+  blank-good : Lists w n l
+  blank-good =
+      record {
+        size = rw e (length-replicate {A = ℕ} (n * w) 0);
+        rows = λ i g. rw (e, zero-rows w n) (same-at Tidy n i (replicate {A = ℕ} w 0) [] (rw zero-row (tidy-row w [] h)) g);
+      }
+
+-- blank tasks
+zero-task : replicate taskWidth 0 ≡ taskRow blankTask
+unfolding taskRow
+zero-task = refl
+
+module _ (l : List ℕ) (e : l ≡ replicate (taskLimit * taskWidth) 0) where
+  pub blank-tasks : tasksIn l ≡ replicate taskLimit blankTask
+  unfolding tasksIn
+  blank-tasks =
+      let one : taskOf (replicate taskWidth 0) ≡ blankTask = ap taskOf zero-task ∙ task-back blankTask in
+      rw (e, zero-rows taskWidth taskLimit) (map-same taskOf taskLimit (replicate taskWidth 0) ∙ ap (replicate taskLimit) one)
+
+  pub blank-rows : Tasks l
+  blank-rows =
+      let one : taskOf (replicate taskWidth 0) ≡ blankTask = ap taskOf zero-task ∙ task-back blankTask in
+      let neat : Neat (replicate taskWidth 0) =
+      record { laid = zero-task ∙ ap taskRow (sym one); base = omega arith; waiting = omega arith } in
+      record {
+        size = rw e (length-replicate {A = ℕ} (taskLimit * taskWidth) 0);
+        rows = λ t g. rw (e, zero-rows taskWidth taskLimit) (same-at Neat taskLimit t (replicate taskWidth 0) [] neat g);
+      }
+
+-- newcomers, in a loop over the bases
+pub newcomer-at : (bs : List ℕ) (t : ℕ) → t < length bs → newcomer (getD bs t 0) ≡ getD (map newcomer bs) t blankTask
+newcomer-at [] t h = absurd (omega arith)
+newcomer-at (b ∷ bs) zero h = refl
+newcomer-at (b ∷ bs) (suc t) h = newcomer-at bs t (omega arith)
+
+-- the records of newcomers that hold nothing, and of the blank rows behind them
+new-records : (bs : List ℕ) (n k : ℕ) → k ≡ length bs + n →
+    together (map newcomer bs ++ replicate n blankTask) (replicate k []) ≡ newTasks bs ++ replicate n blank
+unfolding together newTasks waitingIn
+new-records [] zero k e = refl
+new-records [] (suc n) zero e = absurd (omega arith)
+new-records [] (suc n) (suc k) e = ap (λ (v : List TaskRecord). blank ∷ v) (new-records [] n k (omega arith))
+new-records (b ∷ bs) n zero e = absurd (omega arith)
+new-records (b ∷ bs) n (suc k) e = ap (λ (v : List TaskRecord). newTask b ∷ v) (new-records bs n k (omega arith))
+
+new-count : (bs : List ℕ) → length (newTasks bs) ≡ length bs
+unfolding newTasks
+new-count [] = refl
+new-count (b ∷ bs) = ap suc (new-count bs)
+
+-- the head of a fresh start
+pub fresh-head : (h : List ℕ) (n k : ℕ) → length h ≡ headWidth →
+    set (set (set (set h nowCell 0) runningCell 0) tasksCell n) objectsCell k ≡ 0 ∷ (0 ∷ (n ∷ (k ∷ [])))
+fresh-head [] n k e = absurd (omega arith)
+fresh-head (a ∷ []) n k e = absurd (omega arith)
+fresh-head (a ∷ (b ∷ [])) n k e = absurd (omega arith)
+fresh-head (a ∷ (b ∷ (c ∷ []))) n k e = absurd (omega arith)
+fresh-head (a ∷ (b ∷ (c ∷ (x ∷ [])))) n k e = refl
+fresh-head (a ∷ (b ∷ (c ∷ (x ∷ (y ∷ l))))) n k e = absurd (omega arith)
+
+-- blank slices with newcomers, ceilings and counts written: nobody has started
+module _ (bs given h ts₀ ts hd cs₀ cs qs : List ℕ) (s : Startable bs given) (head : h ≡ 0 ∷ (0 ∷ (length bs ∷ (length given ∷ []))))
+    (empty : ts₀ ≡ replicate (taskLimit * taskWidth) 0) (new : Enrolled ts₀ ts bs) (held : hd ≡ replicate (taskLimit * heldWidth) 0)
+    (none : cs₀ ≡ replicate objectLimit 0) (ceilings : cs ≡ given ++ drop (length given) cs₀)
+    (queues : qs ≡ replicate (lastPriority * queueWidth) 0) where
+  all-new : allRecords ts hd ≡ newTasks bs ++ replicate (taskLimit - length bs) blank
+  all-new =
+      let k : taskLimit ≡ length bs + (taskLimit - length bs) = omega (arith, s .count) in
+      let rest : drop (length bs) (replicate taskLimit blankTask) ≡ replicate (taskLimit - length bs) blankTask =
+      ap (λ (n : ℕ). drop (length bs) (replicate n blankTask)) k ∙ drop-same (length bs) (taskLimit - length bs) blankTask in
+      let tasks : tasksIn ts ≡ map newcomer bs ++ replicate (taskLimit - length bs) blankTask =
+      new .same ∙ rw (blank-tasks ts₀ empty, rest) in
+      rw (tasks, blank-lists hd heldWidth taskLimit held (omega arith)) (new-records bs (taskLimit - length bs) taskLimit k)
+
+  all-ceilings : cs ≡ given ++ replicate (objectLimit - length given) 0
+  all-ceilings =
+      let k : objectLimit ≡ length given + (objectLimit - length given) = omega (arith, s .objects) in
+      let rest : drop (length given) (replicate {A = ℕ} objectLimit 0) ≡ replicate (objectLimit - length given) 0 =
+      ap (λ (n : ℕ). drop (length given) (replicate {A = ℕ} n 0)) k ∙ drop-same {A = ℕ} (length given) (objectLimit - length given) 0 in
+      ceilings ∙ rw (none, rest)
+
+  pub fresh-law : Means h ts hd cs qs (unstarted bs given)
+  unfolding runnerOf
+  fresh-law =
+      let seam = new-count bs in
+      record {
+        same = rw (
+          head,
+          all-new,
+          take-at (newTasks bs) (replicate (taskLimit - length bs) blank) (length bs) seam,
+          all-ceilings,
+          take-append-seam given (replicate (objectLimit - length given) 0),
+          blank-lists qs queueWidth lastPriority queues (omega arith),
+        );
+        laid = record {
+          head = rw head;
+          count = rw head (s .count);
+          objects = rw head (s .objects);
+          tasks = new .good;
+          held = blank-good hd heldWidth taskLimit held (omega arith);
+          ceilings = rw all-ceilings (simp (length-append, length-replicate) (omega (arith, s .objects)));
+          queues = blank-good qs queueWidth lastPriority queues (omega arith);
+          unused = rw (head, all-new) (drop-at (newTasks bs) (replicate (taskLimit - length bs) blank) (length bs) seam);
+          zeros = rw (head, all-ceilings) (drop-append-seam given (replicate (objectLimit - length given) 0));
+        };
+      }
+
+-- the tasks join one after the other
+pub join-next : (t n : ℕ) (m : Model) → joinFrom t (suc n) m ≡ becomeReady (joinFrom t n m) (t + n)
+unfolding joinFrom
+join-next t zero m = let e : t ≡ t + 0 = omega arith in ap (becomeReady m) e
+join-next t (suc n) m =
+    let e : suc t + n ≡ t + suc n = omega arith in
+    join-next (suc t) n (becomeReady m t) ∙ ap (becomeReady (joinFrom (suc t) n (becomeReady m t))) e
+
+module _ (bs cs : List ℕ) (s : Startable bs cs) where
+  joined-to : (i : ℕ) → i ≤ length bs → Joined bs cs (s .count) (s .bases) (s .ceilings) i (joinFrom 0 i (unstarted bs cs))
+  unfolding joinFrom
+  joined-to zero h = joined-none bs cs (s .count) (s .bases) (s .ceilings)
+  joined-to (suc i) h =
+      let a = joined-to i (omega arith) in
+      let e : becomeReady (joinFrom 0 i (unstarted bs cs)) (0 + i) ≡ becomeReady (joinFrom 0 i (unstarted bs cs)) i =
+      let z : 0 + i ≡ i = omega arith in ap (becomeReady (joinFrom 0 i (unstarted bs cs))) z in
+      rw (join-next 0 i (unstarted bs cs), e) (join-one bs cs (s .count) (s .bases) (s .ceilings) i _ (omega arith) a)
+
+  pub fresh-joins : JoinAll (unstarted bs cs)
+  fresh-joins =
+      record {
+        next = λ t h.
+            let a = joined-to t (omega (arith, new-count bs)) in
+            core-joins _ t (join-core bs cs (s .count) (s .bases) (s .ceilings) t _ a) (omega (arith, a .size, new-count bs));
+      }
+
+  pub fresh-dispatches : Dispatches (joinFrom 0 (length bs) (unstarted bs cs))
+  fresh-dispatches = core-dispatches _ (joined-to (length bs) (omega arith) .core)
+
+-- all tasks of a fresh start have joined
+pub joined-law : {h ts hd cs qs ts' qs' given : List ℕ} (bs : List ℕ) → Means h ts hd cs qs (unstarted bs given) →
+    Means h ts' hd cs qs' (joinFrom 0 (taskCount h) (modelOf h ts hd cs qs)) →
+    Means h ts' hd cs qs' (joinFrom 0 (length bs) (unstarted bs given))
+joined-law {h = h} {given = given} bs x y =
+    let count : taskCount h ≡ length bs =
+    sym (count-is (x .laid)) ∙ (ap (λ (m : Model). length (m .tasks)) (x .same) ∙ new-count bs) in
+    means-by (then-means (joinFrom 0 (taskCount h)) x y) (ap (λ (n : ℕ). joinFrom 0 n (unstarted bs given)) count)
