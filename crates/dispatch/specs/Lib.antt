@@ -1,0 +1,5 @@
+pub mod State
+pub mod Sound
+pub mod Methods
+pub mod Readers
+pub mod Loading

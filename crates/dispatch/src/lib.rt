@@ -1,0 +1,34 @@
+// The dispatcher: a state by value, and every event a method that hands it back beside its answer.
+mod sizes;
+
+use crate::sizes::HELD_CELLS;
+use crate::sizes::OBJECT_LIMIT;
+use crate::sizes::QUEUE_CELLS;
+use crate::sizes::TASK_LIMIT;
+use rules::Answer;
+use rules::Priority;
+use rules::Runner;
+use rules::Task;
+
+// All fields are public: whatever a caller hands in gets an answer. Cells past a count or past a row's length are no part of it.
+pub struct State {
+    pub now: u64,
+    pub running: Runner,
+    pub task_count: u8,
+    pub object_count: u8,
+    pub tasks: [Task; TASK_LIMIT],
+    pub held: [u8; HELD_CELLS],
+    pub ceilings: [Priority; OBJECT_LIMIT],
+    pub queues: [u8; QUEUE_CELLS],
+}
+
+pub struct Stepped {
+    pub answer: Answer,
+    pub state: State,
+}
+
+// What stands at a place of a list: a task's or an object's number, or nothing.
+pub enum Listed {
+    Number(u8),
+    Nothing,
+}
