@@ -9,7 +9,7 @@ use borrow.Author.Tests.{ltb-true}
 use lib.Dec.{ltb}
 use lib.ListN.{length, take, drop, getD, replicate, length-append, length-replicate, length-drop, length-take, length-map}
 use lib.ListN.{take-append-drop, replicate-append-replicate, List·getD-eq-default}
-use lib.Seq.{take-at, drop-at}
+use lib.Seq.{take-at, drop-at, take-suc}
 use Rattle.rules.proofs.Choices.{compare}
 use Rattle.rules.proofs.SoundLaws.{below-at}
 use Rattle.engine.specs.Rows.{rows, inRow, rowFor, Tidy, lists, Lists}
@@ -21,6 +21,12 @@ use Rattle.dispatch.proofs.ListLaws.{map-at, map-take}
 -- every list leaves room in a row of width w
 abbrev pub Short : ℕ → List (List ℕ) → Type 0
 Short w ls = (i : ℕ) → length (getD ls i []) < w
+
+pub short-take : (w n : ℕ) (ls : List (List ℕ)) → 0 < w → Short w ls → Short w (take n ls)
+short-take w zero ls h s i = h
+short-take w (suc n) [] h s i = h
+short-take w (suc n) (l ∷ ls) h s zero = s 0
+short-take w (suc n) (l ∷ ls) h s (suc i) = short-take w n ls h (λ j. s (suc j)) i
 
 module _ {A B : Type 0} (f : A → List B) where
   pub flat-append : (l k : List A) → flatMap f (l ++ k) ≡ flatMap f l ++ flatMap f k
@@ -110,6 +116,13 @@ lists-front w k n l h = ap (map inRow) (front k n l h) ∙ map-take inRow k (row
     front zero n l h = refl
     front (suc k) zero l h = absurd (not-suc-le-zero h)
     front (suc k) (suc n) l h = ap (λ (v : List (List ℕ)). take w l ∷ v) (front k n (drop w l) (le-of-suc-le-suc h))
+
+-- one more
+pub lists-next : (w n i : ℕ) (l : List ℕ) → i < n → lists w (suc i) l ≡ lists w i l ++ (inRow (getD (rows w n l) i []) ∷ [])
+lists-next w n i l h =
+    let k : i < length (lists w n l) = omega (arith, list-count w n l) in
+    lists-front w (suc i) n l h ∙
+    rw (take-suc (lists w n l) i [] k, ← lists-front w i n l (omega arith), list-at w n i l)
 
 -- lengths that leave room
 in-row-most : (r : List ℕ) → length (inRow r) ≤ getD r 0 0

@@ -1,3 +1,4 @@
 pub mod ListLaws
 pub mod FlatLaws
 pub mod EncodeLaws
+pub mod LoadLaws

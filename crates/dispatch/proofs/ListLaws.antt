@@ -2,7 +2,7 @@
 use mathlib.Core.Path.{_≡_, refl, ap, _∙_, sym}
 use mathlib.Core.List.{List, [], _∷_, _++_, append-nil, map, map-append}
 use Prim.Native.Nat.{ℕ, zero, suc, _+_, _-_, _≤_, _<_}
-use native.Mathlib.Nat.{sub-zero, suc-sub-suc, zero-sub}
+use native.Mathlib.Nat.{sub-zero, suc-sub-suc, zero-sub, not-suc-le-zero, le-of-suc-le-suc}
 use native.Mathlib.Numerals.{add-one}
 use native.Mathlib.Omega.{arith}
 use lib.ListN.{length, take, drop, getD, set, replicate, length-append, length-replicate, take-append-drop, length-take, length-drop}
@@ -30,6 +30,11 @@ module _ {A : Type 0} where
   drop-replicate zero m x = rw (sub-zero m)
   drop-replicate (suc n) zero x = rw (zero-sub (suc n))
   drop-replicate (suc n) (suc m) x = drop-replicate n m x ∙ rw (suc-sub-suc m n)
+
+  pub take-replicate : (n m : ℕ) (x : A) → n ≤ m → take n (replicate m x) ≡ replicate n x
+  take-replicate zero m x h = refl
+  take-replicate (suc n) zero x h = absurd (not-suc-le-zero h)
+  take-replicate (suc n) (suc m) x h = ap (λ (v : List A). x ∷ v) (take-replicate n m x (le-of-suc-le-suc h))
 
   -- entries written over a list of blanks
   pub over-blank : (s : List A) (n m : ℕ) (x : A) → n ≤ length s → over (replicate m x) s n ≡ padded m (take n s) x

@@ -14,3 +14,9 @@ pub const HELD_WIDTH: usize = OBJECT_LIMIT + 1;
 pub const QUEUE_CELLS: usize = PRIORITIES * QUEUE_WIDTH;
 
 pub const HELD_CELLS: usize = TASK_LIMIT * HELD_WIDTH;
+
+pub const TASK_WIDTH: usize = 5;
+
+pub const TASK_CELLS: usize = TASK_LIMIT * TASK_WIDTH;
+
+pub const HEAD_WIDTH: usize = 4;

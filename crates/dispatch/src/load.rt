@@ -1,0 +1,96 @@
+// From a state to the engine's slices: what its counts and lengths reach, and zeros behind it.
+ghost use mathlib.Core.Path.{_≡_};
+ghost use mathlib.Core.Bool.{true};
+ghost use mathlib.Core.List.{_++_, map, flatMap};
+ghost use Prim.Native.Nat.{_*_, _-_, _≤_, _<_};
+ghost use lib.ListN.{length, take, getD, replicate};
+ghost use Rattle.rules.specs.Limits.{taskLimit, objectLimit};
+ghost use Rattle.engine.specs.Rows.{inRow, rowFor, lists};
+ghost use Rattle.engine.specs.Tasks.{taskWidth};
+ghost use Rattle.engine.specs.Memory.{Means};
+ghost use Rattle.dispatch.specs.State.{level, padded, view};
+ghost use Rattle.dispatch.specs.Sound.{lengthsGood, sizesFit};
+ghost use Rattle.dispatch.specs.Loading.{codeOf, TasksLoaded};
+use crate::State;
+use crate::sizes::HEAD_WIDTH;
+use crate::sizes::HELD_CELLS;
+use crate::sizes::HELD_WIDTH;
+use crate::sizes::OBJECT_LIMIT;
+use crate::sizes::PRIORITIES;
+use crate::sizes::QUEUE_CELLS;
+use crate::sizes::QUEUE_WIDTH;
+use crate::sizes::TASK_CELLS;
+use crate::sizes::TASK_LIMIT;
+use rules::Priority;
+use rules::Runner;
+use rules::Task;
+
+// A row's length and elements go over the front of a row of zeros.
+fn load_row(from: &[u8], to: &mut [u8])
+    requires { ⌜ getD (now from) 0 0 < length (now from) ⌝ }
+    requires { ⌜ now to ≡ replicate (length (now from)) 0 ⌝ }
+    ensures { λ u. ⌜ now (to .exit) ≡ rowFor (length (now (from .entry))) (inRow (now (from .entry))) ⌝ }
+{
+    let size = from[0] as usize;
+    let mut i: usize = 0;
+    while i <= size {
+        to[i] = from[i];
+        i += 1;
+    }
+}
+
+// The lists in the first n rows go over the front of zeros.
+pub fn load_lists(from: &[u8], to: &mut [u8], width: usize, n: usize)
+    requires { ⌜ n * width ≤ length (now from) ⌝ }
+    requires { ⌜ lengthsGood width n (now from) ≡ true ⌝ }
+    requires { ⌜ n * width ≤ length (now to) ⌝ }
+    requires { ⌜ now to ≡ replicate (length (now to)) 0 ⌝ }
+    ensures { λ u.
+        ⌜ now (to .exit) ≡
+        flatMap (rowFor width) (lists width n (now (from .entry))) ++ replicate (length (now (to .entry)) - n * width) 0 ⌝ }
+{
+    let mut i: usize = 0;
+    while i < n {
+        let b = i * width;
+        load_row(&from[b..b + width], &mut to[b..b + width]);
+        i += 1;
+    }
+}
+
+// The first n records go over the front of blank rows.
+pub fn load_tasks(tasks: [Task; TASK_LIMIT], n: usize, to: &mut [u64])
+    requires { ⌜ n ≤ taskLimit ⌝ }
+    requires { ⌜ now to ≡ replicate (taskLimit * taskWidth) 0 ⌝ }
+    ensures { λ u. ⌜ TasksLoaded tasks n (now (to .exit)) ⌝ }
+{
+    let mut i: usize = 0;
+    while i < n {
+        let k = tasks[i];
+        engine::tasks::put(to, i, k);
+        i += 1;
+    }
+}
+
+// The first n ceilings go over the front of zeros.
+pub fn load_ceilings(ceilings: [Priority; OBJECT_LIMIT], n: usize, to: &mut [u8])
+    requires { ⌜ n ≤ objectLimit ⌝ }
+    requires { ⌜ now to ≡ replicate objectLimit 0 ⌝ }
+    ensures { λ u. ⌜ now (to .exit) ≡ padded objectLimit (take n (map level ceilings)) 0 ⌝ }
+{
+    let mut i: usize = 0;
+    while i < n {
+        let p = ceilings[i];
+        to[i] = p.0;
+        i += 1;
+    }
+}
+
+// Who runs, as the engine's head has it.
+pub fn running_code(running: Runner) -> u64
+    ensures { λ r. ⌜ r ≡ codeOf running ⌝ }
+{
+    match running {
+        Runner::Nobody => 0,
+        Runner::Task(t) => t as u64 + 1,
+    }
+}
