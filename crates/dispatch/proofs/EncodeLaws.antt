@@ -69,6 +69,21 @@ together-append [] c (y ∷ b) d e = absurd (omega arith)
 together-append (x ∷ a) c [] d e = absurd (omega arith)
 together-append (x ∷ a) c (y ∷ b) d e = ap (λ (v : List TaskRecord). recordOf x y ∷ v) (together-append a c b d (omega arith))
 
+pub together-length : (ks : List Task) (ls : List (List ℕ)) → length ks ≡ length ls → length (together ks ls) ≡ length ks
+together-length ks ls e = sym (length-map (together ks ls) taskFor) ∙ ap length (together-tasks ks ls e)
+
+pub together-take : (n : ℕ) (ks : List Task) (ls : List (List ℕ)) → together (take n ks) (take n ls) ≡ take n (together ks ls)
+unfolding together
+together-take zero ks ls = refl
+together-take (suc n) [] ls = refl
+together-take (suc n) (k ∷ ks) [] = refl
+together-take (suc n) (k ∷ ks) (l ∷ ls) = ap (λ (v : List TaskRecord). recordOf k l ∷ v) (together-take n ks ls)
+
+pub together-blank : (n : ℕ) → together (replicate n blankTask) (replicate n []) ≡ replicate n blank
+unfolding together waitingIn
+together-blank zero = refl
+together-blank (suc n) = ap (λ (v : List TaskRecord). blank ∷ v) (together-blank n)
+
 -- what stands behind the last is not read
 tasks-there : (ks : List TaskRecord) →
     take (length ks) (together (padded taskLimit (map taskFor ks) blankTask) (padded taskLimit (map holding ks) [])) ≡ ks

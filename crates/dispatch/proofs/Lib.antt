@@ -2,3 +2,4 @@ pub mod ListLaws
 pub mod FlatLaws
 pub mod EncodeLaws
 pub mod LoadLaws
+pub mod Known

@@ -7,7 +7,7 @@ use native.Mathlib.Numerals.{add-one}
 use native.Mathlib.Omega.{arith}
 use lib.ListN.{length, take, drop, getD, set, replicate, length-append, length-replicate, take-append-drop, length-take, length-drop}
 use lib.ListN.{List·getD-map, length-map, drop-of-length-le}
-use lib.Seq.{set-at, drop-cons, take-suc, append-snoc, length-take-le, take-all, take-nil}
+use lib.Seq.{set-at, drop-cons, take-suc, append-snoc, length-take-le, take-all, take-at, drop-at}
 use Rattle.engine.proofs.GridLaws.{getD-any}
 use Rattle.dispatch.specs.State.{padded}
 
@@ -44,6 +44,14 @@ module _ {A : Type 0} where
   pub padded-length : (n : ℕ) (l : List A) (x : A) → length l ≤ n → length (padded n l x) ≡ n
   unfolding padded
   padded-length n l x h = simp (length-append, length-replicate) (omega arith)
+
+  pub padded-front : (n m : ℕ) (l : List A) (x : A) → length l ≡ n → take n (padded m l x) ≡ l
+  unfolding padded
+  padded-front n m l x e = take-at l (replicate (m - length l) x) n e
+
+  pub padded-rest : (n m : ℕ) (l : List A) (x : A) → length l ≡ n → drop n (padded m l x) ≡ replicate (m - n) x
+  unfolding padded
+  padded-rest n m l x e = drop-at l (replicate (m - length l) x) n e ∙ rw e
 
   -- what stands behind the last reads as a default
   pub padded-at : (n : ℕ) (l : List A) (x : A) (i : ℕ) → getD (padded n l x) i x ≡ getD l i x
