@@ -94,3 +94,48 @@ pub fn running_code(running: Runner) -> u64
         Runner::Task(t) => t as u64 + 1,
     }
 }
+
+// The engine's slices.
+pub struct Memory {
+    pub head: [u64; HEAD_WIDTH],
+    pub tasks: [u64; TASK_CELLS],
+    pub held: [u8; HELD_CELLS],
+    pub ceilings: [u8; OBJECT_LIMIT],
+    pub queues: [u8; QUEUE_CELLS],
+}
+
+impl State {
+    pub fn load(self) -> Memory
+        requires { ⌜ sizesFit self ≡ true ⌝ }
+        ensures { λ r. ⌜ Means (r .head) (r .tasks) (r .held) (r .ceilings) (r .queues) (view self) ⌝ }
+    {
+        let n = self.task_count as usize;
+        let running = self.running;
+        let code = running_code(running);
+        let head = [
+            self.now,
+            code,
+            self.task_count as u64,
+            self.object_count as u64,
+        ];
+        let records = self.tasks;
+        let mut tasks = [0u64; TASK_CELLS];
+        load_tasks(records, n, &mut tasks);
+        let holds = self.held;
+        let mut held = [0u8; HELD_CELLS];
+        load_lists(&holds, &mut held, HELD_WIDTH, n);
+        let levels = self.ceilings;
+        let mut ceilings = [0u8; OBJECT_LIMIT];
+        load_ceilings(levels, self.object_count as usize, &mut ceilings);
+        let ready = self.queues;
+        let mut queues = [0u8; QUEUE_CELLS];
+        load_lists(&ready, &mut queues, QUEUE_WIDTH, PRIORITIES);
+        Memory {
+            head: head,
+            tasks: tasks,
+            held: held,
+            ceilings: ceilings,
+            queues: queues,
+        }
+    }
+}

@@ -46,10 +46,9 @@ loop-again c =
     let l = at-loop .loop in
     let ks = a .args .t1 in
     let put = c .before .before .put .ensures in
-    let count : length ks ≡ taskLimit = a .good .0 .1 .0 .1 in
-    let there = getD-any ks (l .i) _ blankTask (omega arith) in (
+    let count : length ks ≡ taskLimit = a .good .0 .1 .0 .1 in (
       search needs,
-      task-more ks (l .to) _ (l .i) _ (omega arith) (omega arith) (l .inv .1) there put,
+      task-more ks (l .to) _ (l .i) _ (omega arith) (omega arith) (l .inv .1) (getD-any ks (l .i) _ blankTask (omega arith)) put,
       put .good,
       search needs,
     )
