@@ -3,3 +3,4 @@ pub mod FlatLaws
 pub mod EncodeLaws
 pub mod LoadLaws
 pub mod Known
+pub mod TestLaws

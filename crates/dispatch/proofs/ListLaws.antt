@@ -7,7 +7,7 @@ use native.Mathlib.Numerals.{add-one}
 use native.Mathlib.Omega.{arith}
 use lib.ListN.{length, take, drop, getD, set, replicate, length-append, length-replicate, take-append-drop, length-take, length-drop}
 use lib.ListN.{List·getD-map, length-map, drop-of-length-le}
-use lib.Seq.{set-at, drop-cons, take-suc, append-snoc, length-take-le, take-all, take-at, drop-at}
+use lib.Seq.{set-at, drop-cons, take-suc, take-suc-set, append-snoc, length-take-le, take-all, take-at, drop-at}
 use Rattle.engine.proofs.GridLaws.{getD-any}
 use Rattle.dispatch.specs.State.{padded}
 
@@ -25,6 +25,14 @@ module _ {A : Type 0} where
 
   pub over-end : (l s : List A) (n : ℕ) → length l ≤ n → length s ≤ n → over l s n ≡ s
   over-end l s n h g = rw (drop-of-length-le l {i = n} h, take-all n s g) (append-nil s)
+
+  -- a list that agrees with s as far as i: where what stood there does not matter
+  pub fill-more : (l s : List A) (i : ℕ) (x z : A) → i < length l → i < length s → x ≡ getD s i z → take i l ≡ take i s →
+      take (i + 1) (set l i x) ≡ take (i + 1) s
+  fill-more l s i x z h g e f = rw (add-one, take-suc-set l i x h, take-suc s i z g, e, f)
+
+  pub fill-end : (l s : List A) (n : ℕ) → length l ≡ n → length s ≡ n → take n l ≡ take n s → l ≡ s
+  fill-end l s n h g e = sym (take-all n l (omega arith)) ∙ (e ∙ take-all n s (omega arith))
 
   pub drop-replicate : (n m : ℕ) (x : A) → drop n (replicate m x) ≡ replicate (m - n) x
   drop-replicate zero m x = rw (sub-zero m)

@@ -1,6 +1,8 @@
 // The dispatcher: a state by value, and every event a method that hands it back beside its answer.
 mod load;
 mod sizes;
+mod store;
+mod test;
 
 use crate::sizes::HELD_CELLS;
 use crate::sizes::OBJECT_LIMIT;

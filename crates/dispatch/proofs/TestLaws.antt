@@ -1,0 +1,73 @@
+-- Laws of the tests: lengths in rows, from the last row down.
+use mathlib.Core.Path.{_≡_, refl, ap, _∙_, sym}
+use mathlib.Core.Bool.{Bool, true, false, _&&_}
+use mathlib.Core.List.{List}
+use Prim.Native.Nat.{ℕ, zero, suc, _-_, _*_, _≤_, _<_}
+use native.Mathlib.Nat.{not-suc-le-zero}
+use native.Mathlib.Numerals.{sub-one}
+use borrow.Author.Tests.{lt-ltb, le-ltb, lt-leb, le-leb}
+use lib.Dec.{leb, ltb}
+use lib.ListN.{getD}
+use Rattle.rules.specs.Limits.{taskLimit, objectLimit, lastPriority}
+use Rattle.rules.specs.Fresh.{countsGood}
+use Rattle.rules.specs.Sound.{below}
+use Rattle.engine.specs.Rows.{heldWidth, queueWidth}
+use Rattle.dispatch.specs.declared.State.{State}
+use Rattle.dispatch.specs.Sound.{lengthsGood, sizesFit}
+
+and-true : (a b : Bool) → b ≡ true → (a && b) ≡ a
+and-true true b e = e
+and-true false b e = refl
+
+and-false : (a b : Bool) → b ≡ false → (a && b) ≡ false
+and-false true b e = e
+and-false false b e = refl
+
+module _ (w : ℕ) (l : List ℕ) where
+  room : ℕ → Bool
+  room j = ltb (getD l (j * w) 0) w
+
+  pub lengths-next : (i : ℕ) → 0 < i → getD l ((i - 1) * w) 0 < w → lengthsGood w i l ≡ lengthsGood w (i - 1) l
+  unfolding below room
+  lengths-next zero h g = absurd (not-suc-le-zero h)
+  lengths-next (suc i) h g =
+      rw sub-one (and-true (lengthsGood w i l) (room i) (lt-ltb (getD l (i * w) 0) w (rw sub-one at g)))
+
+  pub lengths-fail : (i : ℕ) → 0 < i → w ≤ getD l ((i - 1) * w) 0 → lengthsGood w i l ≡ false
+  unfolding below room
+  lengths-fail zero h g = absurd (not-suc-le-zero h)
+  lengths-fail (suc i) h g = and-false (lengthsGood w i l) (room i) (le-ltb (getD l (i * w) 0) w (rw sub-one at g))
+
+  pub lengths-none : (i : ℕ) → i ≤ 0 → lengthsGood w i l ≡ true
+  unfolding below
+  lengths-none zero h = refl
+  lengths-none (suc i) h = absurd (not-suc-le-zero h)
+
+-- the tests of a whole state, each where those before it hold
+module _ (s : State) where
+  abbrev n : ℕ
+  n = s .«task_count»
+
+  pub fits-none : n < 1 → false ≡ sizesFit s
+  unfolding sizesFit
+  fits-none h = rw (lt-leb 1 (s .«task_count») h)
+
+  pub fits-many : taskLimit < n → false ≡ sizesFit s
+  unfolding sizesFit
+  fits-many h = rw (and-false (leb 1 n) (leb n taskLimit) (lt-leb n taskLimit h))
+
+  pub fits-objects : objectLimit < s .«object_count» → false ≡ sizesFit s
+  unfolding sizesFit
+  fits-objects h =
+      let o = s .«object_count» in
+      rw (and-false (leb 1 n && leb n taskLimit) (leb o objectLimit) (lt-leb o objectLimit h))
+
+  pub fits-held : lengthsGood heldWidth n (s .held) ≡ false → false ≡ sizesFit s
+  unfolding sizesFit
+  fits-held e = rw (and-false (countsGood n (s .«object_count»)) (lengthsGood heldWidth n (s .held)) e)
+
+  pub fits-queues : 1 ≤ n → n ≤ taskLimit → s .«object_count» ≤ objectLimit → lengthsGood heldWidth n (s .held) ≡ true →
+      lengthsGood queueWidth lastPriority (s .queues) ≡ sizesFit s
+  unfolding sizesFit
+  fits-queues a b c e =
+      rw (le-leb 1 (s .«task_count») a, le-leb (s .«task_count») taskLimit b, le-leb (s .«object_count») objectLimit c, e)
