@@ -4,3 +4,4 @@ pub mod EncodeLaws
 pub mod LoadLaws
 pub mod Known
 pub mod TestLaws
+pub mod ApplyLaws

@@ -1,4 +1,5 @@
 // The dispatcher: a state by value, and every event a method that hands it back beside its answer.
+mod apply;
 mod load;
 mod sizes;
 mod store;

@@ -20,3 +20,11 @@ pub const TASK_WIDTH: usize = 5;
 pub const TASK_CELLS: usize = TASK_LIMIT * TASK_WIDTH;
 
 pub const HEAD_WIDTH: usize = 4;
+
+pub const NOW_CELL: usize = 0;
+
+pub const RUNNING_CELL: usize = 1;
+
+pub const TASKS_CELL: usize = 2;
+
+pub const OBJECTS_CELL: usize = 3;

@@ -1,13 +1,22 @@
 // From the engine's slices back to a state.
 ghost use mathlib.Core.Path.{_≡_};
 ghost use mathlib.Core.List.{map};
+ghost use Prim.Native.Nat.{_≤_};
+ghost use Rattle.rules.specs.Limits.{taskLimit};
 ghost use Rattle.engine.specs.Tasks.{tasksIn, Tasks};
-ghost use Rattle.engine.specs.Memory.{modelOf};
+ghost use Rattle.engine.specs.Memory.{runnerOf, modelOf, Valid};
 ghost use Rattle.dispatch.specs.State.{priority, encode};
 use crate::State;
-use crate::load::Memory;
+use crate::sizes::HEAD_WIDTH;
+use crate::sizes::HELD_CELLS;
+use crate::sizes::NOW_CELL;
 use crate::sizes::OBJECT_LIMIT;
+use crate::sizes::OBJECTS_CELL;
+use crate::sizes::QUEUE_CELLS;
+use crate::sizes::RUNNING_CELL;
+use crate::sizes::TASK_CELLS;
 use crate::sizes::TASK_LIMIT;
+use crate::sizes::TASKS_CELL;
 use rules::Priority;
 use rules::Runner;
 use rules::Task;
@@ -38,4 +47,41 @@ fn stored_ceilings(ceilings: [u8; OBJECT_LIMIT]) -> [Priority; OBJECT_LIMIT]
         i += 1;
     }
     levels
+}
+
+// Who runs, from the engine's head.
+fn runner(code: u64) -> Runner
+    requires { ⌜ code ≤ taskLimit ⌝ }
+    ensures { λ r. ⌜ r ≡ runnerOf code ⌝ }
+{
+    if code == 0 {
+        return Runner::Nobody;
+    }
+    Runner::Task((code - 1) as u8)
+}
+
+// The state for the Model that the slices mean.
+pub fn store(
+    head: [u64; HEAD_WIDTH],
+    tasks: [u64; TASK_CELLS],
+    held: [u8; HELD_CELLS],
+    ceilings: [u8; OBJECT_LIMIT],
+    queues: [u8; QUEUE_CELLS],
+) -> State
+    requires { ⌜ Valid head tasks held ceilings queues ⌝ }
+    ensures { λ r. ⌜ r ≡ encode (modelOf head tasks held ceilings queues) ⌝ }
+{
+    let running = runner(head[RUNNING_CELL]);
+    let records = stored_tasks(&tasks);
+    let levels = stored_ceilings(ceilings);
+    State {
+        now: head[NOW_CELL],
+        running: running,
+        task_count: head[TASKS_CELL] as u8,
+        object_count: head[OBJECTS_CELL] as u8,
+        tasks: records,
+        held: held,
+        ceilings: levels,
+        queues: queues,
+    }
 }
