@@ -46,7 +46,7 @@ together-there (k ∷ ks) =
     let same : recordOf (taskFor k) (holding k) ≡ k = rw (waiting-there (k .waiting)) in
     ap (λ (x : TaskRecord). x ∷ together (map taskFor ks) (map holding ks)) same ∙ ap (λ (v : List TaskRecord). k ∷ v) (together-there ks)
 
-together-tasks : (ks : List Task) (ls : List (List ℕ)) → length ks ≡ length ls → map taskFor (together ks ls) ≡ ks
+pub together-tasks : (ks : List Task) (ls : List (List ℕ)) → length ks ≡ length ls → map taskFor (together ks ls) ≡ ks
 unfolding together
 together-tasks [] ls e = refl
 together-tasks (k ∷ ks) [] e = absurd (omega arith)
@@ -54,7 +54,7 @@ together-tasks (k ∷ ks) (l ∷ ls) e =
     let same : taskFor (recordOf k l) ≡ k = rw (waiting-back (k .waiting)) in
     ap (λ (x : Task). x ∷ map taskFor (together ks ls)) same ∙ ap (λ (v : List Task). k ∷ v) (together-tasks ks ls (omega arith))
 
-together-held : (ks : List Task) (ls : List (List ℕ)) → length ks ≡ length ls → map holding (together ks ls) ≡ ls
+pub together-held : (ks : List Task) (ls : List (List ℕ)) → length ks ≡ length ls → map holding (together ks ls) ≡ ls
 unfolding together
 together-held [] [] e = refl
 together-held [] (l ∷ ls) e = absurd (omega arith)

@@ -5,3 +5,4 @@ pub mod LoadLaws
 pub mod Known
 pub mod TestLaws
 pub mod ApplyLaws
+pub mod ReaderLaws

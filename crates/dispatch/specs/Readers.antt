@@ -1,17 +1,22 @@
 -- What the readers give back, of any state: what its Model has there, or nothing.
 use mathlib.Core.Bool.{cond}
 use mathlib.Core.List.{List, []}
-use Prim.Native.Nat.{ℕ}
+use Prim.Native.Nat.{ℕ, _*_}
 use lib.Dec.{ltb}
-use lib.ListN.{length, getD}
+use lib.ListN.{length, take, drop, getD}
 use Rattle.rules.specs.Priorities.{inRange}
 use Rattle.rules.specs.Model.{taskAt, queue, active}
 use Rattle.rules.specs.declared.Priority.{Priority}
 use Rattle.rules.specs.declared.Task.{Task}
+use Rattle.engine.specs.Rows.{inRow}
 use Rattle.dispatch.specs.declared.State.{State}
 use Rattle.dispatch.specs.declared.Listed.{Listed}
 use Rattle.dispatch.specs.declared.Listed.the-variants.{Number, Nothing}
 use Rattle.dispatch.specs.State.{priority, view, taskFor}
+
+-- the list in row i of the rows of width w
+abbrev pub listAt : ℕ → ℕ → List ℕ → List ℕ
+listAt w i l = inRow (take w (drop (i * w) l))
 
 -- the entry of a list at i
 unfoldable pub entryOf : List ℕ → ℕ → Listed

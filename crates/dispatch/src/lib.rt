@@ -1,6 +1,7 @@
 // The dispatcher: a state by value, and every event a method that hands it back beside its answer.
 mod apply;
 mod load;
+mod readers;
 mod sizes;
 mod store;
 mod test;

@@ -1,0 +1,55 @@
+-- `dispatch::State::active` meets its contract.
+use mathlib.Core.Path.{ap}
+use native.Mathlib.Omega.{arith}
+use borrow.Author.Needs.{needs}
+use Rattle.rules.specs.declared.Task.{Task}
+use Rattle.dispatch.proofs.Known.{known}
+use Rattle.dispatch.proofs.ReaderLaws.{in-view, past-view, there, active-is, active-none}
+use Rattle.dispatch.proofs.State.active.Statement.{statement}
+use Rattle.dispatch.proofs.State.active.Tie as tie
+
+has-task-requires : tie.Need-has-task-requires
+has-task-requires c κs = search needs
+
+task-requires : tie.Need-task-requires
+task-requires c κs = search needs
+
+slice-aggregate-raised : tie.Need-slice-aggregate-raised
+slice-aggregate-raised c = search needs
+
+cast-raised : tie.Need-cast-raised
+cast-raised c = search needs
+
+raised-requires : tie.Need-raised-requires
+raised-requires c κs =
+    let a = c .before .before .before .before .before .before .before .before in
+    let s = a .args .self in
+    let shape = known s _ (a .good .0) in
+    let low = in-view s (a .args .t) _ (c .before .before .before .before .before .before .before .has-task .ensures) (c .before .before .before .before .before .before .if1 .taken) in
+    omega (arith, shape .held, there s shape (a .args .t) low)
+
+returns : tie.Need-returns
+returns c =
+    let a = c .before .before .before .before .before .before .before .before .before in
+    let s = a .args .self in
+    let low = in-view s (a .args .t) _ (c .before .before .before .before .before .before .before .before .has-task .ensures) (c .before .before .before .before .before .before .before .if1 .taken) in
+    let base = ap (λ (k : Task). k .base) (c .before .before .before .before .before .before .task .ensures) in
+    active-is s (known s _ (a .good .0)) (a .args .t) _ _ low base (c .raised .ensures)
+
+returns-2 : tie.Need-returns-2
+returns-2 c =
+    let a = c .before .before in
+    let s = a .args .self in
+    active-none s (known s _ (a .good .0)) (a .args .t) (past-view s (a .args .t) _ (c .before .has-task .ensures) (c .if1 .left))
+
+pub active-spec : {M : Type 1} → statement M
+active-spec =
+    tie.close
+    (tie.spec
+    has-task-requires
+    task-requires
+    slice-aggregate-raised
+    cast-raised
+    raised-requires
+    returns
+    returns-2)

@@ -1,0 +1,36 @@
+-- `dispatch::readers::higher` meets its contract.
+use mathlib.Core.Path.{_≡_}
+use lib.ListN.{length}
+use Rattle.rules.specs.Limits.{objectLimit}
+use borrow.Author.Needs.{needs}
+use native.Mathlib.Omega.{arith}
+use Rattle.dispatch.proofs.ReaderLaws.{ceiling-past, ceiling-out, ceiling-is}
+use Rattle.dispatch.proofs.readers.higher.Statement.{statement}
+use Rattle.dispatch.proofs.readers.higher.Tie as tie
+
+returns : tie.Need-returns
+returns c =
+    let a = c .before .args in
+    omega (arith, ceiling-past (a .t1) (a .n) (a .o) (c .if1 .taken))
+
+returns-2 : tie.Need-returns-2
+returns-2 c =
+    let a = c .before .before in
+    let count : length (a .args .t1) ≡ objectLimit = a .good .0 .1 .0 .1 in
+    omega (arith, ceiling-out (a .args .t1) (a .args .n) (a .args .o) (omega arith))
+
+array-copy-out-c : tie.Need-array-copy-out-c
+array-copy-out-c c = search needs
+
+returns-3 : tie.Need-returns-3
+returns-3 c =
+    let a = c .before .before .before .before .before .args in
+    omega (arith, ceiling-is (a .t1) (a .n) (a .o) (omega arith))
+
+returns-4 : tie.Need-returns-4
+returns-4 c =
+    let a = c .before .before .before .before .before .args in
+    omega (arith, ceiling-is (a .t1) (a .n) (a .o) (omega arith))
+
+pub higher-spec : {M : Type 1} → statement M
+higher-spec = tie.close (tie.spec returns returns-2 array-copy-out-c returns-3 returns-4)

@@ -1,0 +1,192 @@
+// What a caller wants to see of a state, whatever state it is.
+ghost use mathlib.Core.Path.{_≡_};
+ghost use mathlib.Core.List.{map};
+ghost use Prim.Native.Nat.{_+_, _*_, _≤_, _<_, max};
+ghost use lib.Dec.{ltb};
+ghost use lib.ListN.{length, take};
+ghost use Rattle.rules.specs.Priorities.{inRange};
+ghost use Rattle.rules.specs.Model.{ceilingOf, highestOf};
+ghost use Rattle.engine.specs.Rows.{heldWidth};
+ghost use Rattle.engine.specs.Tasks.{blankTask};
+ghost use Rattle.dispatch.specs.State.{level, view};
+ghost use Rattle.dispatch.specs.Readers.{listAt, entryOf, queueOf, taskOf, heldOf, activeOf};
+use crate::Listed;
+use crate::State;
+use crate::sizes::HELD_WIDTH;
+use crate::sizes::OBJECT_LIMIT;
+use crate::sizes::QUEUE_WIDTH;
+use crate::sizes::TASK_LIMIT;
+use rules::Place;
+use rules::Priority;
+use rules::Runner;
+use rules::Task;
+use rules::WaitingBase;
+
+// The length of the list in a row; one that says more than there is room for is cut.
+fn list_length(cells: &[u8], width: usize, row: usize) -> usize
+    requires { ⌜ 0 < width ⌝ }
+    requires { ⌜ row * width + width ≤ length (now cells) ⌝ }
+    ensures { λ r. ⌜ r ≡ length (listAt width row (now (cells .entry))) ⌝ }
+{
+    let n = cells[row * width] as usize;
+    if n < width { n } else { width - 1 }
+}
+
+// Its entry at i.
+fn list_entry(cells: &[u8], width: usize, row: usize, i: u64) -> Listed
+    requires { ⌜ 0 < width ⌝ }
+    requires { ⌜ row * width + width ≤ length (now cells) ⌝ }
+    ensures { λ r. ⌜ r ≡ entryOf (listAt width row (now (cells .entry))) i ⌝ }
+{
+    let n = list_length(cells, width, row);
+    if i < n as u64 {
+        let j = i as usize;
+        return Listed::Number(cells[row * width + (j + 1)]);
+    }
+    Listed::Nothing
+}
+
+// Whether a priority is in range: it has a queue.
+fn has_queue(p: Priority) -> bool
+    ensures { λ r. ⌜ r ≡ inRange (p .0) ⌝ }
+{
+    let first = Priority::FIRST;
+    let last = Priority::LAST;
+    if p.0 < first.0 {
+        return false;
+    }
+    p.0 <= last.0
+}
+
+// The higher of p and the ceiling of the object o, of which there are n.
+fn higher(ceilings: [Priority; OBJECT_LIMIT], n: usize, p: u8, o: u8) -> u8
+    ensures { λ r. ⌜ r ≡ max p (ceilingOf (take n (map level ceilings)) o) ⌝ }
+{
+    let i = o as usize;
+    if n <= i {
+        return p;
+    }
+    if OBJECT_LIMIT <= i {
+        return p;
+    }
+    let c = ceilings[i];
+    if p < c.0 { c.0 } else { p }
+}
+
+// The highest of p and the ceilings of the objects in a row.
+fn raised(held: &[u8], ceilings: [Priority; OBJECT_LIMIT], n: usize, row: usize, p: u8) -> u8
+    requires { ⌜ row * heldWidth + heldWidth ≤ length (now held) ⌝ }
+    ensures { λ r. ⌜ r ≡ highestOf (take n (map level ceilings)) p (listAt heldWidth row (now (held .entry))) ⌝ }
+{
+    let size = list_length(held, HELD_WIDTH, row);
+    let mut a = p;
+    let mut i: usize = 0;
+    while i < size {
+        let o = held[row * HELD_WIDTH + (i + 1)];
+        a = higher(ceilings, n, a, o);
+        i += 1;
+    }
+    a
+}
+
+fn blank_task() -> Task
+    ensures { λ r. ⌜ r ≡ blankTask ⌝ }
+{
+    Task {
+        place: Place::Ended,
+        base: Priority(0),
+        waiting: WaitingBase::Nothing,
+        permit: false,
+    }
+}
+
+impl State {
+    // Who runs.
+    pub fn running(self) -> Runner
+        ensures { λ r. ⌜ r ≡ view self .running ⌝ }
+    {
+        self.running
+    }
+
+    // The length of the ready queue for p, and its entry at i, the head being at 0.
+    pub fn queue_length(self, p: Priority) -> usize
+        ensures { λ r. ⌜ r ≡ length (queueOf self p) ⌝ }
+    {
+        if has_queue(p) {
+            let queues = self.queues;
+            return list_length(&queues, QUEUE_WIDTH, p.0 as usize - 1);
+        }
+        0
+    }
+
+    pub fn queue_entry(self, p: Priority, i: u64) -> Listed
+        ensures { λ r. ⌜ r ≡ entryOf (queueOf self p) i ⌝ }
+    {
+        if has_queue(p) {
+            let queues = self.queues;
+            return list_entry(&queues, QUEUE_WIDTH, p.0 as usize - 1, i);
+        }
+        Listed::Nothing
+    }
+
+    fn has_task(self, t: u64) -> bool
+        ensures { λ r. ⌜ r ≡ ltb t (length (view self .tasks)) ⌝ }
+    {
+        if self.task_count as u64 <= t {
+            return false;
+        }
+        t < TASK_LIMIT as u64
+    }
+
+    // The record of the task t, a blank one past the last.
+    pub fn task(self, t: u64) -> Task
+        ensures { λ r. ⌜ r ≡ taskOf self t ⌝ }
+    {
+        if self.has_task(t) {
+            let i = t as usize;
+            return self.tasks[i];
+        }
+        blank_task()
+    }
+
+    // How many objects t holds, and its entry at i, the outermost being at 0.
+    pub fn held_length(self, t: u64) -> usize
+        ensures { λ r. ⌜ r ≡ length (heldOf self t) ⌝ }
+    {
+        if self.has_task(t) {
+            let held = self.held;
+            return list_length(&held, HELD_WIDTH, t as usize);
+        }
+        0
+    }
+
+    pub fn held_entry(self, t: u64, i: u64) -> Listed
+        ensures { λ r. ⌜ r ≡ entryOf (heldOf self t) i ⌝ }
+    {
+        if self.has_task(t) {
+            let held = self.held;
+            return list_entry(&held, HELD_WIDTH, t as usize, i);
+        }
+        Listed::Nothing
+    }
+
+    // The active priority of t.
+    pub fn active(self, t: u64) -> Priority
+        ensures { λ r. ⌜ r ≡ activeOf self t ⌝ }
+    {
+        if self.has_task(t) {
+            let k = self.task(t);
+            let base = k.base;
+            let held = self.held;
+            let ceilings = self.ceilings;
+            return Priority(raised(
+                &held,
+                ceilings,
+                self.object_count as usize,
+                t as usize,
+                base.0,
+            ));
+        }
+        Priority(0)
+    }
+}
