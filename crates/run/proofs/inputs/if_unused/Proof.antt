@@ -1,0 +1,16 @@
+-- `run::inputs::if_unused` meets its contract.
+use mathlib.Core.Path.{refl, ap, sym}
+use mathlib.Core.Bool.{Bool}
+use Rattle.run.specs.Inputs.{ifUnused}
+use borrow.Author.Needs.{needs}
+use Rattle.run.proofs.inputs.if_unused.Statement.{statement}
+use Rattle.run.proofs.inputs.if_unused.Tie as tie
+
+returns : tie.Need-returns
+returns c = sym (ap (λ (b : Bool). ifUnused b (c .before .args .x)) (c .if1 .taken))
+
+returns-2 : tie.Need-returns-2
+returns-2 c = search needs
+
+pub if-unused-spec : {M : Type 1} → statement M
+if-unused-spec = tie.close (tie.spec returns returns-2)

@@ -1,0 +1,66 @@
+-- `run::inputs::records_good` meets its contract.
+use native.Mathlib.Omega.{arith}
+use borrow.Author.Needs.{needs}
+use borrow.Author.Tests.{not-true, not-false}
+use mathlib.Core.Path.{_≡_, refl}
+use mathlib.Core.Bool.{true}
+use Prim.Native.Nat.{_≤_, _-_}
+use Rattle.rules.specs.Sound.{below}
+use Rattle.roster.proofs.TestLaws.{turn-fails, turn-on, turns-end}
+use Rattle.run.specs.Inputs.{recordGood}
+use Rattle.run.proofs.InputLaws.{record-is}
+use Rattle.run.proofs.inputs.records_good.Statement.{statement}
+use Rattle.run.proofs.inputs.records_good.Tie as tie
+
+abbrev Inv-loop : tie.InvT-loop
+Inv-loop s n i₀ i = (i ≤ n) × (below i (recordGood s) ≡ true)
+
+abbrev μ-loop : tie.MeasureT-loop
+μ-loop s n i₀ i = n - i
+
+loop-holds : tie.Need-loop-holds Inv-loop μ-loop
+unfolding below
+loop-holds c = (omega arith, refl)
+
+decoded-at-requires : tie.Need-decoded-at-requires Inv-loop μ-loop
+decoded-at-requires c κs = search needs
+
+is-good-requires : tie.Need-is-good-requires Inv-loop μ-loop
+is-good-requires c κs = search needs
+
+returns : tie.Need-returns Inv-loop μ-loop
+returns c =
+    turn-fails (recordGood (c .before .before .before .before .before .before .args .s .now)) _ _ _ _ refl (c .before .before .before .loop-test .taken)
+    (record-is _ _ _ _ (c .before .before .decoded-at .ensures) (c .before .is-good .ensures)) (not-true _ (c .if1 .taken))
+
+add-i : tie.Need-add-i Inv-loop μ-loop
+add-i c = omega arith
+
+loop-less : tie.Need-loop-less Inv-loop μ-loop
+loop-less c = omega arith
+
+loop-again : tie.Need-loop-again Inv-loop μ-loop
+loop-again c = (
+  omega arith,
+  turn-on (recordGood (c .before .before .before .before .before .before .args .s .now)) _ _ (c .before .before .before .before .loop .inv .1)
+      (record-is _ _ _ _ (c .before .before .decoded-at .ensures) (c .before .is-good .ensures)) (not-false _ (c .if1 .left)),
+)
+
+returns-2 : tie.Need-returns-2 Inv-loop μ-loop
+returns-2 c =
+    turns-end (recordGood (c .before .before .before .args .s .now)) _ _ _ refl (c .before .loop .inv .0) (c .loop-test .left) (c .before .loop .inv .1)
+
+pub records-good-spec : {M : Type 1} → statement M
+records-good-spec =
+    tie.close
+    (tie.spec
+    Inv-loop
+    μ-loop
+    loop-holds
+    decoded-at-requires
+    is-good-requires
+    returns
+    add-i
+    loop-less
+    loop-again
+    returns-2)

@@ -1,0 +1,138 @@
+// The events of a run, from their bytes.
+ghost use mathlib.Core.Path.{_≡_};
+ghost use mathlib.Core.Bool.{_&&_};
+ghost use Prim.Native.Nat.{_+_, _<_};
+ghost use lib.Dec.{eqb};
+ghost use lib.ListN.{length};
+ghost use Rattle.rules.specs.Sound.{below};
+ghost use Rattle.roster.specs.Format.{wordAt};
+ghost use Rattle.run.specs.Inputs.{ifUnused, decode, valueAt, decodedAt, eventCount, isGood, recordGood};
+ghost use Rattle.run.specs.Inputs.{eventsGood, inputIn, inputAt};
+use crate::Decoded;
+use crate::Input;
+use crate::sizes::CLOCK;
+use crate::sizes::EVENT_SIZE;
+use crate::sizes::LARGEST_EVENTS;
+use crate::sizes::RELEASE;
+use crate::sizes::SET;
+use crate::sizes::STEP;
+
+fn if_unused(zeros: bool, x: Input) -> Decoded
+    ensures { λ r. ⌜ r ≡ ifUnused zeros x ⌝ }
+{
+    if zeros {
+        return Decoded::Good(x);
+    }
+    Decoded::Bad
+}
+
+fn both_zero(a: u8, value: u64) -> bool
+    ensures { λ r. ⌜ r ≡ (eqb a 0 && eqb value 0) ⌝ }
+{
+    if a != 0 {
+        return false;
+    }
+    value == 0
+}
+
+fn decode(kind: u8, a: u8, value: u64) -> Decoded
+    ensures { λ r. ⌜ r ≡ decode kind a value ⌝ }
+{
+    match kind {
+        CLOCK => if_unused(a == 0, Input::Clock(value)),
+        RELEASE => if_unused(value == 0, Input::Release(a)),
+        STEP => if_unused(both_zero(a, value), Input::Step),
+        SET => Decoded::Good(Input::Set(a, value)),
+        _ => Decoded::Bad,
+    }
+}
+
+fn wide(x: u8) -> u64
+    ensures { λ r. ⌜ (r ≡ x) × (r < 256) ⌝ }
+{
+    x as u64
+}
+
+fn word(s: &[u8], at: usize) -> u64
+    requires { ⌜ at + 1 < length (now s) ⌝ }
+    ensures { λ r. ⌜ (r ≡ wordAt (now (s .entry)) at) × (r < 65536) ⌝ }
+{
+    wide(s[at]) + 256 * wide(s[at + 1])
+}
+
+fn value_at(s: &[u8], i: usize) -> u64
+    requires { ⌜ i < eventCount (now s) ⌝ }
+    ensures { λ r. ⌜ r ≡ valueAt (now (s .entry)) i ⌝ }
+{
+    let at = EVENT_SIZE * i;
+    let low = word(s, at + 2);
+    let middle = word(s, at + 4);
+    let high = word(s, at + 6);
+    low + 65536 * (middle + 65536 * high)
+}
+
+fn decoded_at(s: &[u8], i: usize) -> Decoded
+    requires { ⌜ i < eventCount (now s) ⌝ }
+    ensures { λ r. ⌜ r ≡ decodedAt (now (s .entry)) i ⌝ }
+{
+    let at = EVENT_SIZE * i;
+    let kind = s[at];
+    let a = s[at + 1];
+    let value = value_at(s, i);
+    decode(kind, a, value)
+}
+
+fn is_good(x: Decoded) -> bool
+    ensures { λ r. ⌜ r ≡ isGood x ⌝ }
+{
+    match x {
+        Decoded::Good(_) => true,
+        Decoded::Bad => false,
+    }
+}
+
+fn records_good(s: &[u8]) -> bool
+    ensures { λ r. ⌜ r ≡ below (eventCount (now (s .entry))) (recordGood (now (s .entry))) ⌝ }
+{
+    let n = s.len() / EVENT_SIZE;
+    let mut i: usize = 0;
+    while i < n {
+        let x = decoded_at(s, i);
+        if !is_good(x) {
+            return false;
+        }
+        i += 1;
+    }
+    true
+}
+
+// 21, where this is false.
+pub fn events_good(s: &[u8]) -> bool
+    ensures { λ r. ⌜ r ≡ eventsGood (now (s .entry)) ⌝ }
+{
+    let size = s.len();
+    if size % EVENT_SIZE != 0 {
+        return false;
+    }
+    if LARGEST_EVENTS < size {
+        return false;
+    }
+    records_good(s)
+}
+
+fn input_in(x: Decoded) -> Input
+    ensures { λ r. ⌜ r ≡ inputIn x ⌝ }
+{
+    match x {
+        Decoded::Good(input) => input,
+        Decoded::Bad => Input::Step,
+    }
+}
+
+// The event at i.
+pub fn input_at(s: &[u8], i: usize) -> Input
+    requires { ⌜ i < eventCount (now s) ⌝ }
+    ensures { λ r. ⌜ r ≡ inputAt (now (s .entry)) i ⌝ }
+{
+    input_in(decoded_at(s, i))
+}
