@@ -1,3 +1,6 @@
 pub mod Limits
 pub mod Config
 pub mod Inputs
+pub mod Answers
+pub mod Run
+pub mod Lines

@@ -1,0 +1,69 @@
+-- `run::text::put` meets its contract.
+use native.Mathlib.Omega.{arith}
+use mathlib.Core.Path.{_≡_, refl, _∙_}
+use Prim.Native.Nat.{_+_, _≤_, _-_}
+use lib.ListN.{length, drop, length-set}
+use lib.Seq.{sets}
+use Rattle.run.proofs.LineLaws.{copy-start, copy-turn, copy-end}
+use Rattle.run.proofs.text.put.Statement.{statement}
+use Rattle.run.proofs.text.put.Tie as tie
+
+abbrev Inv-loop : tie.InvT-loop
+Inv-loop out₀ at text n i₀ out i =
+    (i ≤ n) × (length out ≡ length out₀) × (sets out₀ at text ≡ sets out (at + i) (drop i text))
+
+abbrev μ-loop : tie.MeasureT-loop
+μ-loop out₀ at text n i₀ out i = n - i
+
+loop-holds : tie.Need-loop-holds Inv-loop μ-loop
+loop-holds c = (omega arith, refl, copy-start (c .args .out .now) (c .args .text .now) (c .args .at))
+
+shared-slice-read-out : tie.Need-shared-slice-read-out Inv-loop μ-loop
+shared-slice-read-out c = omega arith
+
+add-out : tie.Need-add-out Inv-loop μ-loop
+add-out c = omega arith
+
+slice-write-out : tie.Need-slice-write-out Inv-loop μ-loop
+slice-write-out c = omega arith
+
+add-i : tie.Need-add-i Inv-loop μ-loop
+add-i c = omega arith
+
+loop-less : tie.Need-loop-less Inv-loop μ-loop
+loop-less c = omega arith
+
+loop-again : tie.Need-loop-again Inv-loop μ-loop
+loop-again c =
+    let a = c .before .before .before .args in
+    let step = copy-turn (a .out .now) (a .text .now) (a .at) (c .before .before .loop .out) (c .before .before .loop .i) in
+    (omega arith, simp length-set (c .before .before .loop .inv .1), step (c .before .loop-test .taken) (c .before .before .loop .inv .2))
+
+add-result : tie.Need-add-result Inv-loop μ-loop
+add-result c = omega arith
+
+same-length : tie.Need-same-length Inv-loop μ-loop
+same-length c = c .before .loop .inv .1
+
+returns : tie.Need-returns Inv-loop μ-loop
+returns c =
+    let a = c .before .before .args in
+    let whole = copy-end (a .out .now) (a .text .now) (a .at) (c .before .loop .out) (c .before .loop .i) in
+    record { bytes = whole (c .loop-test .left) (c .before .loop .inv .2); end = refl; fits = omega arith }
+
+pub put-spec : {M : Type 1} → statement M
+put-spec =
+    tie.close
+    (tie.spec
+    Inv-loop
+    μ-loop
+    loop-holds
+    shared-slice-read-out
+    add-out
+    slice-write-out
+    add-i
+    loop-less
+    loop-again
+    add-result
+    same-length
+    returns)
