@@ -4,3 +4,4 @@ pub mod Inputs
 pub mod Answers
 pub mod Run
 pub mod Lines
+pub mod Slices

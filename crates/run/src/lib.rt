@@ -5,6 +5,7 @@ ghost use Rattle.roster.specs.Answers as Roster;
 ghost use Rattle.run.specs.Answers.{numberOf, taskOf, positionOf};
 use roster::Verdict;
 
+mod events;
 mod inputs;
 mod sizes;
 mod text;

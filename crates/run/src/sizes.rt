@@ -14,3 +14,8 @@ pub const SET: u8 = 4;
 pub const PAIR_SIZE: usize = 2;
 
 pub const NOBODY: u8 = 255;
+
+// The engine's head, and its cell for the running task's number + 1 or 0.
+pub const HEAD_WIDTH: usize = 4;
+
+pub const RUNNING_CELL: usize = 1;

@@ -1,0 +1,73 @@
+-- Laws of one event of a run: the slices after an event of the engine, sound again.
+use mathlib.Core.Path.{_≡_, refl, ap, sym, _∙_}
+use mathlib.Core.Bool.{Bool, true, false, cond}
+use mathlib.Core.List.{List}
+use Prim.Native.Nat.{ℕ}
+use Rattle.rules.specs.Model.{Model}
+use Rattle.rules.specs.Moved.{Moved}
+use Rattle.rules.specs.Priorities.{inRange, checkedOf}
+use Rattle.rules.specs.Events.{setBase, apply}
+use Rattle.rules.specs.Sound.{sound}
+use Rattle.rules.specs.declared.Answer.{Answer}
+use Rattle.rules.specs.declared.Answer.the-variants.{Done}
+use Rattle.rules.specs.declared.Event.{Event}
+use Rattle.rules.specs.declared.Event.the-variants.{Set}
+use Rattle.rules.specs.declared.Priority.{Priority}
+use Rattle.rules.specs.declared.Checked.{Checked}
+use Rattle.rules.specs.declared.Checked.the-variants.{Good, OutOfRange}
+use Rattle.rules.proofs.Kept.{delayFits}
+use Rattle.rules.proofs.Soundness.{sound-kept}
+use Rattle.roster.specs.declared.Step.{Step}
+use Rattle.roster.specs.declared.Step.the-variants.{Again}
+use Rattle.roster.proofs.TestLaws.{good-in, bad-out}
+use Rattle.engine.specs.Memory.{modelOf, Valid, Did}
+use Rattle.run.specs.Config.{perform}
+use Rattle.run.specs.Slices.{Moves}
+
+module _ {h ts hd cs qs : List ℕ} {a : Answer} where
+  pub moves-of : (m : Model) (e : Event) → sound m ≡ true → delayFits e ≡ true → Did h ts hd cs qs a (apply m e) → Moves h ts hd cs qs a (apply m e)
+  moves-of m e s f d =
+      record {
+        same = d .same;
+        valid = record { laid = d .laid; sound = ap sound (d .same) ∙ sound-kept m e f s };
+        answer = d .answer;
+      }
+
+  pub moves-as : {r : Moved} (r' : Moved) → r' ≡ r → Moves h ts hd cs qs a r → Moves h ts hd cs qs a r'
+  moves-as r' e m = rw e m
+
+  -- a step x, known to be y, that is the event e
+  pub step-moves : (m : Model) (x y : Step) (e : Event) → x ≡ y → perform m y ≡ apply m e → sound m ≡ true → delayFits e ≡ true →
+      Did h ts hd cs qs a (apply m e) → Moves h ts hd cs qs a (perform m x)
+  step-moves m x y e k same s f d = moves-as (perform m x) (ap (perform m) k ∙ same) (moves-of m e s f d)
+
+-- Again leaves the state
+pub again-moves : {h ts hd cs qs : List ℕ} (x : Step) → x ≡ Again → Valid h ts hd cs qs → Moves h ts hd cs qs Done (perform (modelOf h ts hd cs qs) x)
+unfolding perform
+again-moves {h} {ts} {hd} {cs} {qs} x e v =
+    let k = ap (perform (modelOf h ts hd cs qs)) e in
+    record { same = sym (ap (λ (r : Moved). r .model) k); valid = v; answer = sym (ap (λ (r : Moved). r .answer) k) }
+
+-- what the checked constructor found is the value
+pub checked-is : (n : ℕ) (v : Checked) (p : Priority) → v ≡ checkedOf n → v ≡ Good p → n ≡ p .0
+checked-is n v p e f =
+    let range : inRange n ≡ true = sym (good-in n v p e f) in
+    let g : checkedOf n ≡ Good (record { 0 = n }) = ap (λ (b : Bool). cond b (Good (record { 0 = n })) OutOfRange) range in
+    let same : record { 0 = n } ≡ p = cc in
+    ap (λ (q : Priority). q .0) same
+
+-- a Set of a value that is no priority: every such value gets the same
+pub set-same : (m : Model) (t p q : ℕ) → inRange p ≡ false → inRange q ≡ false → setBase m t p ≡ setBase m t q
+unfolding setBase
+set-same m t p q e f = rw (e, f)
+
+-- a Set from outside: of a priority, and of another value
+module _ {h ts hd cs qs : List ℕ} {a : Answer} (m : Model) (t value : ℕ) (v : Checked) (e : v ≡ checkedOf value) (s : sound m ≡ true) where
+  pub set-moves : (p : Priority) → v ≡ Good p → Did h ts hd cs qs a (setBase m t (p .0)) → Moves h ts hd cs qs a (setBase m t value)
+  unfolding apply delayFits
+  set-moves p f d = moves-as _ (ap (setBase m t) (checked-is value v p e f)) (moves-of m (Set t p) s refl d)
+
+  pub other-moves : (p : Priority) → inRange (p .0) ≡ false → v ≡ OutOfRange → Did h ts hd cs qs a (setBase m t (p .0)) →
+      Moves h ts hd cs qs a (setBase m t value)
+  unfolding apply delayFits
+  other-moves p o f d = moves-as _ (set-same m t value (p .0) (sym (bad-out value v e f)) o) (moves-of m (Set t p) s refl d)

@@ -1,0 +1,134 @@
+-- `run::events::happen` meets its contract.
+use mathlib.Core.Path.{refl}
+use Rattle.rules.specs.Events.{apply}
+use Rattle.rules.specs.declared.Event.the-variants.{Clock, Release, Set}
+use Rattle.rules.proofs.Kept.{delayFits}
+use Rattle.run.specs.Config.{happen}
+use Rattle.run.proofs.CountLaws.{count-kept}
+use Rattle.run.proofs.MoveLaws.{moves-of}
+use Rattle.run.proofs.StepLaws.{outside-happened, happened-as}
+use borrow.Author.Needs.{needs}
+use Rattle.run.proofs.events.happen.Statement.{statement}
+use Rattle.run.proofs.events.happen.Tie as tie
+
+enum-known-x : tie.Need-enum-known-x
+enum-known-x c = search needs
+
+clock-requires : tie.Need-clock-requires
+clock-requires c κs = search needs
+
+enum-known-x-2 : tie.Need-enum-known-x-2
+enum-known-x-2 c = search needs
+
+cast-release : tie.Need-cast-release
+cast-release c = search needs
+
+release-requires : tie.Need-release-requires
+release-requires c κs = search needs
+
+enum-told : tie.Need-enum-told
+enum-told c = search needs
+
+step-requires : tie.Need-step-requires
+step-requires c κs = search needs
+
+enum-known-x-3 : tie.Need-enum-known-x-3
+enum-known-x-3 c = search needs
+
+set-from-requires : tie.Need-set-from-requires
+set-from-requires c κs = search needs
+
+same-length : tie.Need-same-length
+same-length c = search needs
+
+same-length-2 : tie.Need-same-length-2
+same-length-2 c = search needs
+
+same-length-3 : tie.Need-same-length-3
+same-length-3 c = search needs
+
+returns : tie.Need-returns
+unfolding happen apply delayFits
+returns c =
+    let g = c .before .before .before .before .before .before .before .before .before .before .before .before .before .before .before .before .before .before .pre in
+    happened-as g _ _ (c .before .before .before .before .before .before .before .before .before .before .x .given .1)
+    (outside-happened g (count-kept _ (Clock _)) (moves-of _ (Clock _) (g .valid .sound) refl (c .before .before .before .before .clock .ensures)))
+
+same-length-4 : tie.Need-same-length-4
+same-length-4 c = search needs
+
+same-length-5 : tie.Need-same-length-5
+same-length-5 c = search needs
+
+same-length-6 : tie.Need-same-length-6
+same-length-6 c = search needs
+
+returns-2 : tie.Need-returns-2
+unfolding happen apply delayFits
+returns-2 c =
+    let g = c .before .before .before .before .before .before .before .before .before .before .before .before .before .before .before .before .before .before .pre in
+    happened-as g _ _ (c .before .before .before .before .before .before .before .before .before .before .x2 .given .1)
+    (outside-happened g (count-kept _ (Release _)) (moves-of _ (Release _) (g .valid .sound) refl (c .before .before .before .before .release .ensures)))
+
+same-length-7 : tie.Need-same-length-7
+same-length-7 c = search needs
+
+same-length-8 : tie.Need-same-length-8
+same-length-8 c = search needs
+
+same-length-9 : tie.Need-same-length-9
+same-length-9 c = search needs
+
+same-length-10 : tie.Need-same-length-10
+same-length-10 c = search needs
+
+returns-3 : tie.Need-returns-3
+returns-3 c =
+    happened-as (c .before .before .before .before .before .before .before .before .before .before .before .before .before .before .before .before .before .before .before .before .before .before .pre) _ _ (c .before .before .before .before .before .before .before .before .before .before .before .before .before .before .enum-told .given .1) (c .before .before .before .before .before .before .before .before .step .ensures)
+
+same-length-11 : tie.Need-same-length-11
+same-length-11 c = search needs
+
+same-length-12 : tie.Need-same-length-12
+same-length-12 c = search needs
+
+same-length-13 : tie.Need-same-length-13
+same-length-13 c = search needs
+
+returns-4 : tie.Need-returns-4
+unfolding happen apply delayFits
+returns-4 c =
+    let g = c .before .before .before .before .before .before .before .before .before .before .before .before .before .before .before .before .before .before .pre in
+    let value = c .before .before .before .before .before .before .before .before .before .before .x3 .given .0 .1 .0 in
+    happened-as g _ _ (c .before .before .before .before .before .before .before .before .before .before .x3 .given .1) (outside-happened g (count-kept _ (Set _ (record { 0 = value }))) (c .before .before .before .before .set-from .ensures))
+
+pub happen-spec : {M : Type 1} → statement M
+happen-spec =
+    tie.close
+    (tie.spec
+    enum-known-x
+    clock-requires
+    enum-known-x-2
+    cast-release
+    release-requires
+    enum-told
+    step-requires
+    enum-known-x-3
+    set-from-requires
+    same-length
+    same-length-2
+    same-length-3
+    returns
+    same-length-4
+    same-length-5
+    same-length-6
+    returns-2
+    same-length-7
+    same-length-8
+    same-length-9
+    same-length-10
+    returns-3
+    same-length-11
+    same-length-12
+    same-length-13
+    returns-4)

@@ -1,0 +1,126 @@
+-- `run::events::step` meets its contract.
+use Prim.Native.Nat.{_-_, _<_}
+use lib.ListN.{getD}
+use Rattle.engine.specs.Memory.{runningCell}
+use native.Mathlib.Omega.{arith}
+use mathlib.Core.Path.{refl}
+use Rattle.roster.proofs.FormedLaws.{tasks-few}
+use Rattle.run.proofs.StepLaws.{position-fits, idle-happened, runner-listed, runner-placed, script-here}
+use Rattle.run.proofs.StepLaws.{step-refused, step-accepted}
+use borrow.Author.Needs.{needs}
+use Rattle.run.proofs.events.step.Statement.{statement}
+use Rattle.run.proofs.events.step.Tie as tie
+
+element-copy-out-running : tie.Need-element-copy-out-running
+element-copy-out-running c = search needs
+
+returns : tie.Need-returns
+returns c =
+    idle-happened (c .before .before .before .before .before .before .before .before .pre) (c .if1 .taken)
+
+sub-t : tie.Need-sub-t
+sub-t c = search needs
+
+cast-script-part : tie.Need-cast-script-part
+cast-script-part c =
+    omega (arith, runner-listed (c .before .before .before .before .before .before .before .before .pre) _ (c .if1 .left) refl, tasks-few (c .before .before .before .before .before .before .before .before .args .roster .now) (c .before .before .before .before .before .before .before .before .pre .form))
+
+script-part-requires : tie.Need-script-part-requires
+script-part-requires c κs =
+    script-here (c .before .before .before .before .before .before .before .before .pre) _ (c .if1 .left) refl
+
+mul-k : tie.Need-mul-k
+mul-k c =
+    omega (arith, runner-placed (c .before .before .before .before .before .before .before .before .before .pre) _ (c .before .if1 .left) refl)
+
+slice-read-k : tie.Need-slice-read-k
+slice-read-k c =
+    runner-placed (c .before .before .before .before .before .before .before .before .before .before .pre) _ (c .before .before .if1 .left) refl
+
+cast-step-at : tie.Need-cast-step-at
+cast-step-at c =
+    let t = getD (c .before .before .before .before .before .before .before .before .before .before .args .head .now) runningCell 0 - 1 in
+    omega (arith, c .slice-known5 .given t)
+
+step-at-requires : tie.Need-step-at-requires
+step-at-requires c κs = search needs
+
+perform-requires : tie.Need-perform-requires
+perform-requires c κs = search needs
+
+number-requires : tie.Need-number-requires
+number-requires c κs = search needs
+
+same-length : tie.Need-same-length
+same-length c = search needs
+
+same-length-2 : tie.Need-same-length-2
+same-length-2 c = search needs
+
+same-length-3 : tie.Need-same-length-3
+same-length-3 c = search needs
+
+returns-2 : tie.Need-returns-2
+returns-2 c =
+    step-refused (c .before .before .before .before .before .before .before .before .before .before .before .before .before .before .before .before .before .before .before .before .before .before .before .before .pre) _ (c .before .before .before .before .before .before .before .before .before .before .before .before .before .before .before .before .if1 .left) refl (c .before .before .before .before .before .before .before .before .before .before .before .before .before .before .before .script-part .ensures) refl (c .before .before .before .before .before .before .before .before .before .before .before .before .before .step-at .ensures) _ (c .before .number .ensures)
+    (c .if2 .taken) (c .before .before .before .before .before .before .before .before .perform .ensures)
+
+position-after-requires : tie.Need-position-after-requires
+position-after-requires c κs =
+    let a = c .before .before .before .before .before .before .before .before .before .before .before .before .before .before .before .before .before .before .before .before .before .before .before .before .args in
+    let t = getD (a .head .now) runningCell 0 - 1 in
+    let small : getD (a .positions .now) t 0 < 65536 = omega (arith, c .before .before .before .before .before .before .before .before .before .before .before .before .before .before .slice-known5 .given t) in
+    position-fits (a .roster .now) _ t _ _ (c .before .before .before .before .before .before .before .before .before .before .before .before .before .before .before .before .before .before .before .before .before .before .before .before .pre .form) (c .before .before .before .before .before .before .before .before .before .before .before .before .before .before .before .script-part .ensures) small (c .before .before .before .before .before .before .before .before .before .before .before .before .before .step-at .ensures)
+
+mul-positions : tie.Need-mul-positions
+mul-positions c =
+    omega (arith, runner-placed (c .before .before .before .before .before .before .before .before .before .before .before .before .before .before .before .before .before .before .before .before .before .before .before .before .before .pre) _ (c .before .before .before .before .before .before .before .before .before .before .before .before .before .before .before .before .before .if1 .left) refl)
+
+slice-write-positions : tie.Need-slice-write-positions
+slice-write-positions c =
+    runner-placed (c .before .before .before .before .before .before .before .before .before .before .before .before .before .before .before .before .before .before .before .before .before .before .before .before .before .pre) _ (c .before .before .before .before .before .before .before .before .before .before .before .before .before .before .before .before .before .if1 .left) refl
+
+same-length-4 : tie.Need-same-length-4
+same-length-4 c = search needs
+
+same-length-5 : tie.Need-same-length-5
+same-length-5 c = search needs
+
+same-length-6 : tie.Need-same-length-6
+same-length-6 c = search needs
+
+same-length-7 : tie.Need-same-length-7
+same-length-7 c = search needs
+
+returns-3 : tie.Need-returns-3
+returns-3 c =
+    step-accepted (c .before .before .before .before .before .before .before .before .before .before .before .before .before .before .before .before .before .before .before .before .before .before .before .before .before .pre) _ (c .before .before .before .before .before .before .before .before .before .before .before .before .before .before .before .before .before .if1 .left) refl (c .before .before .before .before .before .before .before .before .before .before .before .before .before .before .before .before .script-part .ensures) refl (c .before .before .before .before .before .before .before .before .before .before .before .before .before .before .step-at .ensures) _ _ (c .before .before .number .ensures)
+    (c .before .if2 .left) (c .position-after .ensures) (c .before .before .before .before .before .before .before .before .before .perform .ensures)
+
+pub step-spec : {M : Type 1} → statement M
+step-spec =
+    tie.close
+    (tie.spec
+    element-copy-out-running
+    returns
+    sub-t
+    cast-script-part
+    script-part-requires
+    mul-k
+    slice-read-k
+    cast-step-at
+    step-at-requires
+    perform-requires
+    number-requires
+    same-length
+    same-length-2
+    same-length-3
+    returns-2
+    position-after-requires
+    mul-positions
+    slice-write-positions
+    same-length-4
+    same-length-5
+    same-length-6
+    same-length-7
+    returns-3)

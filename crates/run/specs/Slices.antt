@@ -1,0 +1,36 @@
+-- What the slices of a run mean together: a configuration of the roster s. The engine's five, and the script positions.
+use mathlib.Core.Path.{_≡_}
+use mathlib.Core.List.{List}
+use Prim.Native.Nat.{ℕ}
+use lib.ListN.{length, take}
+use Rattle.rules.specs.Limits.{taskLimit}
+use Rattle.rules.specs.Moved.{Moved}
+use Rattle.rules.specs.declared.Answer.{Answer}
+use Rattle.roster.specs.Format.{taskCount}
+use Rattle.roster.specs.Form.{formOf}
+use Rattle.roster.specs.declared.Verdict.the-variants.{Passed}
+use Rattle.engine.specs.Memory.{modelOf, Valid}
+use Rattle.run.specs.Config.{Config, Outcome}
+
+-- behind the last task's position there may be anything
+abbrev pub configOf : List ℕ → List ℕ → List ℕ → List ℕ → List ℕ → List ℕ → List ℕ → Config
+configOf s h ts hd cs qs ps = record { model = modelOf h ts hd cs qs; positions = take (taskCount s) ps }
+
+-- a run of a roster of good form, between two events
+pub record Going (s h ts hd cs qs ps : List ℕ) : Type 0 where
+  pub form : formOf s ≡ Passed
+  pub valid : Valid h ts hd cs qs
+  pub count : length (modelOf h ts hd cs qs .tasks) ≡ taskCount s
+  pub places : length ps ≡ taskLimit
+
+-- the engine's slices after what r says, sound again
+pub record Moves (h ts hd cs qs : List ℕ) (a : Answer) (r : Moved) : Type 0 where
+  pub same : modelOf h ts hd cs qs ≡ r .model
+  pub valid : Valid h ts hd cs qs
+  pub answer : a ≡ r .answer
+
+-- all slices after an event whose outcome is o
+pub record Happened (s h ts hd cs qs ps : List ℕ) (a : Answer) (o : Outcome) : Type 0 where
+  pub same : configOf s h ts hd cs qs ps ≡ o .config
+  pub going : Going s h ts hd cs qs ps
+  pub answer : a ≡ o .answer
