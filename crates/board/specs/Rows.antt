@@ -1,0 +1,47 @@
+-- The rows of a board, and what it answers when it is asked: document 01's number and values for each case.
+use mathlib.Core.Bool.{Bool, true, false}
+use mathlib.Core.List.{List}
+use Prim.Native.Nat.{ℕ}
+use lib.ListN.{getD}
+use Rattle.rules.specs.Limits.{taskLimit, firstPriority}
+use Rattle.rules.specs.Answers.{numberOf}
+use Rattle.rules.specs.declared.Answer.{Answer}
+use Rattle.board.specs.declared.PlaceKind.{PlaceKind}
+use Rattle.board.specs.declared.PlaceKind.the-variants.{Running, Ready, Delayed, Suspended, Ended}
+use Rattle.board.specs.declared.Row.{Row}
+use Rattle.board.specs.declared.NextAnswer.{NextAnswer}
+
+-- "More than 32 rows is 13": there is one row per task
+abbrev pub rowLimit : ℕ
+rowLimit = taskLimit
+
+-- "one of the five above"
+abbrev pub readyKind : PlaceKind → Bool
+readyKind Running = false
+readyKind Ready = true
+readyKind Delayed = false
+readyKind Suspended = false
+readyKind Ended = false
+
+-- what a row past the last reads as
+abbrev pub noRow : Row
+noRow = record { kind = Ended; priority = record { 0 = firstPriority }; position = 0 }
+
+abbrev pub rowAt : List Row → ℕ → Row
+rowAt rows i = getD rows i noRow
+
+-- "its next": a row, "or nobody"
+pub data Named : Type 0 where
+  nobody : Named
+  row : ℕ → Named
+
+pub record Told : Type 0 where
+  pub number : ℕ
+  pub next : Named
+
+-- the number and the row that each answer stands for; every promise about the next row goes through this
+abbrev pub toldOf : NextAnswer → Told
+toldOf (NextAnswer.Row i) = record { number = numberOf Answer.Done; next = row i }
+toldOf NextAnswer.Nobody = record { number = numberOf Answer.Done; next = nobody }
+toldOf NextAnswer.TooManyRows = record { number = numberOf Answer.BadCounts; next = nobody }
+toldOf NextAnswer.BadPriority = record { number = numberOf Answer.BadPriority; next = nobody }
