@@ -1,3 +1,4 @@
 pub mod ScanLaws
+pub mod NextLaws
 pub mod Shapes
 pub mod Thin
