@@ -1,10 +1,12 @@
 -- Laws of the scan's steps: which case of each definition holds, by the tests that led there.
 use mathlib.Core.Path.{_≡_, refl, ap, _∙_}
 use mathlib.Core.Bool.{Bool, true, false, cond, not, _||_}
+use mathlib.Core.List.{List}
 use Prim.Native.Nat.{ℕ, _≤_, _<_}
 use native.Mathlib.Omega.{arith}
 use borrow.Author.Tests.{eq-eqb, ne-eqb, lt-ltb, le-ltb}
 use lib.Dec.{eqb, ltb}
+use lib.ListN.{take}
 use Rattle.rules.specs.Priorities.{inRange, checkedOf}
 use Rattle.rules.specs.declared.Checked.{Checked}
 use Rattle.rules.specs.declared.Checked.the-variants.{Good, OutOfRange}
@@ -14,8 +16,8 @@ use Rattle.rules.proofs.PriorityLaws.{checked-good, checked-bad}
 use Rattle.board.specs.declared.Row.{Row}
 use Rattle.board.specs.declared.Best.{Best}
 use Rattle.board.specs.declared.NextAnswer.{NextAnswer}
-use Rattle.board.specs.Rows.{rowLimit, readyKind}
-use Rattle.board.specs.Scan.{aheadOf, betterOf, lookedOf, finishOf}
+use Rattle.board.specs.Rows.{rowLimit, readyKind, toldOf}
+use Rattle.board.specs.Scan.{aheadOf, betterOf, lookedOf, finishOf, nextOf, nextFirstOf}
 
 -- a later row against the best so far: not ready; against nobody; of the same priority; of another
 module _ (a b : Row) where
@@ -85,6 +87,13 @@ module _ (n : ℕ) (b : Best) where
 
     pub finish-nobody : b .bad ≡ false → readyKind (b .row .kind) ≡ false → finishOf n b ≡ NextAnswer.Nobody
     finish-nobody e f = finish-good e ∙ cond-false (readyKind (b .row .kind)) (NextAnswer.Row (b .number)) NextAnswer.Nobody f
+
+-- the first rows of an array
+pub first-many : (rows : List Row) (count : ℕ) → rowLimit < count → nextFirstOf rows count ≡ toldOf NextAnswer.TooManyRows
+first-many rows count h = cond-true (ltb rowLimit count) (toldOf NextAnswer.TooManyRows) _ (lt-ltb rowLimit count h)
+
+pub first-few : (rows : List Row) (count : ℕ) → count ≤ rowLimit → nextFirstOf rows count ≡ nextOf (take count rows)
+first-few rows count h = cond-false (ltb rowLimit count) (toldOf NextAnswer.TooManyRows) _ (le-ltb rowLimit count h)
 
 -- what the checked constructor says of the range
 pub checked-in : (n : ℕ) (p : Priority) → checkedOf n ≡ Good p → inRange n ≡ true

@@ -3,7 +3,7 @@ use mathlib.Core.Bool.{Bool, true, false, cond, not, _||_}
 use mathlib.Core.List.{List}
 use Prim.Native.Nat.{ℕ, zero, suc}
 use lib.Dec.{eqb, ltb}
-use lib.ListN.{length}
+use lib.ListN.{length, take}
 use Rattle.rules.specs.Priorities.{inRange}
 use Rattle.board.specs.declared.Row.{Row}
 use Rattle.board.specs.declared.Best.{Best}
@@ -50,3 +50,7 @@ scanOf rows = finishOf (length rows) (bestOf rows (lookedOf (length rows)))
 -- what a board is promised to answer
 abbrev pub nextOf : List Row → Told
 nextOf rows = toldOf (scanOf rows)
+
+-- the same of the first rows of an array; more of them than it may have is 13 too
+abbrev pub nextFirstOf : List Row → ℕ → Told
+nextFirstOf rows count = cond (ltb rowLimit count) (toldOf NextAnswer.TooManyRows) (nextOf (take count rows))

@@ -1,10 +1,12 @@
 // The lent board: rows of task records that a host lends, filled from a state and asked for the next row.
-// A slice of records is proved by hand: `next`. All the rest is covered.
+// A slice of records is proved by hand: `next`, and `next_within`, which lends one. All the rest is covered.
 ghost use mathlib.Core.Path.{_≡_};
 ghost use mathlib.Core.Bool.{not, _||_};
+ghost use Prim.Native.Nat.{_≤_};
+ghost use lib.ListN.{take};
 ghost use Rattle.rules.specs.Priorities.{inRange};
-ghost use Rattle.board.specs.Rows.{toldOf, readyKind};
-ghost use Rattle.board.specs.Scan.{aheadOf, bestNone, betterOf, lookedOf, finishOf, nextOf};
+ghost use Rattle.board.specs.Rows.{rowLimit, toldOf, readyKind};
+ghost use Rattle.board.specs.Scan.{aheadOf, bestNone, betterOf, lookedOf, finishOf, nextOf, nextFirstOf};
 use rules::Checked;
 use rules::Priority;
 
@@ -165,4 +167,22 @@ pub fn next(rows: &[Row]) -> NextAnswer
         i = i + 1;
     }
     finish(n, best)
+}
+
+// Lends the first rows to `next`.
+fn next_within(rows: [Row; ROW_LIMIT], count: usize) -> NextAnswer
+    requires { ⌜ count ≤ rowLimit ⌝ }
+    ensures { λ r. ⌜ toldOf r ≡ nextOf (take count rows) ⌝ }
+{
+    next(&rows[..count])
+}
+
+// `next` of the first `count` rows, for callers that hold the rows by value.
+pub fn next_first(rows: [Row; ROW_LIMIT], count: usize) -> NextAnswer
+    ensures { λ r. ⌜ toldOf r ≡ nextFirstOf rows count ⌝ }
+{
+    if ROW_LIMIT < count {
+        return NextAnswer::TooManyRows;
+    }
+    next_within(rows, count)
 }
