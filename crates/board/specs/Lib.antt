@@ -1,3 +1,4 @@
 pub mod Rows
 pub mod Next
 pub mod Scan
+pub mod Fill

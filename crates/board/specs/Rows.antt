@@ -1,4 +1,4 @@
--- The rows of a board, and what it answers when it is asked: document 01's number and values for each case.
+-- The rows of a board, and what it answers when it is asked or filled: document 01's number and values for each case.
 use mathlib.Core.Bool.{Bool, true, false}
 use mathlib.Core.List.{List}
 use Prim.Native.Nat.{ℕ}
@@ -10,6 +10,7 @@ use Rattle.board.specs.declared.PlaceKind.{PlaceKind}
 use Rattle.board.specs.declared.PlaceKind.the-variants.{Running, Ready, Delayed, Suspended, Ended}
 use Rattle.board.specs.declared.Row.{Row}
 use Rattle.board.specs.declared.NextAnswer.{NextAnswer}
+use Rattle.board.specs.declared.FillAnswer.{FillAnswer}
 
 -- "More than 32 rows is 13": there is one row per task
 abbrev pub rowLimit : ℕ
@@ -45,3 +46,16 @@ toldOf (NextAnswer.Row i) = record { number = numberOf Answer.Done; next = row i
 toldOf NextAnswer.Nobody = record { number = numberOf Answer.Done; next = nobody }
 toldOf NextAnswer.TooManyRows = record { number = numberOf Answer.BadCounts; next = nobody }
 toldOf NextAnswer.BadPriority = record { number = numberOf Answer.BadPriority; next = nobody }
+
+-- the number of each answer, and the board after it; every promise about filling goes through this
+abbrev pub fillNumber : FillAnswer → ℕ
+fillNumber FillAnswer.Done = numberOf Answer.Done
+fillNumber FillAnswer.Unsound = numberOf Answer.Unsound
+fillNumber FillAnswer.TooFewRows = numberOf Answer.BadCounts
+
+pub record Filling : Type 0 where
+  pub number : ℕ
+  pub board : List Row
+
+abbrev pub fillingOf : FillAnswer → List Row → Filling
+fillingOf a rows = record { number = fillNumber a; board = rows }

@@ -37,6 +37,13 @@ pub enum NextAnswer {
     BadPriority,
 }
 
+// What filling a board answers; fillNumber in specs/ has the number of each.
+pub enum FillAnswer {
+    Done,
+    Unsound,
+    TooFewRows,
+}
+
 // The best of the rows seen so far, with its number; a row that is not ready stands for nobody. `bad` says that a
 // priority was out of range.
 pub struct Best {
