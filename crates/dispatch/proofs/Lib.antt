@@ -6,3 +6,4 @@ pub mod Known
 pub mod TestLaws
 pub mod ApplyLaws
 pub mod ReaderLaws
+pub mod FreshLaws

@@ -52,6 +52,10 @@ workOf s = appliedOf s Work
 abbrev pub finishOf : State → Stepped
 finishOf s = appliedOf s Finish
 
+-- what is given back with an answer and a Model
+abbrev pub beside : Moved → Stepped
+beside r = record { answer = r .answer; state = encode (r .model) }
+
 -- "A fresh start is refused with 13 .., else with 15 ..; the state beside that answer is the fresh one of a single task"
 unfoldable pub freshOf : List ℕ → List ℕ → Stepped
-freshOf bases ceilings = record { answer = fresh bases ceilings .answer; state = encode (fresh bases ceilings .model) }
+freshOf bases ceilings = beside (fresh bases ceilings)

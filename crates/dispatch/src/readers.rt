@@ -4,7 +4,6 @@ ghost use mathlib.Core.List.{map};
 ghost use Prim.Native.Nat.{_+_, _*_, _≤_, _<_, max};
 ghost use lib.Dec.{ltb};
 ghost use lib.ListN.{length, take};
-ghost use Rattle.rules.specs.Priorities.{inRange};
 ghost use Rattle.rules.specs.Model.{ceilingOf, highestOf};
 ghost use Rattle.engine.specs.Rows.{heldWidth};
 ghost use Rattle.engine.specs.Tasks.{blankTask};
@@ -16,6 +15,7 @@ use crate::sizes::HELD_WIDTH;
 use crate::sizes::OBJECT_LIMIT;
 use crate::sizes::QUEUE_WIDTH;
 use crate::sizes::TASK_LIMIT;
+use crate::test::in_range;
 use rules::Place;
 use rules::Priority;
 use rules::Runner;
@@ -44,18 +44,6 @@ fn list_entry(cells: &[u8], width: usize, row: usize, i: u64) -> Listed
         return Listed::Number(cells[row * width + (j + 1)]);
     }
     Listed::Nothing
-}
-
-// Whether a priority is in range: it has a queue.
-fn has_queue(p: Priority) -> bool
-    ensures { λ r. ⌜ r ≡ inRange (p .0) ⌝ }
-{
-    let first = Priority::FIRST;
-    let last = Priority::LAST;
-    if p.0 < first.0 {
-        return false;
-    }
-    p.0 <= last.0
 }
 
 // The higher of p and the ceiling of the object o, of which there are n.
@@ -112,7 +100,7 @@ impl State {
     pub fn queue_length(self, p: Priority) -> usize
         ensures { λ r. ⌜ r ≡ length (queueOf self p) ⌝ }
     {
-        if has_queue(p) {
+        if in_range(p) {
             let queues = self.queues;
             return list_length(&queues, QUEUE_WIDTH, p.0 as usize - 1);
         }
@@ -122,7 +110,7 @@ impl State {
     pub fn queue_entry(self, p: Priority, i: u64) -> Listed
         ensures { λ r. ⌜ r ≡ entryOf (queueOf self p) i ⌝ }
     {
-        if has_queue(p) {
+        if in_range(p) {
             let queues = self.queues;
             return list_entry(&queues, QUEUE_WIDTH, p.0 as usize - 1, i);
         }

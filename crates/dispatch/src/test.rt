@@ -1,7 +1,9 @@
-// Whether the counts of a state and the lengths in its rows are in range: what is asked before it is loaded.
+// Tests: whether priorities are in range, and the counts of a state and the lengths in its rows, before it is loaded.
 ghost use mathlib.Core.Path.{_≡_};
 ghost use Prim.Native.Nat.{_*_, _≤_, _<_};
 ghost use lib.ListN.{length};
+ghost use Rattle.rules.specs.Priorities.{inRange};
+ghost use Rattle.rules.specs.Fresh.{allOf};
 ghost use Rattle.dispatch.specs.Sound.{lengthsGood, sizesFit};
 use crate::State;
 use crate::sizes::HELD_WIDTH;
@@ -9,6 +11,7 @@ use crate::sizes::OBJECT_LIMIT;
 use crate::sizes::PRIORITIES;
 use crate::sizes::QUEUE_WIDTH;
 use crate::sizes::TASK_LIMIT;
+use rules::Priority;
 
 // The lengths in the first n rows leave room for themselves.
 fn lengths_good(cells: &[u8], width: usize, n: usize) -> bool
@@ -20,6 +23,33 @@ fn lengths_good(cells: &[u8], width: usize, n: usize) -> bool
     while 0 < i {
         i -= 1;
         if width <= cells[i * width] as usize {
+            return false;
+        }
+    }
+    true
+}
+
+// A priority is in range.
+pub fn in_range(p: Priority) -> bool
+    ensures { λ r. ⌜ r ≡ inRange (p .0) ⌝ }
+{
+    let first = Priority::FIRST;
+    let last = Priority::LAST;
+    if p.0 < first.0 {
+        return false;
+    }
+    p.0 <= last.0
+}
+
+// All numbers of a list are priorities in range.
+pub fn all_in_range(values: &[u8]) -> bool
+    ensures { λ r. ⌜ r ≡ allOf inRange (now (values .entry)) ⌝ }
+{
+    let mut i: usize = 0;
+    while i < values.len() {
+        if in_range(Priority(values[i])) {
+            i += 1;
+        } else {
             return false;
         }
     }

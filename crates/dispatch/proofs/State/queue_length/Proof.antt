@@ -11,8 +11,8 @@ use Rattle.dispatch.proofs.ReaderLaws.{queue-is, queue-none}
 use Rattle.dispatch.proofs.State.queue_length.Statement.{statement}
 use Rattle.dispatch.proofs.State.queue_length.Tie as tie
 
-has-queue-requires : tie.Need-has-queue-requires
-has-queue-requires c κs = search needs
+in-range-requires : tie.Need-in-range-requires
+in-range-requires c κs = search needs
 
 slice-aggregate-list-length : tie.Need-slice-aggregate-list-length
 slice-aggregate-list-length c = search needs
@@ -23,33 +23,33 @@ cast-list-length c = search needs
 sub-list-length : tie.Need-sub-list-length
 sub-list-length c =
     let p = c .before .before .before .before .before .args .p in
-    let bounds = in-bounds (p .0) (sym (c .before .before .before .before .has-queue .ensures) ∙ c .before .before .before .if1 .taken) in
+    let bounds = in-bounds (p .0) (sym (c .before .before .before .before .in-range .ensures) ∙ c .before .before .before .if1 .taken) in
     omega (arith, bounds .0)
 
 list-length-requires : tie.Need-list-length-requires
 list-length-requires c κs =
     let a = c .before .before .before .before .before in
-    let bounds = in-bounds (a .args .p .0) (sym (c .before .before .before .before .has-queue .ensures) ∙ c .before .before .before .if1 .taken) in
+    let bounds = in-bounds (a .args .p .0) (sym (c .before .before .before .before .in-range .ensures) ∙ c .before .before .before .if1 .taken) in
     let shape = known (a .args .self) _ (a .good .0) in
     (omega arith, omega (arith, shape .queues, bounds .0, bounds .1))
 
 returns : tie.Need-returns
 returns c =
     let a = c .before .before .before .before .before .before in
-    let same = queue-is (a .args .self) (a .args .p) (sym (c .before .before .before .before .before .has-queue .ensures) ∙ c .before .before .before .before .if1 .taken) in
+    let same = queue-is (a .args .self) (a .args .p) (sym (c .before .before .before .before .before .in-range .ensures) ∙ c .before .before .before .before .if1 .taken) in
     c .list-length .ensures ∙ ap length same
 
 returns-2 : tie.Need-returns-2
 returns-2 c =
     let a = c .before .before in
-    let none = queue-none (a .args .self) (a .args .p) (sym (c .before .has-queue .ensures) ∙ c .if1 .left) in
+    let none = queue-none (a .args .self) (a .args .p) (sym (c .before .in-range .ensures) ∙ c .if1 .left) in
     ap length none
 
 pub queue-length-spec : {M : Type 1} → statement M
 queue-length-spec =
     tie.close
     (tie.spec
-    has-queue-requires
+    in-range-requires
     slice-aggregate-list-length
     cast-list-length
     sub-list-length
