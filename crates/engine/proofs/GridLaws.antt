@@ -206,6 +206,9 @@ module _ {l : List ℕ} {p : ℕ} (q : HasQueue p) (g : Queues l) where
   pub queue-head : getD l ((p - 1) * queueWidth + 1) 0 ≡ getD (queueIn l p) 0 0
   queue-head = head-at queueWidth lastPriority (p - 1) l g (omega arith) (omega arith)
 
+  pub queue-item : (j : ℕ) → j < length (queueIn l p) → getD l ((p - 1) * queueWidth + (j + 1)) 0 ≡ getD (queueIn l p) j 0
+  queue-item = item-at queueWidth lastPriority (p - 1) l g (omega arith)
+
   pub queue-tidy : Tidy (queuePart l p)
   queue-tidy = part-tidy queueWidth lastPriority (p - 1) l g (omega arith)
 
@@ -215,10 +218,12 @@ module _ {l : List ℕ} {p : ℕ} (q : HasQueue p) (g : Queues l) where
   pub queue-open : length (queueIn l p) < taskLimit → Open (queuePart l p)
   queue-open s = part-open queueWidth lastPriority (p - 1) l g (omega arith) (omega arith) (omega arith)
 
+  pub queue-length : length (queueIn l p) ≤ taskLimit
+  queue-length = omega (arith, list-room queueWidth lastPriority (p - 1) l g (omega arith))
+
   pub queue-cut : (i : ℕ) → length (cutAt i (queueIn l p)) ≤ taskLimit
   queue-cut i =
-      let room = list-room queueWidth lastPriority (p - 1) l g (omega arith) in
-      omega (arith, cut-length i (queueIn l p))
+      omega (arith, cut-length i (queueIn l p), queue-length)
 
   pub queue-became : (r : List ℕ) (f : List ℕ → List ℕ) → r ≡ rowFor (length (queuePart l p)) (f (inRow (queuePart l p))) →
       length (f (queueIn l p)) ≤ taskLimit → QueueBecame l (withPart queueWidth (p - 1) l r) p (f (queueIn l p))

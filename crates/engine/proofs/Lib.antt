@@ -9,3 +9,5 @@ pub mod EventLaws
 pub mod EffectLaws
 pub mod ValidLaws
 pub mod FreshLaws
+pub mod TestLaws
+pub mod ClauseLaws

@@ -135,3 +135,35 @@ found x (y ∷ l) = go (eqb y x) (found x l)
         ltb (cond b 0 (suc (placeIn x l))) (suc (length l)) ≡ ltb 0 (cond b (suc (timesIn x l)) (timesIn x l))
     go true e = lt-ltb 0 (suc (length l)) (omega arith) ∙ sym (lt-ltb 0 (suc (timesIn x l)) (omega arith))
     go false e = leb·suc-suc (suc (placeIn x l)) (length l) ∙ e
+
+-- a count of x from the front: n of them stand before i
+module _ (x n i : ℕ) (l : List ℕ) (e : n + timesIn x (drop i l) ≡ timesIn x l) where
+  pub count-hit : i < length l → getD l i 0 ≡ x → (n + 1) + timesIn x (drop (i + 1) l) ≡ timesIn x l
+  unfolding timesIn
+  count-hit h f =
+      let step : timesIn x (drop i l) ≡ suc (timesIn x (drop (suc i) l)) =
+      rw (drop-cons l i 0 h, eq-eqb (getD l i 0) x f) in
+      rw (add-one i) (omega (arith, e, step))
+
+  pub count-miss : i < length l → (getD l i 0 ≡ x → ⊥) → n + timesIn x (drop (i + 1) l) ≡ timesIn x l
+  unfolding timesIn
+  count-miss h f =
+      let step : timesIn x (drop i l) ≡ timesIn x (drop (suc i) l) =
+      rw (drop-cons l i 0 h, ne-eqb (getD l i 0) x f) in
+      rw add-one (omega (arith, e, step))
+
+  pub count-end : length l ≤ i → n ≡ timesIn x l
+  unfolding timesIn
+  count-end h =
+      let none : timesIn x (drop i l) ≡ 0 = rw (drop-of-length-le l {i = i} h) in
+      omega (arith, e, none)
+
+-- x occurs no more often than there are elements
+pub times-length : (x : ℕ) (l : List ℕ) → timesIn x l ≤ length l
+unfolding timesIn
+times-length x [] = omega arith
+times-length x (y ∷ l) = go (eqb y x) (times-length x l)
+  where
+    go : (b : Bool) → timesIn x l ≤ length l → cond b (suc (timesIn x l)) (timesIn x l) ≤ suc (length l)
+    go true h = omega arith
+    go false h = omega arith

@@ -1,11 +1,14 @@
 // What the tasks hold: a row for each task, the outermost object first.
 ghost use mathlib.Core.Path.{_≡_};
+ghost use mathlib.Core.Bool.{not};
 ghost use mathlib.Core.List.{[], _∷_, _++_};
 ghost use Prim.Native.Nat.{_-_, _<_};
-ghost use lib.Dec.{ltb};
+ghost use lib.Dec.{leb, ltb};
 ghost use lib.ListN.{length, take, getD};
 ghost use Rattle.rules.specs.Limits.{taskLimit, objectLimit};
+ghost use Rattle.rules.specs.Fresh.{allOf};
 ghost use Rattle.rules.specs.Events.{timesIn};
+ghost use Rattle.rules.specs.Sound.{distinct};
 ghost use Rattle.engine.specs.Rows.{heldBy, Held, HeldBecame};
 use crate::rows;
 use crate::sizes::HELD_WIDTH;
@@ -63,4 +66,24 @@ pub fn holds(held: &[u8], t: usize, o: u8) -> bool
     let b = t * HELD_WIDTH;
     let d = held[b] as usize;
     rows::find(&held[b..b + HELD_WIDTH], o) < d
+}
+
+// Whether all numbers that t holds are below n.
+pub fn all_below(held: &[u8], t: usize, n: usize) -> bool
+    requires { ⌜ t < taskLimit ⌝ }
+    requires { ⌜ Held (now held) ⌝ }
+    ensures { λ r. ⌜ r ≡ allOf (λ o. not (leb n o)) (heldBy (now (held .entry)) t) ⌝ }
+{
+    let b = t * HELD_WIDTH;
+    rows::all_below(&held[b..b + HELD_WIDTH], n)
+}
+
+// Whether t holds no object twice.
+pub fn distinct(held: &[u8], t: usize) -> bool
+    requires { ⌜ t < taskLimit ⌝ }
+    requires { ⌜ Held (now held) ⌝ }
+    ensures { λ r. ⌜ r ≡ distinct (heldBy (now (held .entry)) t) ⌝ }
+{
+    let b = t * HELD_WIDTH;
+    rows::distinct(&held[b..b + HELD_WIDTH])
 }

@@ -7,4 +7,5 @@ mod moves;
 mod queues;
 mod rows;
 mod sizes;
+pub mod soundness;
 pub mod tasks;

@@ -33,17 +33,22 @@ pub fn highest(queues: &[u8]) -> Priority
     Priority(0)
 }
 
-// The higher of p and the ceiling of the object o, of which there are n.
-fn higher(ceilings: &[u8], n: usize, p: u8, o: u8) -> u8
+// The ceiling of the object o, of which there are n; 0 for one that is not listed.
+pub fn ceiling(ceilings: &[u8], n: usize, o: u8) -> u8
     requires { ⌜ n ≤ length (now ceilings) ⌝ }
-    ensures { λ r. ⌜ r ≡ max p (ceilingOf (take n (now (ceilings .entry))) o) ⌝ }
+    ensures { λ r. ⌜ r ≡ ceilingOf (take n (now (ceilings .entry))) o ⌝ }
 {
     let i = o as usize;
-    if n <= i {
-        return p;
+    if i < n {
+        return ceilings[i];
     }
-    let c = ceilings[i];
-    if p < c { c } else { p }
+    0
+}
+
+fn higher(a: u8, b: u8) -> u8
+    ensures { λ r. ⌜ r ≡ max a b ⌝ }
+{
+    if a < b { b } else { a }
 }
 
 // The highest of p and the ceilings of what the task t holds.
@@ -59,7 +64,7 @@ fn raised(held: &[u8], ceilings: &[u8], n: usize, t: usize, p: u8) -> u8
     let mut i: usize = 0;
     while i < size {
         let o = held[row + (i + 1)];
-        a = higher(ceilings, n, a, o);
+        a = higher(a, ceiling(ceilings, n, o));
         i += 1;
     }
     a

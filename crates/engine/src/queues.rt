@@ -1,10 +1,13 @@
 // The ready queues: a row for each priority, its tasks from the head on.
 ghost use mathlib.Core.Path.{_≡_};
+ghost use mathlib.Core.Bool.{not};
 ghost use mathlib.Core.List.{[], _∷_, _++_};
 ghost use Prim.Native.Nat.{_<_};
+ghost use lib.Dec.{leb};
 ghost use lib.ListN.{length, drop, getD};
 ghost use Rattle.rules.specs.Limits.{taskLimit};
-ghost use Rattle.rules.specs.Events.{without};
+ghost use Rattle.rules.specs.Fresh.{allOf};
+ghost use Rattle.rules.specs.Events.{timesIn, without};
 ghost use Rattle.engine.specs.Rows.{HasQueue, queueIn, Queues, QueueBecame};
 use crate::rows;
 use crate::sizes::QUEUE_WIDTH;
@@ -72,4 +75,26 @@ pub fn remove(queues: &mut [u8], p: Priority, t: u8)
     let row = &mut queues[b..b + QUEUE_WIDTH];
     let at = rows::find(row, t);
     rows::cut(row, at);
+}
+
+// How often t stands in the queue.
+pub fn count(queues: &[u8], p: Priority, t: u8) -> usize
+    requires { ⌜ HasQueue (p .0) ⌝ }
+    requires { ⌜ Queues (now queues) ⌝ }
+    ensures { λ r. ⌜ r ≡ timesIn t (queueIn (now (queues .entry)) (p .0)) ⌝ }
+{
+    let i = p.0 as usize - 1;
+    let b = i * QUEUE_WIDTH;
+    rows::count(&queues[b..b + QUEUE_WIDTH], t)
+}
+
+// Whether all numbers in the queue are below n.
+pub fn all_below(queues: &[u8], p: Priority, n: usize) -> bool
+    requires { ⌜ HasQueue (p .0) ⌝ }
+    requires { ⌜ Queues (now queues) ⌝ }
+    ensures { λ r. ⌜ r ≡ allOf (λ t. not (leb n t)) (queueIn (now (queues .entry)) (p .0)) ⌝ }
+{
+    let i = p.0 as usize - 1;
+    let b = i * QUEUE_WIDTH;
+    rows::all_below(&queues[b..b + QUEUE_WIDTH], n)
 }

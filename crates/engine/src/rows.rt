@@ -1,8 +1,13 @@
 // A list of bytes in one row: its length, its elements, then zeros.
 ghost use mathlib.Core.Path.{_≡_};
+ghost use mathlib.Core.Bool.{not};
 ghost use mathlib.Core.List.{[], _∷_, _++_};
 ghost use Prim.Native.Nat.{suc, _≤_, _<_};
+ghost use lib.Dec.{leb};
 ghost use lib.ListN.{length, take, drop};
+ghost use Rattle.rules.specs.Fresh.{allOf};
+ghost use Rattle.rules.specs.Events.{timesIn};
+ghost use Rattle.rules.specs.Sound.{distinct};
 ghost use Rattle.engine.specs.Rows.{inRow, rowFor, Tidy, Open, placeIn, cutAt};
 
 // The first n cells move up by one, over the cell behind them, and x stands before them.
@@ -85,4 +90,53 @@ pub fn find(row: &[u8], x: u8) -> usize
         i += 1;
     }
     size
+}
+
+// How often x stands in the list.
+pub fn count(row: &[u8], x: u8) -> usize
+    requires { ⌜ Tidy (now row) ⌝ }
+    ensures { λ n. ⌜ n ≡ timesIn x (inRow (now (row .entry))) ⌝ }
+{
+    let size = row[0] as usize;
+    let mut n: usize = 0;
+    let mut i: usize = 0;
+    while i < size {
+        if row[i + 1] == x {
+            n += 1;
+        }
+        i += 1;
+    }
+    n
+}
+
+// Whether all elements are below n.
+pub fn all_below(row: &[u8], n: usize) -> bool
+    requires { ⌜ Tidy (now row) ⌝ }
+    ensures { λ r. ⌜ r ≡ allOf (λ x. not (leb n x)) (inRow (now (row .entry))) ⌝ }
+{
+    let size = row[0] as usize;
+    let mut i: usize = 0;
+    while i < size {
+        if n <= row[i + 1] as usize {
+            return false;
+        }
+        i += 1;
+    }
+    true
+}
+
+// Whether no element stands twice.
+pub fn distinct(row: &[u8]) -> bool
+    requires { ⌜ Tidy (now row) ⌝ }
+    ensures { λ r. ⌜ r ≡ distinct (inRow (now (row .entry))) ⌝ }
+{
+    let size = row[0] as usize;
+    let mut i: usize = 0;
+    while i < size {
+        if count(row, row[i + 1]) != 1 {
+            return false;
+        }
+        i += 1;
+    }
+    true
 }

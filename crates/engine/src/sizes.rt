@@ -6,6 +6,9 @@ pub const OBJECT_LIMIT: usize = 16;
 // The largest reading of the clock.
 pub const LAST_READING: u64 = 281474976710655;
 
+// The longest Delay.
+pub const LAST_DELAY: u64 = 65535;
+
 // A row's first cell is the length of its list.
 pub const QUEUE_WIDTH: usize = TASK_LIMIT + 1;
 

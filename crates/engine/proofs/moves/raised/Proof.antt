@@ -1,5 +1,5 @@
 -- `engine::moves::raised` meets its contract.
-use mathlib.Core.Path.{_≡_, refl}
+use mathlib.Core.Path.{_≡_, refl, _∙_}
 use Prim.Native.Nat.{_-_, _≤_}
 use native.Mathlib.Omega.{arith}
 use borrow.Author.Needs.{needs}
@@ -16,7 +16,8 @@ abbrev Inv-loop : tie.InvT-loop
 Inv-loop held ceilings n t p row size a₀ i₀ a i =
     (i ≤ size) ×
     (highestOf (take n ceilings) p (heldBy held t) ≡ highestOf (take n ceilings) a (drop i (heldBy held t))) ×
-    (size ≡ length (heldBy held t)) × (size ≤ objectLimit)
+    (size ≡ length (heldBy held t)) ×
+    (size ≤ objectLimit)
 
 abbrev μ-loop : tie.MeasureT-loop
 μ-loop held ceilings n t p row size a₀ i₀ a i = size - i
@@ -51,6 +52,9 @@ add-o-2 c = search needs
 shared-slice-read-o : tie.Need-shared-slice-read-o Inv-loop μ-loop
 shared-slice-read-o c = search needs
 
+ceiling-requires : tie.Need-ceiling-requires Inv-loop μ-loop
+ceiling-requires c κs = search needs
+
 higher-requires : tie.Need-higher-requires Inv-loop μ-loop
 higher-requires c κs = search needs
 
@@ -62,12 +66,14 @@ loop-less c = search needs
 
 loop-again : tie.Need-loop-again Inv-loop μ-loop
 loop-again c =
-    let at-loop = c .before .before .before in
+    let at-ceiling = c .before in
+    let at-loop = at-ceiling .before .before .before in
     let entry = at-loop .before .before .before .before in
     let l = at-loop .loop in
-    let item = held-item _ (entry .pre .0) (entry .pre .1 .1) (l .i) (omega arith) in (
+    let item = held-item _ (entry .pre .0) (entry .pre .1 .1) (l .i) (omega arith) in
+    let top = rw item at (at-ceiling .ceiling .ensures) in (
       search needs,
-      raise-more _ _ _ (l .a) _ (l .i) (omega arith) (rw item at (c .higher .ensures)) (l .inv .1),
+      raise-more _ _ _ (l .a) _ (l .i) (omega arith) (c .higher .ensures ∙ rw top) (l .inv .1),
       l .inv .2,
       l .inv .3,
     )
@@ -90,6 +96,7 @@ raised-spec =
     add-o
     add-o-2
     shared-slice-read-o
+    ceiling-requires
     higher-requires
     add-i
     loop-less

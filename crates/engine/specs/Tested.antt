@@ -1,0 +1,42 @@
+-- The clauses of soundness as the engine tests them: those about one task together, and those about one queue.
+use mathlib.Core.Bool.{Bool, not, _&&_, _||_}
+use Prim.Native.Nat.{ℕ, _+_}
+use lib.Dec.{eqb}
+use lib.ListN.{length}
+use Rattle.rules.specs.Model.{Model, TaskRecord, taskAt, queue, active}
+use Rattle.rules.specs.Fresh.{allOf}
+use Rattle.rules.specs.Events.{noTask, inside}
+use Rattle.rules.specs.Sound.{recordGood, runs, isRunning, queued, isReady, dueGood, distinct, rising, isNone}
+use Rattle.rules.specs.Sound.{sizesGood, runnerGood, highestRuns, below, eachPriority}
+
+-- "a task in two places, or in none"
+abbrev pub onePlaceAt : Model → ℕ → Bool
+onePlaceAt m t =
+    eqb (runs (m .running) t) (isRunning (taskAt m t .place)) && eqb (queued (m .ready) t) (isReady (taskAt m t .place))
+
+-- "an object twice in one task's held list, or ceilings in it falling inwards or starting below the base"
+abbrev pub heldGoodAt : Model → TaskRecord → Bool
+heldGoodAt m k = distinct (k .held) && rising (m .ceilings) (k .base) (k .held)
+
+-- "a holder neither ready nor running"; "a waiting base outside an action"
+abbrev pub holderHere : TaskRecord → Bool
+holderHere k = not (inside k) || eqb (isReady (k .place) + isRunning (k .place)) 1
+
+abbrev pub waitsInside : TaskRecord → Bool
+waitsInside k = inside k || isNone (k .waiting)
+
+-- all clauses about the task t; numbers first, then in document 01's order
+unfoldable pub taskSound : Model → ℕ → Bool
+taskSound m t =
+    recordGood m (taskAt m t) && onePlaceAt m t && dueGood (m .now) (taskAt m t .place) && heldGoodAt m (taskAt m t) &&
+    holderHere (taskAt m t) && waitsInside (taskAt m t)
+
+-- all clauses about the queue for p
+unfoldable pub queueSound : Model → ℕ → Bool
+queueSound m p = allOf (λ t. not (noTask m t)) (queue m p) && allOf (λ t. eqb (active m t) p) (queue m p)
+
+-- all clauses
+unfoldable pub tested : Model → Bool
+tested m =
+    sizesGood m && runnerGood m (m .running) && highestRuns m (m .running) && below (length (m .tasks)) (taskSound m) &&
+    eachPriority (queueSound m)
