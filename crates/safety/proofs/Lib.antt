@@ -1,0 +1,7 @@
+pub mod Agree
+pub mod Discipline
+pub mod Steps
+pub mod Invariant
+pub mod Theorem
+pub mod Passing
+pub mod Written

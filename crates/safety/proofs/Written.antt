@@ -1,0 +1,132 @@
+-- What a run writes is what the claim speaks of: the answer byte of each Step, and the task byte of each event.
+use mathlib.Core.Path.{_≡_, refl, ap, _∙_, sym, subst}
+use mathlib.Core.Logic.{_↔_}
+use mathlib.Core.Bool.{Bool, true, false, cond, not}
+use mathlib.Core.List.{List, [], _∷_, _++_, map}
+use Prim.Native.Nat.{ℕ, zero, suc, _+_, _*_, _≤_, _<_}
+use native.Mathlib.Omega.{arith}
+use lib.ListN.{length, getD, drop, length-append, List·getD-append}
+use Rattle.rules.specs.Answers.{numberOf}
+use Rattle.rules.specs.declared.Answer.{Answer}
+use Rattle.rules.specs.declared.Answer.the-variants.{Done, NoSuchTask, NoSuchObject, BadPriority, BadReading, NobodyRuns, EndedTask}
+use Rattle.rules.specs.declared.Answer.the-variants.{InsideAction, AboveCeiling, NotInnermost, Unsound, BadCounts, BadBases}
+use Rattle.rules.proofs.Choices.{clash, cond-true}
+use Rattle.roster.specs.Answers.{passed}
+use Rattle.roster.specs.Roster.{Roster, rosterOf}
+use Rattle.roster.specs.Check.{checkOf}
+use Rattle.run.specs.Config.{Config, startOf, happen}
+use Rattle.run.specs.Inputs.{eventsGood, eventCount, inputsOf}
+use Rattle.run.specs.Answers as run
+use Rattle.run.specs.Run.{answerOf, runningByte, pairOf, pairsFrom, pairsOf, bufferOf}
+use Rattle.run.specs.declared.Input.{Input}
+use Rattle.run.specs.declared.RunAnswer.{RunAnswer}
+use Rattle.run.specs.declared.RunAnswer.the-variants.{Done as Ran, BadRoster, BadEvents, ShortBuffer}
+use Rattle.safety.specs.History.{Event, step, inputOf, afterFrom, after}
+use Rattle.safety.specs.Safe.{running, stepAnswer, Idle, Bytes}
+use Rattle.safety.proofs.Passing.{safe}
+
+-- the two bytes at an event, from any configuration on
+module _ (r : Roster) where
+  pairs-size : (c : Config) (es : List Event) → length (pairsFrom r c (map inputOf es)) ≡ 2 * length es
+  unfolding pairsFrom pairOf
+  pairs-size c [] = refl
+  pairs-size c (e ∷ es) = omega (arith, pairs-size (happen r c (inputOf e) .config) es)
+
+  answer-byte : (c : Config) (before : List Event) (e : Event) (behind : List Event) →
+      getD (pairsFrom r c (map inputOf (before ++ (e ∷ behind)))) (2 * length before) 0 ≡ numberOf
+      (happen r (afterFrom r c before) (inputOf e) .answer)
+  unfolding pairsFrom pairOf afterFrom
+  answer-byte c [] e behind = refl
+  answer-byte c (x ∷ before) e behind =
+      let two : 2 * suc (length before) ≡ suc (suc (2 * length before)) = omega arith in
+      ap (λ (n : ℕ). getD (pairsFrom r c (map inputOf (x ∷ before ++ (e ∷ behind)))) n 0) two ∙
+      answer-byte (happen r c (inputOf x) .config) before e behind
+
+  task-byte : (c : Config) (before : List Event) (e : Event) (behind : List Event) →
+      getD (pairsFrom r c (map inputOf (before ++ (e ∷ behind)))) (2 * length before + 1) 0 ≡ runningByte
+      (afterFrom r c (before ++ (e ∷ [])) .model .running)
+  unfolding pairsFrom pairOf afterFrom
+  task-byte c [] e behind = refl
+  task-byte c (x ∷ before) e behind =
+      let two : 2 * suc (length before) + 1 ≡ suc (suc (2 * length before + 1)) = omega arith in
+      ap (λ (n : ℕ). getD (pairsFrom r c (map inputOf (x ∷ before ++ (e ∷ behind)))) n 0) two ∙
+      task-byte (happen r c (inputOf x) .config) before e behind
+
+-- a run that is not refused has a roster that passes
+ran-passes : (s ev : List ℕ) (size : ℕ) → answerOf s ev size ≡ Ran → passed (checkOf s) ≡ true
+unfolding answerOf
+ran-passes s ev size e = go (passed (checkOf s)) refl _ e
+  where
+    go : (b : Bool) → passed (checkOf s) ≡ b → (w : RunAnswer) → cond (not b) (BadRoster (checkOf s)) w ≡ Ran → passed (checkOf s) ≡ true
+    go true f w g = f
+    go false f w g = absurd (let z : _≡_ {A = ℕ} 0 1 = cc in omega arith)
+
+-- the buffer after a run of the events es that is not refused
+pub record Written (s ev buffer : List ℕ) (es : List Event) : Type 0 where
+  -- the answer byte of a Step is not 0 exactly when nobody was running or ready just before it
+  pub answer : (before behind : List Event) → es ≡ before ++ (step ∷ behind) →
+      (getD (bufferOf s ev buffer) (2 * length before) 0 ≡ 0 → ⊥) ↔ Idle (rosterOf s) before
+  -- the task byte of an event names the task that the claim calls running after it, or nobody
+  pub task : (before behind : List Event) (e : Event) → es ≡ before ++ (e ∷ behind) →
+      getD (bufferOf s ev buffer) (2 * length before + 1) 0 ≡ runningByte (running (rosterOf s) (before ++ (e ∷ [])))
+
+number-done : (a : Answer) → numberOf a ≡ 0 → a ≡ Done
+number-done Done e = refl
+number-done NoSuchTask e = absurd (omega arith)
+number-done NoSuchObject e = absurd (omega arith)
+number-done BadPriority e = absurd (omega arith)
+number-done BadReading e = absurd (omega arith)
+number-done NobodyRuns e = absurd (omega arith)
+number-done EndedTask e = absurd (omega arith)
+number-done InsideAction e = absurd (omega arith)
+number-done AboveCeiling e = absurd (omega arith)
+number-done NotInnermost e = absurd (omega arith)
+number-done Unsound e = absurd (omega arith)
+number-done BadCounts e = absurd (omega arith)
+number-done BadBases e = absurd (omega arith)
+
+pub written : (s ev buffer : List ℕ) (es : List Event) → Bytes s → answerOf s ev (length buffer) ≡ Ran → inputsOf ev ≡ map inputOf es →
+    Written s ev buffer es
+unfolding bufferOf pairsOf happen inputOf
+written s ev buffer es y e f = record { answer = answer; task = task }
+  where
+    r : Roster
+    r = rosterOf s
+
+    pairs : List ℕ
+    pairs = pairsFrom r (startOf r) (map inputOf es)
+
+    whole : bufferOf s ev buffer ≡ pairs ++ drop (length pairs) buffer
+    whole =
+        cond-true (run.ran (answerOf s ev (length buffer))) (pairsOf s ev ++ drop (length (pairsOf s ev)) buffer) buffer (ap run.ran e) ∙
+        ap (λ (is : List Input). pairsFrom r (startOf r) is ++ drop (length (pairsFrom r (startOf r) is)) buffer) f
+
+    at : (i : ℕ) → i < 2 * length es → getD (bufferOf s ev buffer) i 0 ≡ getD pairs i 0
+    at i h =
+        ap (λ (l : List ℕ). getD l i 0) whole ∙
+        List·getD-append pairs (drop (length pairs) buffer) 0 i (omega (arith, h, pairs-size r (startOf r) es))
+
+    size : (before behind : List Event) (x : Event) → es ≡ before ++ (x ∷ behind) → length es ≡ length before + suc (length behind)
+    size before behind x q = ap length q ∙ length-append before (x ∷ behind)
+
+    first : (before behind : List Event) → es ≡ before ++ (step ∷ behind) →
+        getD (bufferOf s ev buffer) (2 * length before) 0 ≡ numberOf (stepAnswer r before)
+    first before behind q =
+        at (2 * length before) (omega (arith, size before behind step q)) ∙
+        ap (λ (l : List Event). getD (pairsFrom r (startOf r) (map inputOf l)) (2 * length before) 0) q ∙ answer-byte r (startOf r)
+        before step behind
+
+    answer : (before behind : List Event) → es ≡ before ++ (step ∷ behind) →
+        (getD (bufferOf s ev buffer) (2 * length before) 0 ≡ 0 → ⊥) ↔ Idle (rosterOf s) before
+    answer before behind q =
+        let refusal = safe s y (ran-passes s ev (length buffer) e) es .refused before behind q in (
+          λ n. refusal .only (λ d. n (first before behind q ∙ ap numberOf d)),
+          λ i z. refusal .when i (number-done (stepAnswer r before) (sym (first before behind q) ∙ z)),
+        )
+
+    task : (before behind : List Event) (x : Event) → es ≡ before ++ (x ∷ behind) →
+        getD (bufferOf s ev buffer) (2 * length before + 1) 0 ≡ runningByte (running (rosterOf s) (before ++ (x ∷ [])))
+    task before behind x q =
+        at (2 * length before + 1) (omega (arith, size before behind x q)) ∙
+        ap (λ (l : List Event). getD (pairsFrom r (startOf r) (map inputOf l)) (2 * length before + 1) 0) q ∙ task-byte r
+        (startOf r) before x behind

@@ -1,0 +1,225 @@
+//! Makes a slip in a copy of the definitions and has the prover judge a refutation of the safety claim over that copy.
+
+use std::fs;
+use std::path::{Path, PathBuf};
+use std::process::Command;
+
+mod roster;
+
+pub use roster::{bytes_of, Roster, Step};
+
+/// One change of a definition: the file under `crates/`, what stands there once, and what is put in its place.
+pub struct Edit {
+    pub file: &'static str,
+    pub old: &'static str,
+    pub new: &'static str,
+}
+
+/// What is to be refuted: the claim for this roster after these events, and the antt proof of `Safe .. → ⊥`.
+pub struct Case {
+    pub roster: Roster,
+    pub events: &'static str,
+    pub proof: &'static str,
+}
+
+/// The definitions that the claim is made of, crate by crate, in dependency order.
+const SPECS: [(&str, &[&str]); 4] = [
+    (
+        "rules",
+        &[
+            "Limits",
+            "Priorities",
+            "Answers",
+            "Model",
+            "Moves",
+            "Moved",
+            "Fresh",
+            "Events",
+            "Sound",
+        ],
+    ),
+    (
+        "roster",
+        &[
+            "Limits", "Answers", "Format", "Steps", "Roster", "Form", "Check",
+        ],
+    ),
+    ("run", &["Config"]),
+    ("safety", &["History", "Reckon", "Safe"]),
+];
+
+/// The types of the code that these definitions name.
+const TYPES: [(&str, &[&str]); 4] = [
+    (
+        "rules",
+        &[
+            "struct Priority",
+            "enum Checked",
+            "enum Subrange",
+            "enum Place",
+            "enum WaitingBase",
+            "struct Task",
+            "enum Runner",
+            "enum Event",
+            "enum Answer",
+        ],
+    ),
+    ("roster", &["enum Step", "enum Verdict"]),
+    ("run", &["enum Input"]),
+    ("safety", &[]),
+];
+
+/// Whether the prover accepts the refutation over the copy with these edits; the second part is what it printed.
+pub fn accepted(name: &str, edits: &[Edit], case: &Case) -> (bool, String) {
+    let copy = copy_of_definitions(name);
+    for edit in edits {
+        make(&copy, edit);
+    }
+    write_refutation(&copy, case);
+    let output = Command::new("rt")
+        .args(["check", "safety"])
+        .current_dir(&copy)
+        .output()
+        .expect("rt is installed");
+    let mut text = String::from_utf8_lossy(&output.stdout).into_owned();
+    text.push_str(&String::from_utf8_lossy(&output.stderr));
+    (output.status.success(), text)
+}
+
+fn root() -> PathBuf {
+    Path::new(env!("CARGO_MANIFEST_DIR")).join("../..")
+}
+
+/// A repository under target/ with the definitions alone: no functions, no laws.
+fn copy_of_definitions(name: &str) -> PathBuf {
+    let copy = root().join("target/slips").join(name);
+    let _ = fs::remove_dir_all(&copy);
+    let mut listed = String::new();
+    let mut below = String::new();
+    for ((crate_name, files), (_, types)) in SPECS.iter().zip(TYPES) {
+        copy_crate(&copy, crate_name, files, types, &below);
+        listed.push_str(&format!("{crate_name}:{below}\n"));
+        below.push_str(&format!(" {crate_name}"));
+    }
+    write(&copy.join("crates.txt"), &listed);
+    copy
+}
+
+fn copy_crate(copy: &Path, name: &str, files: &[&str], types: &[&str], below: &str) {
+    let from = root().join("crates").join(name);
+    let to = copy.join("crates").join(name);
+    let mut lib = String::new();
+    for file in files {
+        let text = read(&from.join(format!("specs/{file}.antt")));
+        write(&to.join(format!("specs/{file}.antt")), &text);
+        lib.push_str(&format!("pub mod {file}\n"));
+    }
+    write(&to.join("specs/Lib.antt"), &lib);
+    let mut code = String::from("// The declared types alone.\n");
+    if below.contains("rules") {
+        code.push_str("use rules::Priority;\n");
+    }
+    let source = read(&from.join("src/lib.rt"));
+    for kind in types {
+        code.push_str(&declaration(&source, kind));
+    }
+    write(&to.join("src/lib.rt"), &code);
+}
+
+/// The text of `pub KIND NAME ..` up to the end of its declaration.
+fn declaration(source: &str, kind: &str) -> String {
+    let start = [" ", "(", "{"]
+        .iter()
+        .filter_map(|end| source.find(&format!("pub {kind}{end}")))
+        .min()
+        .unwrap_or_else(|| panic!("no declaration of {kind}"));
+    let rest = &source[start..];
+    let end = match (rest.find(';'), rest.find("\n}")) {
+        (Some(semicolon), Some(brace)) if semicolon < brace && !rest[..semicolon].contains('{') => {
+            semicolon + 1
+        }
+        (_, Some(brace)) => brace + 2,
+        (Some(semicolon), None) => semicolon + 1,
+        (None, None) => panic!("{kind} has no end"),
+    };
+    format!("\n{}\n", &rest[..end])
+}
+
+fn make(copy: &Path, edit: &Edit) {
+    let path = copy.join("crates").join(edit.file);
+    let text = read(&path);
+    assert_eq!(
+        text.matches(edit.old).count(),
+        1,
+        "{} in {}",
+        edit.old,
+        edit.file
+    );
+    write(&path, &text.replace(edit.old, edit.new));
+}
+
+/// safety/proofs/Slip.antt: the roster passes, and the claim for it is absurd; both by computation.
+fn write_refutation(copy: &Path, case: &Case) {
+    let (uses, unfolding) = all_definitions(copy);
+    let numbers: Vec<String> = bytes_of(&case.roster).iter().map(u8::to_string).collect();
+    let text = format!(
+        "{uses}{IMPORTS}\nbytes : List ℕ\nbytes = {} ∷ []\n\nevents : List Event\nevents = {}\n\n\
+         passes : passed (checkOf bytes) ≡ true\n{unfolding} bytes\npasses = refl\n\n\
+         unsafe : Safe (rosterOf bytes) events → ⊥\n{unfolding} bytes events\nunsafe s = {}\n",
+        numbers.join(" ∷ "),
+        case.events,
+        case.proof,
+    );
+    write(&copy.join("crates/safety/proofs/Slip.antt"), &text);
+    write(
+        &copy.join("crates/safety/proofs/Lib.antt"),
+        "pub mod Slip\n",
+    );
+}
+
+const IMPORTS: &str = "use mathlib.Core.Path.{_≡_, refl}
+use mathlib.Core.Bool.{true}
+use mathlib.Core.List.{List, [], _∷_}
+use Prim.Native.Nat.{ℕ}
+use native.Mathlib.Omega.{arith}
+use Rattle.rules.specs.declared.Answer.the-variants.{Done, AboveCeiling}
+use Rattle.rules.specs.declared.Runner.the-variants.{Nobody, Task}
+use Rattle.roster.specs.Answers.{passed}
+use Rattle.roster.specs.Check.{checkOf}
+use Rattle.roster.specs.Roster.{Roster, rosterOf}
+use Rattle.safety.specs.History.{Event, clock, release, step}
+use Rattle.safety.specs.Safe.{Safe, running, stepAnswer}
+";
+
+/// Import lines for every module, and one `unfolding` line that names every definition that does not unfold by itself.
+fn all_definitions(copy: &Path) -> (String, String) {
+    let mut uses = String::new();
+    let mut unfolding = String::from("unfolding");
+    for (crate_name, files) in SPECS {
+        for file in files {
+            let alias = format!("{crate_name}{file}");
+            let path = match crate_name {
+                "safety" => format!("Rattle.safety.specs.{file}"),
+                other => format!("Rattle.{other}.specs.{file}"),
+            };
+            uses.push_str(&format!("use {path} as {alias}\n"));
+            let text = read(&copy.join(format!("crates/{crate_name}/specs/{file}.antt")));
+            for line in text.lines() {
+                if let Some(rest) = line.strip_prefix("unfoldable pub ") {
+                    let name = rest.split(' ').next().unwrap_or_default();
+                    unfolding.push_str(&format!(" {alias}.{name}"));
+                }
+            }
+        }
+    }
+    (uses, unfolding)
+}
+
+fn read(path: &Path) -> String {
+    fs::read_to_string(path).unwrap_or_else(|e| panic!("{}: {e}", path.display()))
+}
+
+fn write(path: &Path, text: &str) {
+    fs::create_dir_all(path.parent().expect("a folder")).expect("the folder can be made");
+    fs::write(path, text).unwrap_or_else(|e| panic!("{}: {e}", path.display()));
+}
