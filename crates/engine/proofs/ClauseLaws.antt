@@ -53,7 +53,8 @@ module _ {h ts hd cs qs : List ℕ} (d : Laid h ts hd cs qs) where
   pub too-late : (b : Bool) → (taskCount h ≡ 0 → ⊥) → lastReading < getD h nowCell 0 → (sizesGood (modelOf h ts hd cs qs) && b) ≡ false
   too-late b n e = rw (sizes-is, le-leb 1 (taskCount h) (omega (arith, n)), lt-leb (getD h nowCell 0) lastReading e)
 
-  module _ (n : taskCount h ≡ 0 → ⊥) (e : getD h nowCell 0 ≤ lastReading) (b : Bool) (f : b ≡ allOf inRange (take (objectCount h) cs)) where
+  module _ (n : taskCount h ≡ 0 → ⊥) (e : getD h nowCell 0 ≤ lastReading) (b : Bool)
+      (f : b ≡ allOf inRange (take (objectCount h) cs)) where
     ceilings-left : sizesGood (modelOf h ts hd cs qs) ≡ b
     ceilings-left = rw (sizes-is, le-leb 1 (taskCount h) (omega (arith, n)), le-leb (getD h nowCell 0) lastReading e) (sym f)
 

@@ -89,7 +89,8 @@ module _ {ord : Bool} (m : Model) (t : ℕ) (h : Good ord m) (e : m .running ≡
       let same = at-same (λ (k : TaskRecord). k .waiting) blank (m .tasks) t _ t refl (t-in m t h e) in
       sym (ap waitingGood (sym same ∙ w)) ∙ t-fair m t h e .waiting
 
-  effect : (p : ℕ) → inside (taskAt (giveUp m t) t) ≡ false → taskAt (giveUp m t) t .waiting ≡ waits p → Joins (settled (giveUp m t) t p) t
+  effect : (p : ℕ) → inside (taskAt (giveUp m t) t) ≡ false → taskAt (giveUp m t) t .waiting ≡ waits p →
+      Joins (settled (giveUp m t) t p) t
   unfolding stopped
   effect p z w =
       let k = withWaiting (withBase (taskAt (giveUp m t) t) p) none in

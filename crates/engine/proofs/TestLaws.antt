@@ -13,7 +13,8 @@ use Rattle.rules.specs.Limits.{lastPriority, lastDelay}
 use Rattle.rules.specs.Model.{Model, taskAt, queue, ceilingOf, active}
 use Rattle.rules.specs.Fresh.{allOf}
 use Rattle.rules.specs.Events.{noTask, timesIn}
-use Rattle.rules.specs.Sound.{sizesGood, recordGood, runnerGood, runs, queued, highestRuns, dueGood, distinct, rising, eachTask, eachPriority}
+use Rattle.rules.specs.Sound.{sizesGood, recordGood, runnerGood, runs, queued}
+use Rattle.rules.specs.Sound.{highestRuns, dueGood, distinct, rising, eachTask, eachPriority}
 use Rattle.rules.specs.Sound.{below, numbersGood, onePlace, ownQueue, dueAhead, heldGood, holdersHere, waitingInside, sound}
 use Rattle.rules.specs.declared.Place.{Place}
 use Rattle.rules.specs.declared.Place.the-variants.{Delayed}

@@ -6,11 +6,14 @@ use lib.Dec.{eqb, leb, ltb}
 use lib.ListN.{length, length-set}
 use Rattle.rules.specs.Limits.{lastReading}
 use Rattle.rules.specs.Priorities.{inRange}
-use Rattle.rules.specs.Model.{Model, Waiting, none, waits, TaskRecord, withNow, withBase, taskAt, withTask, withQueue, queue, ceilingOf, active}
+use Rattle.rules.specs.Model.{Model, Waiting, none, waits, TaskRecord, withNow}
+use Rattle.rules.specs.Model.{withBase, taskAt, withTask, withQueue, queue, ceilingOf, active}
 use Rattle.rules.specs.Moves.{stopped, becomeReady, preempt, start, highest, dispatchBy, dispatch}
 use Rattle.rules.specs.Moved.{Moved, refused, accepted, byRunning}
-use Rattle.rules.specs.Events.{noTask, noObject, holds, inside, takeHold, enter, innermost, giveUp, settleWith, settle, leave, putOff, delay}
-use Rattle.rules.specs.Events.{rest, suspend, releaseFrom, release, Due, nobody, task, firstDue, wake, wakeUp, clock, without, requeue, rebase}
+use Rattle.rules.specs.Events.{noTask, noObject, holds, inside, takeHold, enter}
+use Rattle.rules.specs.Events.{innermost, giveUp, settleWith, settle, leave, putOff, delay}
+use Rattle.rules.specs.Events.{rest, suspend, releaseFrom, release, Due, nobody, task}
+use Rattle.rules.specs.Events.{firstDue, wake, wakeUp, clock, without, requeue, rebase}
 use Rattle.rules.specs.Events.{isEnded, setBase, work, end, finish, apply}
 use Rattle.rules.specs.declared.Place.{Place}
 use Rattle.rules.specs.declared.Place.the-variants.{Running, Ready, Delayed, Suspended, Ended}
@@ -133,7 +136,8 @@ count-kept m e = go e
         unless-has n m (not (innermost (taskAt m t) o)) _ _ refl
         (accepted-has n _ (settle-has n (giveUp m t) t (with-has n m t _ refl)))))
     go (Delay d) =
-        by-has n m (m .running) _ refl (λ t. unless-has n m (inside (taskAt m t)) _ _ refl (accepted-has n _ (put-has n (stopped m) t d refl)))
+        by-has n m (m .running) _ refl (λ t. unless-has n m (inside (taskAt m t)) _ _ refl
+        (accepted-has n _ (put-has n (stopped m) t d refl)))
     go Suspend =
         by-has n m (m .running) _ refl (λ t. unless-has n m (inside (taskAt m t)) _ _ refl (accepted-has n _ (rest-has n m t refl)))
     go (Release t) = unless-has n m (noTask m t) _ _ refl (accepted-has n _ (released-has n m t (taskAt m t .place) refl))
@@ -143,4 +147,5 @@ count-kept m e = go e
         unless-has n m (noTask m t) _ _ refl (unless-has n m (not (inRange (p .0))) _ _ refl
         (unless-has n m (isEnded (taskAt m t .place)) _ _ refl (accepted-has n _ (rebase-has n m t (p .0) refl))))
     go Work = by-has n m (m .running) _ refl (λ t. accepted-has n m refl)
-    go Finish = by-has n m (m .running) _ refl (λ t. unless-has n m (inside (taskAt m t)) _ _ refl (accepted-has n _ (end-has n m t refl)))
+    go Finish =
+        by-has n m (m .running) _ refl (λ t. unless-has n m (inside (taskAt m t)) _ _ refl (accepted-has n _ (end-has n m t refl)))

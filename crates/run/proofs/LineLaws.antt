@@ -79,7 +79,8 @@ module _ (before text : List ℕ) (at : ℕ) where
       (ap (λ (j : ℕ). sets (set out (at + i) (getD text i 0)) j (drop (suc i) text)) k ∙
       ap (λ (j : ℕ). sets (set out (at + i) (getD text i 0)) (at + (i + 1)) (drop j text)) (sym (add-one i))))
 
-  pub copy-end : (out : List ℕ) (i : ℕ) → length text ≤ i → sets before at text ≡ sets out (at + i) (drop i text) → out ≡ sets before at text
+  pub copy-end : (out : List ℕ) (i : ℕ) → length text ≤ i → sets before at text ≡ sets out (at + i) (drop i text) →
+      out ≡ sets before at text
   copy-end out i h e = sym (e ∙ ap (λ (l : List ℕ). sets out (at + i) l) (drop-of-length-le text {i = i} h))
 
 -- the last digit goes behind the others
@@ -142,7 +143,8 @@ number-short n h = decimal-short 19 n (omega arith)
 
 pub running-short : (r : ℕ) → r < 256 → length (runningText r) ≤ 3
 running-short r h =
-    split r nobodyByte (λ e. omega (arith, ap length (running-nobody r e))) (λ e. omega (arith, ap length (running-task r e), byte-short r h))
+    split r nobodyByte (λ e. omega (arith, ap length (running-nobody r e)))
+    (λ e. omega (arith, ap length (running-task r e), byte-short r h))
 
 pub pair-short : (a r : ℕ) → a < 256 → r < 256 → length (pairLine a r) ≤ pairRoom
 pair-short a r h g = omega (arith, pair-length a r, byte-short a h, running-short r g)
@@ -156,7 +158,8 @@ pub left-start : (before : List ℕ) (at : ℕ) (whole : List ℕ) → Left befo
 left-start before at whole = record { bytes = refl; end = refl }
 
 module _ {before : List ℕ} {at : ℕ} {whole : List ℕ} {out : List ℕ} {next : ℕ} where
-  pub left-turn : (t rest : List ℕ) {tail out' : List ℕ} {next' : ℕ} → tail ≡ t ++ rest → Left before at whole out next tail → Put out next t out' next' →
+  pub left-turn : (t rest : List ℕ) {tail out' : List ℕ} {next' : ℕ} → tail ≡ t ++ rest → Left before at whole out next tail →
+      Put out next t out' next' →
       Left before at whole out' next' rest
   left-turn t rest {tail} {out'} {next'} e l p =
       let bytes = l .bytes ∙ (ap (λ (x : List ℕ). sets out next x) e ∙ sets-append out next t rest) in
@@ -202,7 +205,8 @@ pairs-end pairs i h = pairs-done (drop (pairSize * i) pairs) (omega (arith, leng
 module _ (number task position : ℕ) where
   pub place-low : number < 16 → placeText number task position ≡ []
   unfolding placeText
-  place-low h = ap (λ (b : Bool). cond b (space ∷ (decimal task ++ (space ∷ decimal position))) []) (sym (and-no _ _ (lt-leb 16 number h)))
+  place-low h =
+      ap (λ (b : Bool). cond b (space ∷ (decimal task ++ (space ∷ decimal position))) []) (sym (and-no _ _ (lt-leb 16 number h)))
 
   pub place-high : 16 ≤ number → 20 < number → placeText number task position ≡ []
   unfolding placeText
@@ -288,12 +292,14 @@ module _ (a : RunAnswer) (pairs out : List ℕ) where
             sym (ap (λ (b : Bool). cond b (linesOf a pairs ++ drop (length (linesOf a pairs)) out) out) h))),
       )
 
-  pub lines-passed : {out' : List ℕ} {e : ℕ} → leb (roomFor pairs) (length out) ≡ true → numberOf a ≡ 0 → Put out 0 (passedLines pairs) out' e →
+  pub lines-passed : {out' : List ℕ} {e : ℕ} → leb (roomFor pairs) (length out) ≡ true → numberOf a ≡ 0 →
+      Put out 0 (passedLines pairs) out' e →
       (e ≡ linesSize a pairs out) × (out' ≡ linesBuffer a pairs out)
   unfolding linesOf
   lines-passed h z p =
       lines-made h
-      (put-as _ (ap (λ (b : Bool). cond b (passedLines pairs) (refusedLine (numberOf a) (taskOf a) (positionOf a))) (eq-eqb (numberOf a) 0 z)) p)
+      (put-as _ (ap (λ (b : Bool). cond b (passedLines pairs) (refusedLine (numberOf a) (taskOf a) (positionOf a)))
+      (eq-eqb (numberOf a) 0 z)) p)
 
   pub lines-refused : {out' : List ℕ} {e : ℕ} (number task position : ℕ) → leb (roomFor pairs) (length out) ≡ true → number ≡ numberOf a →
       task ≡ taskOf a → position ≡ positionOf a → (number ≡ 0 → ⊥) → Put out 0 (refusedLine number task position) out' e →
@@ -304,4 +310,5 @@ module _ (a : RunAnswer) (pairs out : List ℕ) where
       let z' : numberOf a ≡ 0 → ⊥ = λ e. z (en ∙ e) in
       lines-made h
       (put-as _
-      (ap (λ (b : Bool). cond b (passedLines pairs) (refusedLine (numberOf a) (taskOf a) (positionOf a))) (ne-eqb (numberOf a) 0 z') ∙ sym same) p)
+      (ap (λ (b : Bool). cond b (passedLines pairs) (refusedLine (numberOf a) (taskOf a) (positionOf a)))
+      (ne-eqb (numberOf a) 0 z') ∙ sym same) p)

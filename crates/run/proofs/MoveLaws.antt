@@ -25,7 +25,8 @@ use Rattle.run.specs.Config.{perform}
 use Rattle.run.specs.Slices.{Moves}
 
 module _ {h ts hd cs qs : List ℕ} {a : Answer} where
-  pub moves-of : (m : Model) (e : Event) → sound m ≡ true → delayFits e ≡ true → Did h ts hd cs qs a (apply m e) → Moves h ts hd cs qs a (apply m e)
+  pub moves-of : (m : Model) (e : Event) → sound m ≡ true → delayFits e ≡ true → Did h ts hd cs qs a (apply m e) →
+      Moves h ts hd cs qs a (apply m e)
   moves-of m e s f d =
       record {
         same = d .same;
@@ -42,7 +43,8 @@ module _ {h ts hd cs qs : List ℕ} {a : Answer} where
   step-moves m x y e k same s f d = moves-as (perform m x) (ap (perform m) k ∙ same) (moves-of m e s f d)
 
 -- Again leaves the state
-pub again-moves : {h ts hd cs qs : List ℕ} (x : Step) → x ≡ Again → Valid h ts hd cs qs → Moves h ts hd cs qs Done (perform (modelOf h ts hd cs qs) x)
+pub again-moves : {h ts hd cs qs : List ℕ} (x : Step) → x ≡ Again → Valid h ts hd cs qs →
+    Moves h ts hd cs qs Done (perform (modelOf h ts hd cs qs) x)
 unfolding perform
 again-moves {h} {ts} {hd} {cs} {qs} x e v =
     let k = ap (perform (modelOf h ts hd cs qs)) e in
@@ -62,7 +64,8 @@ unfolding setBase
 set-same m t p q e f = rw (e, f)
 
 -- a Set from outside: of a priority, and of another value
-module _ {h ts hd cs qs : List ℕ} {a : Answer} (m : Model) (t value : ℕ) (v : Checked) (e : v ≡ checkedOf value) (s : sound m ≡ true) where
+module _ {h ts hd cs qs : List ℕ} {a : Answer} (m : Model) (t value : ℕ) (v : Checked) (e : v ≡ checkedOf value)
+    (s : sound m ≡ true) where
   pub set-moves : (p : Priority) → v ≡ Good p → Did h ts hd cs qs a (setBase m t (p .0)) → Moves h ts hd cs qs a (setBase m t value)
   unfolding apply delayFits
   set-moves p f d = moves-as _ (ap (setBase m t) (checked-is value v p e f)) (moves-of m (Set t p) s refl d)

@@ -35,7 +35,8 @@ use Rattle.engine.specs.Memory.{runningCell, modelOf}
 use Rattle.engine.proofs.MemoryLaws.{idle, busy}
 use Rattle.run.specs.declared.Input.{Input}
 use Rattle.run.specs.declared.Input.the-variants.{Step as Stepped}
-use Rattle.run.specs.Config.{Config, Outcome, perform, positionAfter, isDone, advance, nextStep, positionOf, stepBy, outside, happen}
+use Rattle.run.specs.Config.{Config, Outcome, perform, positionAfter, isDone}
+use Rattle.run.specs.Config.{advance, nextStep, positionOf, stepBy, outside, happen}
 use Rattle.run.specs.Slices.{configOf, Going, Moves, Happened}
 use Rattle.run.proofs.CountLaws.{count-kept}
 
@@ -56,7 +57,8 @@ after-low k Finish = omega arith
 part-short : (s : List ℕ) (t : ℕ) → formOf s ≡ Passed → length (partAt s t) ≤ largestRoster
 unfolding partAt lengthGood
 part-short s t e =
-    let short = leb-true (length s) largestRoster (and-right (leb smallestRoster (length s)) (leb (length s) largestRoster) (formed s e .size)) in
+    let short = leb-true (length s) largestRoster
+    (and-right (leb smallestRoster (length s)) (leb (length s) largestRoster) (formed s e .size)) in
     omega (arith, length-take (lengthAt s t) (drop (startAt s t) s), length-drop (startAt s t) s)
 
 pub position-fits : (s part : List ℕ) (t k : ℕ) (x : Step) → formOf s ≡ Passed → part ≡ partAt s t → k < 65536 →
@@ -82,7 +84,8 @@ perform-count m Finish = count-kept m Event.Finish
 
 module _ {s h ts hd cs qs ps : List ℕ} (g : Going s h ts hd cs qs ps) where
   -- an event from outside
-  pub outside-happened : {h' ts' hd' qs' : List ℕ} {a : Answer} {r : Moved} → length (r .model .tasks) ≡ length (modelOf h ts hd cs qs .tasks) →
+  pub outside-happened : {h' ts' hd' qs' : List ℕ} {a : Answer} {r : Moved} →
+      length (r .model .tasks) ≡ length (modelOf h ts hd cs qs .tasks) →
       Moves h' ts' hd' cs qs' a r → Happened s h' ts' hd' cs qs' ps a (outside (configOf s h ts hd cs qs ps) r)
   unfolding outside
   outside-happened e v =
@@ -120,7 +123,8 @@ module _ {s h ts hd cs qs ps : List ℕ} (g : Going s h ts hd cs qs ps) where
     pub script-here : startAt s t + lengthAt s t ≤ length s
     script-here = part-inside s (g .form) t runner-listed
 
-    module _ {part : List ℕ} {k : ℕ} {x : Step} (script : part ≡ partAt s t) (place : k ≡ getD ps t 0) (next : x ≡ stepIn (stepsOf part) k) where
+    module _ {part : List ℕ} {k : ℕ} {x : Step} (script : part ≡ partAt s t) (place : k ≡ getD ps t 0)
+        (next : x ≡ stepIn (stepsOf part) k) where
       abbrev pub c : Config
       c = configOf s h ts hd cs qs ps
 
@@ -147,7 +151,8 @@ module _ {s h ts hd cs qs ps : List ℕ} (g : Going s h ts hd cs qs ps) where
       unfolding advance
       made {h'} {ts'} {hd'} {qs'} {ps'} {a} v n e =
           let r : Moved = perform (modelOf h ts hd cs qs) x in
-          let placed : take (taskCount s) ps' ≡ cond (isDone (r .answer)) (set (take (taskCount s) ps) t (positionAfter k x)) (take (taskCount s) ps) =
+          let placed : take (taskCount s) ps' ≡ cond (isDone (r .answer)) (set (take (taskCount s) ps) t (positionAfter k x))
+          (take (taskCount s) ps) =
           e ∙ ap (λ (b : Answer). cond (isDone b) (set (take (taskCount s) ps) t (positionAfter k x)) (take (taskCount s) ps)) (v .answer)
           in
           record {
@@ -165,7 +170,8 @@ module _ {s h ts hd cs qs ps : List ℕ} (g : Going s h ts hd cs qs ps) where
 
       -- a refused step moves nothing; an accepted one its position
       pub step-refused : {h' ts' hd' qs' : List ℕ} {a : Answer} (n : ℕ) → n ≡ numberOf a → (n ≡ 0 → ⊥) →
-          Moves h' ts' hd' cs qs' a (perform (modelOf h ts hd cs qs) x) → Happened s h' ts' hd' cs qs' ps a (happen (rosterOf s) c Stepped)
+          Moves h' ts' hd' cs qs' a (perform (modelOf h ts hd cs qs) x) → Happened s h' ts' hd' cs qs' ps a
+          (happen (rosterOf s) c Stepped)
       step-refused {h'} {ts'} {hd'} {qs'} {a} n e z v =
           let no : isDone a ≡ false = ne-eqb (numberOf a) 0 (λ y. z (e ∙ y)) in
           rw step-is

@@ -19,7 +19,8 @@ cast-d : tie.Need-cast-d
 cast-d c = omega (arith, held-size _ (c .before .pre .0) (c .before .pre .1 .0), held-room _ (c .before .pre .0) (c .before .pre .1 .0))
 
 add-result : tie.Need-add-result
-add-result c = omega (arith, held-size _ (c .before .pre .0) (c .before .pre .1 .0), held-room _ (c .before .pre .0) (c .before .pre .1 .0))
+add-result c =
+    omega (arith, held-size _ (c .before .pre .0) (c .before .pre .1 .0), held-room _ (c .before .pre .0) (c .before .pre .1 .0))
 
 shared-slice-read-result : tie.Need-shared-slice-read-result
 shared-slice-read-result c =

@@ -44,13 +44,24 @@ loop-less c = ⊎-elim (λ w. omega arith) (λ w. omega arith) (c .if1 .came)
 
 loop-again : tie.Need-loop-again Inv-loop μ-loop
 loop-again c =
-    let at-loop = c .before .before .before in
+    let c3 = c .before .before .before in
+    let at-loop = c3 in
     let entry = at-loop .before .before in
     let l = at-loop .loop in
     let item = row-item _ (l .i) (entry .pre) (omega arith) in
     ⊎-elim
-    (λ w. (omega arith, rw (w .1) (count-hit _ (l .n) (l .i) _ (l .inv .1) (omega arith) (sym item ∙ w .0 .taken)), l .inv .2, omega arith))
-    (λ w. (omega arith, rw (w .1) (count-miss _ (l .n) (l .i) _ (l .inv .1) (omega arith) (λ e. w .0 .left (item ∙ e))), l .inv .2, omega arith))
+    (λ w. (
+      omega arith,
+      rw (w .1) (count-hit _ (l .n) (l .i) _ (l .inv .1) (omega arith) (sym item ∙ w .0 .taken)),
+      l .inv .2,
+      omega arith,
+    ))
+    (λ w. (
+      omega arith,
+      rw (w .1) (count-miss _ (l .n) (l .i) _ (l .inv .1) (omega arith) (λ e. w .0 .left (item ∙ e))),
+      l .inv .2,
+      omega arith,
+    ))
     (c .if1 .came)
 
 returns : tie.Need-returns Inv-loop μ-loop

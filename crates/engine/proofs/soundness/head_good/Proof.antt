@@ -37,7 +37,8 @@ returns-3 c =
     let at-if1 = at-if2 .before .before in
     let entry = at-if1 .before .before .before .before .before .before in
     sym
-    (bad-ceilings (entry .pre) (at-if1 .if1 .left) (at-if2 .if2 .left) _ (at-ceilings-good .ceilings-good .ensures) _ (not-true _ (c .if3 .taken)))
+    (bad-ceilings (entry .pre) (at-if1 .if1 .left) (at-if2 .if2 .left) _ (at-ceilings-good .ceilings-good .ensures) _
+    (not-true _ (c .if3 .taken)))
 
 element-copy-out-result : tie.Need-element-copy-out-result
 element-copy-out-result c = search needs
@@ -47,13 +48,15 @@ element-copy-out-result-2 c = search needs
 
 returns-4 : tie.Need-returns-4
 returns-4 c =
-    let at-if3 = c .before .before in
+    let c2 = c .before .before in
+    let at-if3 = c2 in
     let at-ceilings-good = at-if3 .before in
     let at-if2 = at-ceilings-good .before .before in
     let at-if1 = at-if2 .before .before in
     let entry = at-if1 .before .before .before .before .before .before in
     sym
-    (head-left (entry .pre) (at-if1 .if1 .left) (at-if2 .if2 .left) _ (at-ceilings-good .ceilings-good .ensures) _ (not-false _ (at-if3 .if3 .left)))
+    (head-left (entry .pre) (at-if1 .if1 .left) (at-if2 .if2 .left) _ (at-ceilings-good .ceilings-good .ensures) _
+    (not-false _ (at-if3 .if3 .left)))
 
 pub head-good-spec : {M : Type 1} → statement M
 head-good-spec =

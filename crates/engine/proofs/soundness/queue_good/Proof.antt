@@ -30,7 +30,8 @@ returns-2 c =
     let at-all-below = at-if1 .before in
     let entry = at-all-below .before .before .before .before .before .before in
     let d = entry .pre .0 in
-    c .own-queue .ensures ∙ sym (queue-one d _ ∙ holds-first _ _ (sym (at-all-below .all-below .ensures) ∙ not-false _ (at-if1 .if1 .left)))
+    c .own-queue .ensures ∙ sym (queue-one d _ ∙ holds-first _ _
+    (sym (at-all-below .all-below .ensures) ∙ not-false _ (at-if1 .if1 .left)))
 
 pub queue-good-spec : {M : Type 1} → statement M
 queue-good-spec =

@@ -50,9 +50,12 @@ same-length-3 c = search needs
 returns : tie.Need-returns
 unfolding happen apply delayFits
 returns c =
-    let g = c .before .before .before .before .before .before .before .before .before .before .before .before .before .before .before .before .before .before .pre in
-    happened-as g _ _ (c .before .before .before .before .before .before .before .before .before .before .x .given .1)
-    (outside-happened g (count-kept _ (Clock _)) (moves-of _ (Clock _) (g .valid .sound) refl (c .before .before .before .before .clock .ensures)))
+    let c4 = c .before .before .before .before in
+    let c10 = c4 .before .before .before .before .before .before in
+    let c18 = c10 .before .before .before .before .before .before .before .before in
+    let g = c18 .pre in
+    happened-as g _ _ (c10 .x .given .1)
+    (outside-happened g (count-kept _ (Clock _)) (moves-of _ (Clock _) (g .valid .sound) refl (c4 .clock .ensures)))
 
 same-length-4 : tie.Need-same-length-4
 same-length-4 c = search needs
@@ -66,9 +69,12 @@ same-length-6 c = search needs
 returns-2 : tie.Need-returns-2
 unfolding happen apply delayFits
 returns-2 c =
-    let g = c .before .before .before .before .before .before .before .before .before .before .before .before .before .before .before .before .before .before .pre in
-    happened-as g _ _ (c .before .before .before .before .before .before .before .before .before .before .x2 .given .1)
-    (outside-happened g (count-kept _ (Release _)) (moves-of _ (Release _) (g .valid .sound) refl (c .before .before .before .before .release .ensures)))
+    let c4 = c .before .before .before .before in
+    let c10 = c4 .before .before .before .before .before .before in
+    let c18 = c10 .before .before .before .before .before .before .before .before in
+    let g = c18 .pre in
+    happened-as g _ _ (c10 .x2 .given .1)
+    (outside-happened g (count-kept _ (Release _)) (moves-of _ (Release _) (g .valid .sound) refl (c4 .release .ensures)))
 
 same-length-7 : tie.Need-same-length-7
 same-length-7 c = search needs
@@ -84,7 +90,10 @@ same-length-10 c = search needs
 
 returns-3 : tie.Need-returns-3
 returns-3 c =
-    happened-as (c .before .before .before .before .before .before .before .before .before .before .before .before .before .before .before .before .before .before .before .before .before .before .pre) _ _ (c .before .before .before .before .before .before .before .before .before .before .before .before .before .before .enum-told .given .1) (c .before .before .before .before .before .before .before .before .step .ensures)
+    let c8 = c .before .before .before .before .before .before .before .before in
+    let c14 = c8 .before .before .before .before .before .before in
+    let c22 = c14 .before .before .before .before .before .before .before .before in
+    happened-as (c22 .pre) _ _ (c14 .enum-told .given .1) (c8 .step .ensures)
 
 same-length-11 : tie.Need-same-length-11
 same-length-11 c = search needs
@@ -98,9 +107,12 @@ same-length-13 c = search needs
 returns-4 : tie.Need-returns-4
 unfolding happen apply delayFits
 returns-4 c =
-    let g = c .before .before .before .before .before .before .before .before .before .before .before .before .before .before .before .before .before .before .pre in
-    let value = c .before .before .before .before .before .before .before .before .before .before .x3 .given .0 .1 .0 in
-    happened-as g _ _ (c .before .before .before .before .before .before .before .before .before .before .x3 .given .1) (outside-happened g (count-kept _ (Set _ (record { 0 = value }))) (c .before .before .before .before .set-from .ensures))
+    let c4 = c .before .before .before .before in
+    let c10 = c4 .before .before .before .before .before .before in
+    let c18 = c10 .before .before .before .before .before .before .before .before in
+    let g = c18 .pre in
+    let value = c10 .x3 .given .0 .1 .0 in
+    happened-as g _ _ (c10 .x3 .given .1) (outside-happened g (count-kept _ (Set _ (record { 0 = value }))) (c4 .set-from .ensures))
 
 pub happen-spec : {M : Type 1} → statement M
 happen-spec =

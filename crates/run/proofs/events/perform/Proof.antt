@@ -89,7 +89,10 @@ same-length-3 c = search needs
 returns : tie.Need-returns
 unfolding perform apply delayFits
 returns c =
-    step-moves _ _ _ (Event.the-variants.Enter _) (c .before .before .before .before .before .before .before .before .before .before .before .before .x .given .1) refl (c .before .before .before .before .before .before .before .before .before .before .before .before .before .before .before .before .before .before .pre .sound) refl (c .before .before .before .before .before .before .enter .ensures)
+    let c6 = c .before .before .before .before .before .before in
+    let c12 = c6 .before .before .before .before .before .before in
+    let c18 = c12 .before .before .before .before .before .before in
+    step-moves _ _ _ (Event.the-variants.Enter _) (c12 .x .given .1) refl (c18 .pre .sound) refl (c6 .enter .ensures)
 
 same-length-4 : tie.Need-same-length-4
 same-length-4 c = search needs
@@ -103,7 +106,10 @@ same-length-6 c = search needs
 returns-2 : tie.Need-returns-2
 unfolding perform apply delayFits
 returns-2 c =
-    step-moves _ _ _ (Event.the-variants.Leave _) (c .before .before .before .before .before .before .before .before .before .before .before .before .x2 .given .1) refl (c .before .before .before .before .before .before .before .before .before .before .before .before .before .before .before .before .before .before .pre .sound) refl (c .before .before .before .before .before .before .leave .ensures)
+    let c6 = c .before .before .before .before .before .before in
+    let c12 = c6 .before .before .before .before .before .before in
+    let c18 = c12 .before .before .before .before .before .before in
+    step-moves _ _ _ (Event.the-variants.Leave _) (c12 .x2 .given .1) refl (c18 .pre .sound) refl (c6 .leave .ensures)
 
 same-length-7 : tie.Need-same-length-7
 same-length-7 c = search needs
@@ -119,7 +125,11 @@ unfolding perform apply delayFits
 returns-3 c =
     let d = c .before .before .before .before .before .before .before .before .before .before .x3 .given .0 .0 in
     let fits : d ≤ lastDelay = omega arith in
-    step-moves _ _ _ (Event.the-variants.Delay d) (c .before .before .before .before .before .before .before .before .before .before .x3 .given .1) refl (c .before .before .before .before .before .before .before .before .before .before .before .before .before .before .before .before .pre .sound) (le-leb d lastDelay fits) (c .before .before .before .before .delay .ensures)
+    let c4 = c .before .before .before .before in
+    let c10 = c4 .before .before .before .before .before .before in
+    let c16 = c10 .before .before .before .before .before .before in
+    step-moves _ _ _ (Event.the-variants.Delay d) (c10 .x3 .given .1) refl (c16 .pre .sound) (le-leb d lastDelay fits)
+    (c4 .delay .ensures)
 
 same-length-10 : tie.Need-same-length-10
 same-length-10 c = search needs
@@ -133,7 +143,10 @@ same-length-12 c = search needs
 returns-4 : tie.Need-returns-4
 unfolding perform apply delayFits
 returns-4 c =
-    step-moves _ _ _ Event.the-variants.Work (c .before .before .before .before .before .before .before .before .before .enum-told .given .1) refl (c .before .before .before .before .before .before .before .before .before .before .before .before .before .before .before .pre .sound) refl (c .before .before .before .before .work .ensures)
+    let c4 = c .before .before .before .before in
+    let c9 = c4 .before .before .before .before .before in
+    let c15 = c9 .before .before .before .before .before .before in
+    step-moves _ _ _ Event.the-variants.Work (c9 .enum-told .given .1) refl (c15 .pre .sound) refl (c4 .work .ensures)
 
 same-length-13 : tie.Need-same-length-13
 same-length-13 c = search needs
@@ -147,7 +160,10 @@ same-length-15 c = search needs
 returns-5 : tie.Need-returns-5
 unfolding perform apply delayFits
 returns-5 c =
-    step-moves _ _ _ Event.the-variants.Suspend (c .before .before .before .before .before .before .before .before .before .enum-told2 .given .1) refl (c .before .before .before .before .before .before .before .before .before .before .before .before .before .before .before .pre .sound) refl (c .before .before .before .before .suspend .ensures)
+    let c4 = c .before .before .before .before in
+    let c9 = c4 .before .before .before .before .before in
+    let c15 = c9 .before .before .before .before .before .before in
+    step-moves _ _ _ Event.the-variants.Suspend (c9 .enum-told2 .given .1) refl (c15 .pre .sound) refl (c4 .suspend .ensures)
 
 same-length-16 : tie.Need-same-length-16
 same-length-16 c = search needs
@@ -161,7 +177,10 @@ same-length-18 c = search needs
 returns-6 : tie.Need-returns-6
 unfolding perform apply delayFits
 returns-6 c =
-    step-moves _ _ _ (Event.the-variants.Release _) (c .before .before .before .before .before .before .before .before .before .before .x4 .given .1) refl (c .before .before .before .before .before .before .before .before .before .before .before .before .before .before .before .before .pre .sound) refl (c .before .before .before .before .release .ensures)
+    let c4 = c .before .before .before .before in
+    let c10 = c4 .before .before .before .before .before .before in
+    let c16 = c10 .before .before .before .before .before .before in
+    step-moves _ _ _ (Event.the-variants.Release _) (c10 .x4 .given .1) refl (c16 .pre .sound) refl (c4 .release .ensures)
 
 same-length-19 : tie.Need-same-length-19
 same-length-19 c = search needs
@@ -175,7 +194,10 @@ same-length-21 c = search needs
 returns-7 : tie.Need-returns-7
 unfolding perform apply delayFits
 returns-7 c =
-    step-moves _ _ _ (Event.the-variants.Set _ _) (c .before .before .before .before .before .before .before .before .before .before .x5 .given .1) refl (c .before .before .before .before .before .before .before .before .before .before .before .before .before .before .before .before .pre .sound) refl (c .before .before .before .before .set .ensures)
+    let c4 = c .before .before .before .before in
+    let c10 = c4 .before .before .before .before .before .before in
+    let c16 = c10 .before .before .before .before .before .before in
+    step-moves _ _ _ (Event.the-variants.Set _ _) (c10 .x5 .given .1) refl (c16 .pre .sound) refl (c4 .set .ensures)
 
 returns-8 : tie.Need-returns-8
 returns-8 c =
@@ -193,7 +215,10 @@ same-length-24 c = search needs
 returns-9 : tie.Need-returns-9
 unfolding perform apply delayFits
 returns-9 c =
-    step-moves _ _ _ Event.the-variants.Finish (c .before .before .before .before .before .before .before .before .before .enum-told4 .given .1) refl (c .before .before .before .before .before .before .before .before .before .before .before .before .before .before .before .pre .sound) refl (c .before .before .before .before .finish .ensures)
+    let c4 = c .before .before .before .before in
+    let c9 = c4 .before .before .before .before .before in
+    let c15 = c9 .before .before .before .before .before .before in
+    step-moves _ _ _ Event.the-variants.Finish (c9 .enum-told4 .given .1) refl (c15 .pre .sound) refl (c4 .finish .ensures)
 
 pub perform-spec : {M : Type 1} → statement M
 perform-spec =

@@ -28,7 +28,11 @@ same-length-2 c = search needs
 
 returns : tie.Need-returns
 returns c =
-    set-moves _ _ _ _ (c .before .before .before .before .before .before .before .before .before .before .before .checked .ensures) (c .before .before .before .before .before .before .before .before .before .before .before .before .before .before .before .before .pre .sound) _ (c .before .before .before .before .before .before .before .before .before .p .given .1) (c .before .before .before .before .set .ensures)
+    let c4 = c .before .before .before .before in
+    let c9 = c4 .before .before .before .before .before in
+    let c11 = c9 .before .before in
+    let c16 = c11 .before .before .before .before .before in
+    set-moves _ _ _ _ (c11 .checked .ensures) (c16 .pre .sound) _ (c9 .p .given .1) (c4 .set .ensures)
 
 same-length-3 : tie.Need-same-length-3
 same-length-3 c = search needs
@@ -38,7 +42,11 @@ same-length-4 c = search needs
 
 returns-2 : tie.Need-returns-2
 returns-2 c =
-    other-moves _ _ _ _ (c .before .before .before .before .before .before .before .before .before .before .checked .ensures) (c .before .before .before .before .before .before .before .before .before .before .before .before .before .before .before .pre .sound) _ refl (c .before .before .before .before .before .before .before .before .enum-told .given .1) (c .before .before .before .before .set2 .ensures)
+    let c4 = c .before .before .before .before in
+    let c8 = c4 .before .before .before .before in
+    let c10 = c8 .before .before in
+    let c15 = c10 .before .before .before .before .before in
+    other-moves _ _ _ _ (c10 .checked .ensures) (c15 .pre .sound) _ refl (c8 .enum-told .given .1) (c4 .set2 .ensures)
 
 pub set-from-spec : {M : Type 1} → statement M
 set-from-spec =

@@ -23,7 +23,8 @@ sub-t c = search needs
 
 cast-script-part : tie.Need-cast-script-part
 cast-script-part c =
-    omega (arith, runner-listed (c .before .before .before .before .before .before .before .before .pre) _ (c .if1 .left) refl, tasks-few (c .before .before .before .before .before .before .before .before .args .roster .now) (c .before .before .before .before .before .before .before .before .pre .form))
+    let c8 = c .before .before .before .before .before .before .before .before in
+    omega (arith, runner-listed (c8 .pre) _ (c .if1 .left) refl, tasks-few (c8 .args .roster .now) (c8 .pre .form))
 
 script-part-requires : tie.Need-script-part-requires
 script-part-requires c κs =
@@ -31,11 +32,14 @@ script-part-requires c κs =
 
 mul-k : tie.Need-mul-k
 mul-k c =
-    omega (arith, runner-placed (c .before .before .before .before .before .before .before .before .before .pre) _ (c .before .if1 .left) refl)
+    let c9 = c .before .before .before .before .before .before .before .before .before in
+    omega (arith, runner-placed (c9 .pre) _ (c .before .if1 .left) refl)
 
 slice-read-k : tie.Need-slice-read-k
 slice-read-k c =
-    runner-placed (c .before .before .before .before .before .before .before .before .before .before .pre) _ (c .before .before .if1 .left) refl
+    let c2 = c .before .before in
+    let c10 = c2 .before .before .before .before .before .before .before .before in
+    runner-placed (c10 .pre) _ (c2 .if1 .left) refl
 
 cast-step-at : tie.Need-cast-step-at
 cast-step-at c =
@@ -62,23 +66,39 @@ same-length-3 c = search needs
 
 returns-2 : tie.Need-returns-2
 returns-2 c =
-    step-refused (c .before .before .before .before .before .before .before .before .before .before .before .before .before .before .before .before .before .before .before .before .before .before .before .before .pre) _ (c .before .before .before .before .before .before .before .before .before .before .before .before .before .before .before .before .if1 .left) refl (c .before .before .before .before .before .before .before .before .before .before .before .before .before .before .before .script-part .ensures) refl (c .before .before .before .before .before .before .before .before .before .before .before .before .before .step-at .ensures) _ (c .before .number .ensures)
-    (c .if2 .taken) (c .before .before .before .before .before .before .before .before .perform .ensures)
+    let c8 = c .before .before .before .before .before .before .before .before in
+    let c13 = c8 .before .before .before .before .before in
+    let c15 = c13 .before .before in
+    let c16 = c15 .before in
+    let c24 = c16 .before .before .before .before .before .before .before .before in
+    step-refused (c24 .pre) _ (c16 .if1 .left) refl (c15 .script-part .ensures) refl (c13 .step-at .ensures) _
+    (c .before .number .ensures)
+    (c .if2 .taken) (c8 .perform .ensures)
 
 position-after-requires : tie.Need-position-after-requires
 position-after-requires c κs =
-    let a = c .before .before .before .before .before .before .before .before .before .before .before .before .before .before .before .before .before .before .before .before .before .before .before .before .args in
+    let c13 = c .before .before .before .before .before .before .before .before .before .before .before .before .before in
+    let c14 = c13 .before in
+    let c15 = c14 .before in
+    let c24 = c15 .before .before .before .before .before .before .before .before .before in
+    let a = c24 .args in
     let t = getD (a .head .now) runningCell 0 - 1 in
-    let small : getD (a .positions .now) t 0 < 65536 = omega (arith, c .before .before .before .before .before .before .before .before .before .before .before .before .before .before .slice-known5 .given t) in
-    position-fits (a .roster .now) _ t _ _ (c .before .before .before .before .before .before .before .before .before .before .before .before .before .before .before .before .before .before .before .before .before .before .before .before .pre .form) (c .before .before .before .before .before .before .before .before .before .before .before .before .before .before .before .script-part .ensures) small (c .before .before .before .before .before .before .before .before .before .before .before .before .before .step-at .ensures)
+    let small : getD (a .positions .now) t 0 < 65536 = omega (arith, c14 .slice-known5 .given t) in
+    position-fits (a .roster .now) _ t _ _ (c24 .pre .form) (c15 .script-part .ensures) small (c13 .step-at .ensures)
 
 mul-positions : tie.Need-mul-positions
 mul-positions c =
-    omega (arith, runner-placed (c .before .before .before .before .before .before .before .before .before .before .before .before .before .before .before .before .before .before .before .before .before .before .before .before .before .pre) _ (c .before .before .before .before .before .before .before .before .before .before .before .before .before .before .before .before .before .if1 .left) refl)
+    let c12 = c .before .before .before .before .before .before .before .before .before .before .before .before in
+    let c17 = c12 .before .before .before .before .before in
+    let c25 = c17 .before .before .before .before .before .before .before .before in
+    omega (arith, runner-placed (c25 .pre) _ (c17 .if1 .left) refl)
 
 slice-write-positions : tie.Need-slice-write-positions
 slice-write-positions c =
-    runner-placed (c .before .before .before .before .before .before .before .before .before .before .before .before .before .before .before .before .before .before .before .before .before .before .before .before .before .pre) _ (c .before .before .before .before .before .before .before .before .before .before .before .before .before .before .before .before .before .if1 .left) refl
+    let c12 = c .before .before .before .before .before .before .before .before .before .before .before .before in
+    let c17 = c12 .before .before .before .before .before in
+    let c25 = c17 .before .before .before .before .before .before .before .before in
+    runner-placed (c25 .pre) _ (c17 .if1 .left) refl
 
 same-length-4 : tie.Need-same-length-4
 same-length-4 c = search needs
@@ -94,8 +114,14 @@ same-length-7 c = search needs
 
 returns-3 : tie.Need-returns-3
 returns-3 c =
-    step-accepted (c .before .before .before .before .before .before .before .before .before .before .before .before .before .before .before .before .before .before .before .before .before .before .before .before .before .pre) _ (c .before .before .before .before .before .before .before .before .before .before .before .before .before .before .before .before .before .if1 .left) refl (c .before .before .before .before .before .before .before .before .before .before .before .before .before .before .before .before .script-part .ensures) refl (c .before .before .before .before .before .before .before .before .before .before .before .before .before .before .step-at .ensures) _ _ (c .before .before .number .ensures)
-    (c .before .if2 .left) (c .position-after .ensures) (c .before .before .before .before .before .before .before .before .before .perform .ensures)
+    let c2 = c .before .before in
+    let c9 = c2 .before .before .before .before .before .before .before in
+    let c14 = c9 .before .before .before .before .before in
+    let c16 = c14 .before .before in
+    let c17 = c16 .before in
+    let c25 = c17 .before .before .before .before .before .before .before .before in
+    step-accepted (c25 .pre) _ (c17 .if1 .left) refl (c16 .script-part .ensures) refl (c14 .step-at .ensures) _ _ (c2 .number .ensures)
+    (c .before .if2 .left) (c .position-after .ensures) (c9 .perform .ensures)
 
 pub step-spec : {M : Type 1} → statement M
 step-spec =

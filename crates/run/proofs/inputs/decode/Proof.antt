@@ -22,12 +22,14 @@ if-unused-requires-3 c κs = search needs
 returns : tie.Need-returns
 unfolding decode
 returns c =
-    c .if-unused .ensures ∙ sym (ap (λ (x : ℕ). decode x (c .before .before .args .a) (c .before .before .args .value)) (c .before .match .keys1))
+    let c2 = c .before .before in
+    c .if-unused .ensures ∙ sym (ap (λ (x : ℕ). decode x (c2 .args .a) (c2 .args .value)) (c .before .match .keys1))
 
 returns-2 : tie.Need-returns-2
 unfolding decode
 returns-2 c =
-    c .if-unused2 .ensures ∙ sym (ap (λ (x : ℕ). decode x (c .before .before .args .a) (c .before .before .args .value)) (c .before .match .keys2))
+    let c2 = c .before .before in
+    c .if-unused2 .ensures ∙ sym (ap (λ (x : ℕ). decode x (c2 .args .a) (c2 .args .value)) (c .before .match .keys2))
 
 returns-3 : tie.Need-returns-3
 returns-3 c =

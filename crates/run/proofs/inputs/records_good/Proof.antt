@@ -30,8 +30,11 @@ is-good-requires c κs = search needs
 
 returns : tie.Need-returns Inv-loop μ-loop
 returns c =
-    turn-fails (recordGood (c .before .before .before .before .before .before .args .s .now)) _ _ _ _ refl (c .before .before .before .loop-test .taken)
-    (record-is _ _ _ _ (c .before .before .decoded-at .ensures) (c .before .is-good .ensures)) (not-true _ (c .if1 .taken))
+    let c2 = c .before .before in
+    let c3 = c2 .before in
+    let c6 = c3 .before .before .before in
+    turn-fails (recordGood (c6 .args .s .now)) _ _ _ _ refl (c3 .loop-test .taken)
+    (record-is _ _ _ _ (c2 .decoded-at .ensures) (c .before .is-good .ensures)) (not-true _ (c .if1 .taken))
 
 add-i : tie.Need-add-i Inv-loop μ-loop
 add-i c = omega arith
@@ -40,15 +43,19 @@ loop-less : tie.Need-loop-less Inv-loop μ-loop
 loop-less c = omega arith
 
 loop-again : tie.Need-loop-again Inv-loop μ-loop
-loop-again c = (
-  omega arith,
-  turn-on (recordGood (c .before .before .before .before .before .before .args .s .now)) _ _ (c .before .before .before .before .loop .inv .1)
-      (record-is _ _ _ _ (c .before .before .decoded-at .ensures) (c .before .is-good .ensures)) (not-false _ (c .if1 .left)),
-)
+loop-again c =
+    let c2 = c .before .before in
+    let c4 = c2 .before .before in
+    let c6 = c4 .before .before in (
+      omega arith,
+      turn-on (recordGood (c6 .args .s .now)) _ _ (c4 .loop .inv .1)
+          (record-is _ _ _ _ (c2 .decoded-at .ensures) (c .before .is-good .ensures)) (not-false _ (c .if1 .left)),
+    )
 
 returns-2 : tie.Need-returns-2 Inv-loop μ-loop
 returns-2 c =
-    turns-end (recordGood (c .before .before .before .args .s .now)) _ _ _ refl (c .before .loop .inv .0) (c .loop-test .left) (c .before .loop .inv .1)
+    let c3 = c .before .before .before in
+    turns-end (recordGood (c3 .args .s .now)) _ _ _ refl (c .before .loop .inv .0) (c .loop-test .left) (c .before .loop .inv .1)
 
 pub records-good-spec : {M : Type 1} → statement M
 records-good-spec =

@@ -104,7 +104,12 @@ put-number-put-byte-requires-2 : (t : ℕ) → put-number-lts.Need-put-byte-requ
   put-number.Post,
 ) (put-number-at t) put-number.Post
 put-number-put-byte-requires-2 t c κs =
-    omega (arith, put-length (c .before .before .before .put-number .ensures), decimal-room (c .before .before .before .before .before .before .before .args .n) (c .before .before .before .before .before .if1 .left))
+    omega (
+      arith,
+      put-length (c .before .before .before .put-number .ensures),
+      decimal-room
+          (c .before .before .before .before .before .before .before .args .n) (c .before .before .before .before .before .if1 .left),
+    )
 
 put-number-same-length-2 : (t : ℕ) → put-number-lts.Need-same-length-2 (
   put-byte-reads.Asked,
@@ -113,7 +118,8 @@ put-number-same-length-2 : (t : ℕ) → put-number-lts.Need-same-length-2 (
   put-number.Post,
 ) (put-number-at t) put-number.Post
 put-number-same-length-2 t c =
-    put-length (c .before .before .put-byte2 .ensures) ∙ put-length (c .before .before .before .before .before .before .put-number .ensures)
+    put-length (c .before .before .put-byte2 .ensures) ∙ put-length
+    (c .before .before .before .before .before .before .put-number .ensures)
 
 put-number-returns-2 : (t : ℕ) → put-number-lts.Need-returns-2 (
   put-byte-reads.Asked,
@@ -122,7 +128,8 @@ put-number-returns-2 : (t : ℕ) → put-number-lts.Need-returns-2 (
   put-number.Post,
 ) (put-number-at t) put-number.Post
 put-number-returns-2 t c =
-    put-digits _ _ (c .before .before .before .before .before .before .before .before .if1 .left) refl (c .before .before .before .before .before .before .put-number .ensures) (c .before .before .put-byte2 .ensures)
+    put-digits _ _ (c .before .before .before .before .before .before .before .before .if1 .left) refl
+    (c .before .before .before .before .before .before .put-number .ensures) (c .before .before .put-byte2 .ensures)
 
 pub +put-number-spec : {M : Type 1} → statement M
 +put-number-spec = close μ-put-number λ t. put-number-lts.spec (

@@ -28,8 +28,13 @@ same-length c = search needs
 
 returns-2 : tie.Need-returns-2
 returns-2 c =
-    lines-passed _ _ _ (sym (c .before .before .before .before .before .before .before .has-room .ensures) ∙ not-false _ (c .before .before .before .before .before .before .if1 .left)) (sym (c .before .before .before .before .before .number .ensures) ∙ c .before .before .before .before .if2 .taken)
-    (c .before .before .put-passed .ensures)
+    let c2 = c .before .before in
+    let c4 = c2 .before .before in
+    let c5 = c4 .before in
+    let c6 = c5 .before in
+    let c7 = c6 .before in
+    lines-passed _ _ _ (sym (c7 .has-room .ensures) ∙ not-false _ (c6 .if1 .left)) (sym (c5 .number .ensures) ∙ c4 .if2 .taken)
+    (c2 .put-passed .ensures)
 
 task-requires : tie.Need-task-requires
 task-requires c κs = search needs
@@ -40,8 +45,12 @@ position-requires c κs = search needs
 put-refused-requires : tie.Need-put-refused-requires
 unfolding roomFor
 put-refused-requires c κs =
-    let a = c .before .before .before .before .before .before .before .before .before .args in
-    let room : roomFor (a .pairs .now) ≤ length (a .out .now) = leb-true _ _ (sym (c .before .before .before .before .before .before .has-room .ensures) ∙ not-false _ (c .before .before .before .before .before .if1 .left)) in
+    let c5 = c .before .before .before .before .before in
+    let c6 = c5 .before in
+    let c9 = c6 .before .before .before in
+    let a = c9 .args in
+    let room : roomFor (a .pairs .now) ≤ length (a .out .now) = leb-true _ _
+    (sym (c6 .has-room .ensures) ∙ not-false _ (c5 .if1 .left)) in
     omega arith
 
 same-length-2 : tie.Need-same-length-2
@@ -49,8 +58,15 @@ same-length-2 c = search needs
 
 returns-3 : tie.Need-returns-3
 returns-3 c =
-    lines-refused _ _ _ _ _ _ (sym (c .before .before .before .before .before .before .before .before .before .has-room .ensures) ∙ not-false _ (c .before .before .before .before .before .before .before .before .if1 .left)) (c .before .before .before .before .before .before .before .number .ensures) (c .before .before .before .before .task .ensures)
-    (c .before .before .before .position .ensures) (c .before .before .before .before .before .before .if2 .left) (c .before .before .put-refused .ensures)
+    let c2 = c .before .before in
+    let c3 = c2 .before in
+    let c4 = c3 .before in
+    let c6 = c4 .before .before in
+    let c7 = c6 .before in
+    let c8 = c7 .before in
+    let c9 = c8 .before in
+    lines-refused _ _ _ _ _ _ (sym (c9 .has-room .ensures) ∙ not-false _ (c8 .if1 .left)) (c7 .number .ensures) (c4 .task .ensures)
+    (c3 .position .ensures) (c6 .if2 .left) (c2 .put-refused .ensures)
 
 pub lines-spec : {M : Type 1} → statement M
 lines-spec =

@@ -10,20 +10,29 @@ put-number-requires c κs = omega (arith, pair-length (c .before .before .args .
 
 put-byte-requires : tie.Need-put-byte-requires
 put-byte-requires c κs =
-    omega (arith, pair-length (c .before .before .before .before .before .before .args .a) (c .before .before .before .before .before .before .args .r), put-length (c .before .before .before .put-number .ensures))
+    let c3 = c .before .before .before in
+    let c6 = c3 .before .before .before in
+    omega (arith, pair-length (c6 .args .a) (c6 .args .r), put-length (c3 .put-number .ensures))
 
 put-running-requires : tie.Need-put-running-requires
 put-running-requires c κs =
-    omega (arith, pair-length (c .before .before .before .before .before .before .before .before .before .before .args .a) (c .before .before .before .before .before .before .before .before .before .before .args .r), put-length (c .before .before .before .before .before .before .before .put-number .ensures), put-length (c .before .before .before .put-byte .ensures))
+    let c3 = c .before .before .before in
+    let c7 = c3 .before .before .before .before in
+    let c10 = c7 .before .before .before in
+    omega (arith, pair-length (c10 .args .a) (c10 .args .r), put-length (c7 .put-number .ensures), put-length (c3 .put-byte .ensures))
 
 put-byte-requires-2 : tie.Need-put-byte-requires-2
 put-byte-requires-2 c κs =
+    let c3 = c .before .before .before in
+    let c7 = c3 .before .before .before .before in
+    let c11 = c7 .before .before .before .before in
+    let c14 = c11 .before .before .before in
     omega (
       arith,
-      pair-length (c .before .before .before .before .before .before .before .before .before .before .before .before .before .before .args .a) (c .before .before .before .before .before .before .before .before .before .before .before .before .before .before .args .r),
-      put-length (c .before .before .before .before .before .before .before .before .before .before .before .put-number .ensures),
-      put-length (c .before .before .before .before .before .before .before .put-byte .ensures),
-      put-length (c .before .before .before .put-running .ensures),
+      pair-length (c14 .args .a) (c14 .args .r),
+      put-length (c11 .put-number .ensures),
+      put-length (c7 .put-byte .ensures),
+      put-length (c3 .put-running .ensures),
     )
 
 same-length : tie.Need-same-length
@@ -31,7 +40,11 @@ same-length c = search needs
 
 returns : tie.Need-returns
 returns c =
-    put-pair _ _ (c .before .before .before .before .before .before .before .before .before .before .before .before .before .before .put-number .ensures) (c .before .before .before .before .before .before .before .before .before .before .put-byte .ensures) (c .before .before .before .before .before .before .put-running .ensures) (c .before .before .put-byte2 .ensures)
+    let c2 = c .before .before in
+    let c6 = c2 .before .before .before .before in
+    let c10 = c6 .before .before .before .before in
+    let c14 = c10 .before .before .before .before in
+    put-pair _ _ (c14 .put-number .ensures) (c10 .put-byte .ensures) (c6 .put-running .ensures) (c2 .put-byte2 .ensures)
 
 pub put-pair-spec : {M : Type 1} → statement M
 put-pair-spec =

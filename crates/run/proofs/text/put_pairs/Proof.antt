@@ -70,7 +70,10 @@ same-length c = c .before .loop .inv .1
 
 returns : tie.Need-returns Inv-loop μ-loop
 returns c =
-    (left-end (pairs-end (c .before .before .before .before .args .pairs .now) (c .before .loop .i) (c .loop-test .left)) (omega arith) (c .before .loop .inv .3), omega arith)
+    let c4 = c .before .before .before .before in (
+      left-end (pairs-end (c4 .args .pairs .now) (c .before .loop .i) (c .loop-test .left)) (omega arith) (c .before .loop .inv .3),
+      omega arith,
+    )
 
 pub put-pairs-spec : {M : Type 1} → statement M
 put-pairs-spec =

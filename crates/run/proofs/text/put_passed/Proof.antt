@@ -20,7 +20,9 @@ put-byte-requires c κs = omega (arith, put-length (c .before .before .before .p
 put-pairs-requires : tie.Need-put-pairs-requires
 unfolding roomFor
 put-pairs-requires c κs =
-    omega (arith, put-length (c .before .before .before .before .before .before .before .put .ensures), put-length (c .before .before .before .put-byte .ensures))
+    let c3 = c .before .before .before in
+    let c7 = c3 .before .before .before .before in
+    omega (arith, put-length (c7 .put .ensures), put-length (c3 .put-byte .ensures))
 
 slice-aggregate-put-2 : tie.Need-slice-aggregate-put-2
 slice-aggregate-put-2 c = search needs
@@ -28,17 +30,24 @@ slice-aggregate-put-2 c = search needs
 put-requires-2 : tie.Need-put-requires-2
 unfolding roomFor
 put-requires-2 c κs =
-    omega (arith, put-length (c .before .before .before .before .before .before .before .before .before .before .before .before .put .ensures), put-length (c .before .before .before .before .before .before .before .before .put-byte .ensures), put-length (c .before .before .before .before .put-pairs .ensures .0))
+    let c4 = c .before .before .before .before in
+    let c8 = c4 .before .before .before .before in
+    let c12 = c8 .before .before .before .before in
+    omega (arith, put-length (c12 .put .ensures), put-length (c8 .put-byte .ensures), put-length (c4 .put-pairs .ensures .0))
 
 put-byte-requires-2 : tie.Need-put-byte-requires-2
 unfolding roomFor
 put-byte-requires-2 c κs =
+    let c3 = c .before .before .before in
+    let c8 = c3 .before .before .before .before .before in
+    let c12 = c8 .before .before .before .before in
+    let c16 = c12 .before .before .before .before in
     omega (
       arith,
-      put-length (c .before .before .before .before .before .before .before .before .before .before .before .before .before .before .before .before .put .ensures),
-      put-length (c .before .before .before .before .before .before .before .before .before .before .before .before .put-byte .ensures),
-      put-length (c .before .before .before .before .before .before .before .before .put-pairs .ensures .0),
-      put-length (c .before .before .before .put2 .ensures),
+      put-length (c16 .put .ensures),
+      put-length (c12 .put-byte .ensures),
+      put-length (c8 .put-pairs .ensures .0),
+      put-length (c3 .put2 .ensures),
     )
 
 same-length : tie.Need-same-length
@@ -46,7 +55,12 @@ same-length c = search needs
 
 returns : tie.Need-returns
 returns c =
-    put-passed _ (c .before .before .before .before .before .before .before .before .before .before .before .before .before .before .before .before .before .before .before .put .ensures) (c .before .before .before .before .before .before .before .before .before .before .before .before .before .before .before .put-byte .ensures) (c .before .before .before .before .before .before .before .before .before .before .before .put-pairs .ensures .0) (c .before .before .before .before .before .before .put2 .ensures) (c .before .before .put-byte2 .ensures)
+    let c2 = c .before .before in
+    let c6 = c2 .before .before .before .before in
+    let c11 = c6 .before .before .before .before .before in
+    let c15 = c11 .before .before .before .before in
+    let c19 = c15 .before .before .before .before in
+    put-passed _ (c19 .put .ensures) (c15 .put-byte .ensures) (c11 .put-pairs .ensures .0) (c6 .put2 .ensures) (c2 .put-byte2 .ensures)
 
 pub put-passed-spec : {M : Type 1} → statement M
 put-passed-spec =

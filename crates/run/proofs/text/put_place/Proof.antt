@@ -24,28 +24,43 @@ put-byte-requires c κs =
 
 put-number-requires : tie.Need-put-number-requires
 put-number-requires c κs =
-    let a = c .before .before .before .before .before .before .before .before .args in
-    omega (arith, place-length (a .number) (a .task) (a .position) (c .before .before .before .before .before .before .if1 .left) (c .before .before .before .before .before .if2 .left), put-length (c .before .before .before .put-byte .ensures))
+    let c3 = c .before .before .before in
+    let c5 = c3 .before .before in
+    let c6 = c5 .before in
+    let c8 = c6 .before .before in
+    let a = c8 .args in
+    omega (arith, place-length (a .number) (a .task) (a .position) (c6 .if1 .left) (c5 .if2 .left), put-length (c3 .put-byte .ensures))
 
 put-byte-requires-2 : tie.Need-put-byte-requires-2
 put-byte-requires-2 c κs =
-    let a = c .before .before .before .before .before .before .before .before .before .before .before .before .args in
+    let c3 = c .before .before .before in
+    let c7 = c3 .before .before .before .before in
+    let c9 = c7 .before .before in
+    let c10 = c9 .before in
+    let c12 = c10 .before .before in
+    let a = c12 .args in
     omega (
       arith,
-      place-length (a .number) (a .task) (a .position) (c .before .before .before .before .before .before .before .before .before .before .if1 .left) (c .before .before .before .before .before .before .before .before .before .if2 .left),
-      put-length (c .before .before .before .before .before .before .before .put-byte .ensures),
-      put-length (c .before .before .before .put-number .ensures),
+      place-length (a .number) (a .task) (a .position) (c10 .if1 .left) (c9 .if2 .left),
+      put-length (c7 .put-byte .ensures),
+      put-length (c3 .put-number .ensures),
     )
 
 put-number-requires-2 : tie.Need-put-number-requires-2
 put-number-requires-2 c κs =
-    let a = c .before .before .before .before .before .before .before .before .before .before .before .before .before .before .before .before .args in
+    let c3 = c .before .before .before in
+    let c7 = c3 .before .before .before .before in
+    let c11 = c7 .before .before .before .before in
+    let c13 = c11 .before .before in
+    let c14 = c13 .before in
+    let c16 = c14 .before .before in
+    let a = c16 .args in
     omega (
       arith,
-      place-length (a .number) (a .task) (a .position) (c .before .before .before .before .before .before .before .before .before .before .before .before .before .before .if1 .left) (c .before .before .before .before .before .before .before .before .before .before .before .before .before .if2 .left),
-      put-length (c .before .before .before .before .before .before .before .before .before .before .before .put-byte .ensures),
-      put-length (c .before .before .before .before .before .before .before .put-number .ensures),
-      put-length (c .before .before .before .put-byte2 .ensures),
+      place-length (a .number) (a .task) (a .position) (c14 .if1 .left) (c13 .if2 .left),
+      put-length (c11 .put-byte .ensures),
+      put-length (c7 .put-number .ensures),
+      put-length (c3 .put-byte2 .ensures),
     )
 
 same-length : tie.Need-same-length
@@ -53,8 +68,14 @@ same-length c = search needs
 
 returns-3 : tie.Need-returns-3
 returns-3 c =
-    put-place _ _ _ (c .before .before .before .before .before .before .before .before .before .before .before .before .before .before .before .before .before .if1 .left) (c .before .before .before .before .before .before .before .before .before .before .before .before .before .before .before .before .if2 .left) (c .before .before .before .before .before .before .before .before .before .before .before .before .before .before .put-byte .ensures) (c .before .before .before .before .before .before .before .before .before .before .put-number .ensures) (c .before .before .before .before .before .before .put-byte2 .ensures)
-    (c .before .before .put-number2 .ensures)
+    let c2 = c .before .before in
+    let c6 = c2 .before .before .before .before in
+    let c10 = c6 .before .before .before .before in
+    let c14 = c10 .before .before .before .before in
+    let c16 = c14 .before .before in
+    let c17 = c16 .before in
+    put-place _ _ _ (c17 .if1 .left) (c16 .if2 .left) (c14 .put-byte .ensures) (c10 .put-number .ensures) (c6 .put-byte2 .ensures)
+    (c2 .put-number2 .ensures)
 
 pub put-place-spec : {M : Type 1} → statement M
 put-place-spec =
