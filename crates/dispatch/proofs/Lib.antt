@@ -7,3 +7,4 @@ pub mod TestLaws
 pub mod ApplyLaws
 pub mod ReaderLaws
 pub mod FreshLaws
+pub mod MethodLaws

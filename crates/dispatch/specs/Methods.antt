@@ -20,9 +20,13 @@ use Rattle.dispatch.specs.Sound.{soundOf}
 unfoldable pub answered : State → Moved → Stepped
 answered s r = record { answer = r .answer; state = cond (eqb (numberOf (r .answer)) 0) (encode (r .model)) s }
 
--- 10, "unsound state", "is tested first"; then what the rule says
+-- 10, "unsound state"
+abbrev pub unsound : State → Stepped
+unsound s = record { answer = Unsound; state = s }
+
+-- "10 is tested first"; then what the rule says
 unfoldable pub appliedOf : State → Event → Stepped
-appliedOf s e = cond (soundOf s) (answered s (apply (view s) e)) (record { answer = Unsound; state = s })
+appliedOf s e = cond (soundOf s) (answered s (apply (view s) e)) (unsound s)
 
 -- each method
 abbrev pub enterOf : State → ℕ → Stepped

@@ -2,6 +2,7 @@
 mod apply;
 mod fresh;
 mod load;
+mod methods;
 mod readers;
 mod sizes;
 mod store;

@@ -1,0 +1,53 @@
+-- Laws of the methods: the test of soundness, and the three ways of an event.
+use mathlib.Core.Path.{_≡_, refl, ap, _∙_, sym}
+use mathlib.Core.Bool.{Bool, true, false, cond, _&&_}
+use mathlib.Core.List.{List}
+use Prim.Native.Nat.{ℕ}
+use borrow.Author.Tests.{eq-eqb, ne-eqb}
+use lib.Dec.{eqb}
+use Rattle.rules.specs.Answers.{numberOf}
+use Rattle.rules.specs.Model.{Model}
+use Rattle.rules.specs.Events.{apply}
+use Rattle.rules.specs.Sound.{sound}
+use Rattle.rules.specs.declared.Event.{Event}
+use Rattle.rules.specs.declared.Answer.{Answer}
+use Rattle.engine.specs.Memory.{modelOf, Means, Valid, Did}
+use Rattle.dispatch.specs.declared.State.{State}
+use Rattle.dispatch.specs.declared.Stepped.{Stepped}
+use Rattle.dispatch.specs.State.{view, encode}
+use Rattle.dispatch.specs.Sound.{sizesFit, soundOf}
+use Rattle.dispatch.specs.Methods.{answered, unsound, appliedOf}
+
+module _ (s : State) where
+  -- sizes that do not fit
+  pub unfit : sizesFit s ≡ false → false ≡ soundOf s
+  unfolding soundOf
+  unfit e = rw e
+
+  pub unsound-by : (e : Event) → soundOf s ≡ false → unsound s ≡ appliedOf s e
+  unfolding appliedOf
+  unsound-by e f = rw f
+
+  module _ (fit : sizesFit s ≡ true) {h ts hd cs qs : List ℕ} (m : Means h ts hd cs qs (view s)) where
+    -- sizes that fit: the slices are tested
+    pub tested : (r : Bool) → r ≡ sound (modelOf h ts hd cs qs) → r ≡ soundOf s
+    unfolding soundOf
+    tested r e = e ∙ rw (m .same, fit)
+
+    pub valid : (r : Bool) → r ≡ sound (modelOf h ts hd cs qs) → r ≡ true → Valid h ts hd cs qs
+    valid r e f = record { laid = m .laid; sound = sym e ∙ f }
+
+    -- an event on them
+    module _ (e : Event) (good : soundOf s ≡ true) {h' ts' hd' cs' qs' : List ℕ} (a : Answer)
+        (d : Did h' ts' hd' cs' qs' a (apply (modelOf h ts hd cs qs) e)) (n : ℕ) (i : n ≡ numberOf a) where
+      by-rule : appliedOf s e ≡ answered s (apply (modelOf h ts hd cs qs) e)
+      unfolding appliedOf
+      by-rule = rw (good, m .same)
+
+      pub refused-by : (n ≡ 0 → ⊥) → record { answer = a; state = s } ≡ appliedOf s e
+      unfolding answered
+      refused-by z = sym (by-rule ∙ rw (← d .answer, ← i, ne-eqb n 0 z))
+
+      pub accepted-by : n ≡ 0 → (t : State) → t ≡ encode (modelOf h' ts' hd' cs' qs') → record { answer = a; state = t } ≡ appliedOf s e
+      unfolding answered
+      accepted-by z t f = sym (by-rule ∙ rw (← d .answer, ← i, eq-eqb n 0 z, f, d .same))
