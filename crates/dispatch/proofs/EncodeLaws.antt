@@ -141,8 +141,10 @@ module _ {h ts hd cs qs : List ℕ} (d : Laid h ts hd cs qs) where
   pub held-back : encode (modelOf h ts hd cs qs) .held ≡ hd
   unfolding encode
   held-back =
-      let back = padded-back holding (taskCount h) taskLimit (allRecords ts hd) blank (omega (arith, records-count ts hd, d .count)) (d .unused) in
-      ap (flatMap (rowFor heldWidth)) (back ∙ together-held (tasksIn ts) (heldIn hd) same-count) ∙ lists-back heldWidth taskLimit hd (d .held)
+      let back = padded-back holding (taskCount h) taskLimit (allRecords ts hd) blank
+      (omega (arith, records-count ts hd, d .count)) (d .unused) in
+      ap (flatMap (rowFor heldWidth)) (back ∙ together-held (tasksIn ts) (heldIn hd) same-count) ∙ lists-back heldWidth taskLimit
+      hd (d .held)
 
   pub ceilings-back : encode (modelOf h ts hd cs qs) .ceilings ≡ map priority cs
   unfolding encode
@@ -155,7 +157,16 @@ module _ {h ts hd cs qs : List ℕ} (d : Laid h ts hd cs qs) where
   -- the whole
   pub encode-back : (now tasks objects : ℕ) → now ≡ getD h nowCell 0 → tasks ≡ taskCount h → objects ≡ objectCount h →
       (w : _) → w ≡ runnerOf (getD h runningCell 0) → (ks : List Task) → ks ≡ tasksIn ts → (ps : List Priority) → ps ≡ map priority cs →
-      record { now = now; running = w; «task_count» = tasks; «object_count» = objects; tasks = ks; held = hd; ceilings = ps; queues = qs } ≡
+      record {
+        now = now;
+        running = w;
+        «task_count» = tasks;
+        «object_count» = objects;
+        tasks = ks;
+        held = hd;
+        ceilings = ps;
+        queues = qs;
+      } ≡
       encode (modelOf h ts hd cs qs)
   unfolding encode
   encode-back now tasks objects e f g w i ks j ps k =

@@ -1,4 +1,5 @@
--- What a function knows of a state that it is handed: its arrays have their lengths. `known s _ (c .good .0)` where the state is the first parameter.
+-- What a function knows of a state that it is handed: its arrays have their lengths.
+-- `known s _ (c .good .0)` where the state is the first parameter.
 use mathlib.Core.Path.{_≡_, _∙_, sym}
 use mathlib.Core.List.{List, map}
 use Prim.Native.Nat.{ℕ, _*_}

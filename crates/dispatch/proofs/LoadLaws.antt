@@ -26,9 +26,11 @@ use Rattle.dispatch.specs.declared.State.{State}
 use Rattle.dispatch.specs.State.{level, view, padded}
 use Rattle.dispatch.specs.Sound.{lengthsGood, sizesFit}
 use Rattle.dispatch.specs.Loading.{codeOf, Shaped, TasksLoaded}
-use Rattle.dispatch.proofs.ListLaws.{padded-length, padded-front, padded-rest, over, over-step, over-blank, drop-replicate, take-replicate}
+use Rattle.dispatch.proofs.ListLaws.{padded-length, padded-front, padded-rest, over}
+use Rattle.dispatch.proofs.ListLaws.{over-step, over-blank, drop-replicate, take-replicate}
 use Rattle.dispatch.proofs.EncodeLaws.{together-append, together-length, together-take, together-blank}
-use Rattle.dispatch.proofs.FlatLaws.{Short, short-take, lists-next, short-padded, flat-append, flat-padded, flat-length, lists-of, lists-good, lists-front, lengths-short}
+use Rattle.dispatch.proofs.FlatLaws.{Short, short-take, lists-next, short-padded, flat-append}
+use Rattle.dispatch.proofs.FlatLaws.{flat-padded, flat-length, lists-of, lists-good, lists-front, lengths-short}
 
 -- a row over zeros
 pub row-loaded : (r : List ℕ) (i : ℕ) → getD r 0 0 < length r → i ≡ getD r 0 0 + 1 →
@@ -148,7 +150,15 @@ together-padded ks ls n a b =
     let blanks : List Task = replicate (taskLimit - n) blankTask in
     let empty : List (List ℕ) = replicate (taskLimit - n) [] in
     let count = together-length (take n ks) (take n ls) (k ∙ sym l) ∙ k in
-    rw (← together-take n ks ls, count, k, l, together-append (take n ks) blanks (take n ls) empty (k ∙ sym l), together-blank (taskLimit - n))
+    rw (
+      ← together-take n ks ls,
+      count,
+      k,
+      l,
+      together-append (take n ks) blanks (take n ls) empty (k ∙ sym l),
+      together-blank
+          (taskLimit - n),
+    )
 
 -- what fits: the counts and the lengths
 pub record Fitting (s : State) : Type 0 where

@@ -104,38 +104,37 @@ pub struct Memory {
     pub queues: [u8; QUEUE_CELLS],
 }
 
-impl State {
-    pub fn load(self) -> Memory
-        requires { ⌜ sizesFit self ≡ true ⌝ }
-        ensures { λ r. ⌜ Means (r .head) (r .tasks) (r .held) (r .ceilings) (r .queues) (view self) ⌝ }
-    {
-        let n = self.task_count as usize;
-        let running = self.running;
-        let code = running_code(running);
-        let head = [
-            self.now,
-            code,
-            self.task_count as u64,
-            self.object_count as u64,
-        ];
-        let records = self.tasks;
-        let mut tasks = [0u64; TASK_CELLS];
-        load_tasks(records, n, &mut tasks);
-        let holds = self.held;
-        let mut held = [0u8; HELD_CELLS];
-        load_lists(&holds, &mut held, HELD_WIDTH, n);
-        let levels = self.ceilings;
-        let mut ceilings = [0u8; OBJECT_LIMIT];
-        load_ceilings(levels, self.object_count as usize, &mut ceilings);
-        let ready = self.queues;
-        let mut queues = [0u8; QUEUE_CELLS];
-        load_lists(&ready, &mut queues, QUEUE_WIDTH, PRIORITIES);
-        Memory {
-            head: head,
-            tasks: tasks,
-            held: held,
-            ceilings: ceilings,
-            queues: queues,
-        }
+// The whole state, in the engine's layout.
+pub fn load(state: State) -> Memory
+    requires { ⌜ sizesFit state ≡ true ⌝ }
+    ensures { λ r. ⌜ Means (r .head) (r .tasks) (r .held) (r .ceilings) (r .queues) (view state) ⌝ }
+{
+    let n = state.task_count as usize;
+    let running = state.running;
+    let code = running_code(running);
+    let head = [
+        state.now,
+        code,
+        state.task_count as u64,
+        state.object_count as u64,
+    ];
+    let records = state.tasks;
+    let mut tasks = [0u64; TASK_CELLS];
+    load_tasks(records, n, &mut tasks);
+    let holds = state.held;
+    let mut held = [0u8; HELD_CELLS];
+    load_lists(&holds, &mut held, HELD_WIDTH, n);
+    let levels = state.ceilings;
+    let mut ceilings = [0u8; OBJECT_LIMIT];
+    load_ceilings(levels, state.object_count as usize, &mut ceilings);
+    let ready = state.queues;
+    let mut queues = [0u8; QUEUE_CELLS];
+    load_lists(&ready, &mut queues, QUEUE_WIDTH, PRIORITIES);
+    Memory {
+        head: head,
+        tasks: tasks,
+        held: held,
+        ceilings: ceilings,
+        queues: queues,
     }
 }

@@ -6,6 +6,7 @@ ghost use Rattle.dispatch.specs.Methods.{setOf, workOf, finishOf};
 use crate::State;
 use crate::Stepped;
 use crate::apply::apply;
+use crate::load::load;
 use crate::store::store;
 use rules::Answer;
 use rules::Event;
@@ -18,7 +19,7 @@ impl State {
         if !self.fits() {
             return false;
         }
-        let m = self.load();
+        let m = load(self);
         let head = m.head;
         let tasks = m.tasks;
         let held = m.held;
@@ -43,7 +44,7 @@ impl State {
         if !self.fits() {
             return self.unsound();
         }
-        let m = self.load();
+        let m = load(self);
         let mut head = m.head;
         let mut tasks = m.tasks;
         let mut held = m.held;

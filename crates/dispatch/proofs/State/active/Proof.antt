@@ -22,18 +22,25 @@ cast-raised c = search needs
 
 raised-requires : tie.Need-raised-requires
 raised-requires c κs =
-    let a = c .before .before .before .before .before .before .before .before in
+    let c6 = c .before .before .before .before .before .before in
+    let c7 = c6 .before in
+    let c8 = c7 .before in
+    let a = c8 in
     let s = a .args .self in
     let shape = known s _ (a .good .0) in
-    let low = in-view s (a .args .t) _ (c .before .before .before .before .before .before .before .has-task .ensures) (c .before .before .before .before .before .before .if1 .taken) in
+    let low = in-view s (a .args .t) _ (c7 .has-task .ensures) (c6 .if1 .taken) in
     omega (arith, shape .held, there s shape (a .args .t) low)
 
 returns : tie.Need-returns
 returns c =
-    let a = c .before .before .before .before .before .before .before .before .before in
+    let c6 = c .before .before .before .before .before .before in
+    let c7 = c6 .before in
+    let c8 = c7 .before in
+    let c9 = c8 .before in
+    let a = c9 in
     let s = a .args .self in
-    let low = in-view s (a .args .t) _ (c .before .before .before .before .before .before .before .before .has-task .ensures) (c .before .before .before .before .before .before .before .if1 .taken) in
-    let base = ap (λ (k : Task). k .base) (c .before .before .before .before .before .before .task .ensures) in
+    let low = in-view s (a .args .t) _ (c8 .has-task .ensures) (c7 .if1 .taken) in
+    let base = ap (λ (k : Task). k .base) (c6 .task .ensures) in
     active-is s (known s _ (a .good .0)) (a .args .t) _ _ low base (c .raised .ensures)
 
 returns-2 : tie.Need-returns-2

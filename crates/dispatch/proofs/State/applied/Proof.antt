@@ -78,14 +78,17 @@ number-requires c κs = search needs
 
 returns-3 : tie.Need-returns-3
 returns-3 c =
-    let at-sound = c .before .before .before .before .before .before .before .before .before .before .before .before in
+    let c5 = c .before .before .before .before .before in
+    let c11 = c5 .before .before .before .before .before .before in
+    let c12 = c11 .before in
+    let at-sound = c12 in
     let at-load = at-sound .before .before .before .before .before .before .before .before .before .before .before in
     let a = at-load .before .before .before in
     let s = a .args .self in
     let fit = sym (at-load .before .before .fits2 .ensures) ∙ not-false _ (at-load .before .if1 .left) in
     let slices = at-load .load .ensures in
-    let good = sym (tested s fit slices _ (at-sound .sound .ensures)) ∙ not-false _ (c .before .before .before .before .before .before .before .before .before .before .before .if2 .left) in
-    let did = c .before .before .before .before .before .apply .ensures .0 in
+    let good = sym (tested s fit slices _ (at-sound .sound .ensures)) ∙ not-false _ (c11 .if2 .left) in
+    let did = c5 .apply .ensures .0 in
     refused-by s fit slices (a .args .event) good _ did _ (c .before .number .ensures) (c .if3 .taken)
 
 store-requires : tie.Need-store-requires
@@ -93,16 +96,20 @@ store-requires c κs = search needs
 
 returns-4 : tie.Need-returns-4
 returns-4 c =
-    let at-sound = c .before .before .before .before .before .before .before .before .before .before .before .before .before in
+    let c2 = c .before .before in
+    let c6 = c2 .before .before .before .before in
+    let c12 = c6 .before .before .before .before .before .before in
+    let c13 = c12 .before in
+    let at-sound = c13 in
     let at-load = at-sound .before .before .before .before .before .before .before .before .before .before .before in
     let a = at-load .before .before .before in
     let s = a .args .self in
     let fit = sym (at-load .before .before .fits2 .ensures) ∙ not-false _ (at-load .before .if1 .left) in
     let slices = at-load .load .ensures in
-    let good = sym (tested s fit slices _ (at-sound .sound .ensures)) ∙ not-false _ (c .before .before .before .before .before .before .before .before .before .before .before .before .if2 .left) in
-    let did = c .before .before .before .before .before .before .apply .ensures .0 in
+    let good = sym (tested s fit slices _ (at-sound .sound .ensures)) ∙ not-false _ (c12 .if2 .left) in
+    let did = c6 .apply .ensures .0 in
     let zero = c .before .if3 .left in
-    accepted-by s fit slices (a .args .event) good _ did _ (c .before .before .number .ensures) zero _ (c .store .ensures)
+    accepted-by s fit slices (a .args .event) good _ did _ (c2 .number .ensures) zero _ (c .store .ensures)
 
 pub applied-spec : {M : Type 1} → statement M
 applied-spec =

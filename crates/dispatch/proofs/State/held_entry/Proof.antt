@@ -35,10 +35,12 @@ returns c =
 
 returns-2 : tie.Need-returns-2
 returns-2 c =
-    let a = c .before .before in
+    let c2 = c .before .before in
+    let a = c2 in
     let s = a .args .self in
     let past = past-view s (a .args .t) _ (c .before .has-task .ensures) (c .if1 .left) in
-    entry-none [] (a .args .i) (omega arith) ∙ ap (λ (l : List ℕ). entryOf l (a .args .i)) (held-none s (known s _ (a .good .0)) (a .args .t) past)
+    entry-none [] (a .args .i) (omega arith) ∙ ap (λ (l : List ℕ). entryOf l (a .args .i))
+    (held-none s (known s _ (a .good .0)) (a .args .t) past)
 
 pub held-entry-spec : {M : Type 1} → statement M
 held-entry-spec =

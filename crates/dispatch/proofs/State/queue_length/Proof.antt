@@ -28,15 +28,21 @@ sub-list-length c =
 
 list-length-requires : tie.Need-list-length-requires
 list-length-requires c κs =
-    let a = c .before .before .before .before .before in
-    let bounds = in-bounds (a .args .p .0) (sym (c .before .before .before .before .in-range .ensures) ∙ c .before .before .before .if1 .taken) in
+    let c3 = c .before .before .before in
+    let c4 = c3 .before in
+    let c5 = c4 .before in
+    let a = c5 in
+    let bounds = in-bounds (a .args .p .0) (sym (c4 .in-range .ensures) ∙ c3 .if1 .taken) in
     let shape = known (a .args .self) _ (a .good .0) in
     (omega arith, omega (arith, shape .queues, bounds .0, bounds .1))
 
 returns : tie.Need-returns
 returns c =
-    let a = c .before .before .before .before .before .before in
-    let same = queue-is (a .args .self) (a .args .p) (sym (c .before .before .before .before .before .in-range .ensures) ∙ c .before .before .before .before .if1 .taken) in
+    let c4 = c .before .before .before .before in
+    let c5 = c4 .before in
+    let c6 = c5 .before in
+    let a = c6 in
+    let same = queue-is (a .args .self) (a .args .p) (sym (c5 .in-range .ensures) ∙ c4 .if1 .taken) in
     c .list-length .ensures ∙ ap length same
 
 returns-2 : tie.Need-returns-2

@@ -96,13 +96,16 @@ loop-less c = search needs
 
 loop-again : tie.Need-loop-again Inv-loop μ-loop
 loop-again c =
-    let at-loop = c .before .before .before .before .before .before in
+    let c2 = c .before .before in
+    let c6 = c2 .before .before .before .before in
+    let at-loop = c6 in
     let a = at-loop .before .before .before in
     let l = at-loop .loop in
     let from = a .args .from .now in
-    let row = c .before .before .load-row .ensures in (
+    let row = c2 .load-row .ensures in (
       search needs,
-      lists-more (a .args .width) (a .args .n) from (a .pre .0) (a .pre .1 .0) (l .i) (omega arith) (l .to) _ (a .pre .1 .1 .0) (l .inv .1) _ row,
+      lists-more (a .args .width) (a .args .n) from (a .pre .0) (a .pre .1 .0) (l .i) (omega arith) (l .to) _ (a .pre .1 .1 .0)
+          (l .inv .1) _ row,
       search needs,
     )
 

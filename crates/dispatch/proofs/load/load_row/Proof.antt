@@ -42,11 +42,14 @@ loop-less c = search needs
 
 loop-again : tie.Need-loop-again Inv-loop μ-loop
 loop-again c =
-    let a = c .before .before .before .before in
-    let l = c .before .before .loop in
+    let c2 = c .before .before in
+    let c4 = c2 .before .before in
+    let a = c4 in
+    let l = c2 .loop in
     let r = a .args .from .now in
     let zero : ℕ = 0 in
-    let step = over-step (replicate (length r) zero) r (l .i) _ zero (omega (arith, length-replicate (length r) zero)) (omega arith) refl in
+    let step = over-step (replicate (length r) zero) r (l .i) _ zero (omega (arith, length-replicate (length r) zero))
+    (omega arith) refl in
     (search needs, rw (l .inv .1) step, search needs, refl)
 
 same-length : tie.Need-same-length Inv-loop μ-loop

@@ -1,4 +1,4 @@
--- `dispatch::State::load` meets its contract.
+-- `dispatch::load::load` meets its contract.
 use mathlib.Core.Path.{_≡_, refl, ap, _∙_, sym}
 use mathlib.Core.List.{List, [], _∷_}
 use Prim.Native.Nat.{ℕ}
@@ -6,8 +6,8 @@ use native.Mathlib.Omega.{arith}
 use borrow.Author.Needs.{needs}
 use Rattle.dispatch.proofs.Known.{known}
 use Rattle.dispatch.proofs.LoadLaws.{fitting, state-loaded}
-use Rattle.dispatch.proofs.State.load.Statement.{statement}
-use Rattle.dispatch.proofs.State.load.Tie as tie
+use Rattle.dispatch.proofs.load.load.Statement.{statement}
+use Rattle.dispatch.proofs.load.load.Tie as tie
 
 cast-n : tie.Need-cast-n
 cast-n c = search needs
@@ -27,7 +27,7 @@ slice-aggregate-load-tasks c = search needs
 load-tasks-requires : tie.Need-load-tasks-requires
 load-tasks-requires c κs =
     let a = c .before .before .before .before .before .before in
-    (fitting (a .args .self) (a .pre) .count, refl)
+    (fitting (a .args .state) (a .pre) .count, refl)
 
 slice-aggregate-load-lists : tie.Need-slice-aggregate-load-lists
 slice-aggregate-load-lists c = search needs
@@ -38,8 +38,8 @@ slice-aggregate-load-lists-2 c = search needs
 load-lists-requires : tie.Need-load-lists-requires
 load-lists-requires c κs =
     let a = c .before .before .before .before .before .before .before .before .before .before .before in
-    let fit = fitting (a .args .self) (a .pre) in
-    let shape = known (a .args .self) _ (a .good .0) in
+    let fit = fitting (a .args .state) (a .pre) in
+    let shape = known (a .args .state) _ (a .good .0) in
     (omega (arith, fit .count, shape .held), (fit .held, (omega (arith, fit .count), refl)))
 
 cast-load-ceilings : tie.Need-cast-load-ceilings
@@ -52,13 +52,13 @@ load-ceilings-requires : tie.Need-load-ceilings-requires
 load-ceilings-requires c κs =
     let b = c .before .before .before .before .before .before .before .before .before .before .before in
     let a = b .before .before .before .before .before in
-    (fitting (a .args .self) (a .pre) .objects, refl)
+    (fitting (a .args .state) (a .pre) .objects, refl)
 
 slice-aggregate-load-lists-3 : tie.Need-slice-aggregate-load-lists-3
 slice-aggregate-load-lists-3 c =
     let b = c .before .before .before .before .before .before .before .before .before .before .before in
     let a = b .before .before .before .before .before .before .before .before .before in
-    let shape = known (a .args .self) _ (a .good .0) in
+    let shape = known (a .args .state) _ (a .good .0) in
     omega (arith, shape .queues)
 
 slice-aggregate-load-lists-4 : tie.Need-slice-aggregate-load-lists-4
@@ -68,8 +68,8 @@ load-lists-requires-2 : tie.Need-load-lists-requires-2
 load-lists-requires-2 c κs =
     let b = c .before .before .before .before .before .before .before .before .before .before .before in
     let a = b .before .before .before .before .before .before .before .before .before .before in
-    let fit = fitting (a .args .self) (a .pre) in
-    let shape = known (a .args .self) _ (a .good .0) in
+    let fit = fitting (a .args .state) (a .pre) in
+    let shape = known (a .args .state) _ (a .good .0) in
     (omega (arith, shape .queues), (fit .queues, (omega arith, refl)))
 
 returns : tie.Need-returns
@@ -77,7 +77,7 @@ returns c =
     let at-held = c .before .before .before .before .before .before .before .before .before .before .before in
     let at-tasks = at-held .before .before .before .before .before in
     let a = at-tasks .before .before .before .before .before .before .before in
-    let s = a .args .self in
+    let s = a .args .state in
     let code = at-tasks .before .before .before .before .before .running-code .ensures in
     let head = ap (λ (x : ℕ). s .now ∷ (x ∷ (s .«task_count» ∷ (s .«object_count» ∷ [])))) code in
     state-loaded s (fitting s (a .pre)) (known s _ (a .good .0)) _ _ _ _ _ head
