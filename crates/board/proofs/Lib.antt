@@ -1,6 +1,9 @@
 pub mod ScanLaws
 pub mod NextLaws
 pub mod FillLaws
+pub mod FoldLaws
+pub mod StateLaws
+pub mod SourceLaws
 pub mod Shapes
-pub mod Thin
 pub mod Lent
+pub mod Thin

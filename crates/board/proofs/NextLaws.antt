@@ -11,7 +11,7 @@ use lib.ListN.{length}
 use Rattle.rules.specs.Priorities.{inRange}
 use Rattle.rules.proofs.Choices.{split, compare, clash, or-right, or-none-left, or-none-right}
 use Rattle.board.specs.declared.Row.{Row}
-use Rattle.board.specs.declared.Best.{Best}
+use Rattle.board.specs.declared.scan.Best.{Best}
 use Rattle.board.specs.declared.NextAnswer.{NextAnswer}
 use Rattle.board.specs.Rows.{rowLimit, readyKind, rowAt, Told, toldOf}
 use Rattle.board.specs.Next.{priorityAt, positionAt, ReadyRow, Before, NextRow, BadRow, NoBadRow, Answers}

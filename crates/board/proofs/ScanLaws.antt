@@ -14,7 +14,7 @@ use Rattle.rules.specs.declared.Priority.{Priority}
 use Rattle.rules.proofs.Choices.{clash, cond-true, cond-false}
 use Rattle.rules.proofs.PriorityLaws.{checked-good, checked-bad}
 use Rattle.board.specs.declared.Row.{Row}
-use Rattle.board.specs.declared.Best.{Best}
+use Rattle.board.specs.declared.scan.Best.{Best}
 use Rattle.board.specs.declared.NextAnswer.{NextAnswer}
 use Rattle.board.specs.Rows.{rowLimit, readyKind, toldOf}
 use Rattle.board.specs.Scan.{aheadOf, betterOf, lookedOf, finishOf, nextOf, nextFirstOf}

@@ -1,16 +1,19 @@
--- What filling writes on a board: a row for each task of a Model, and nothing else.
-use mathlib.Core.Bool.{Bool, cond}
+-- What filling writes on a board: a row for each task of a state, and nothing else.
+use mathlib.Core.Bool.{cond}
 use mathlib.Core.List.{List, [], _∷_, _++_}
 use Prim.Native.Nat.{ℕ, zero, suc}
 use lib.Dec.{eqb, ltb}
-use lib.ListN.{length, drop}
+use lib.ListN.{length, take, drop}
 use Rattle.rules.specs.Model.{Model, taskAt, queue, active}
 use Rattle.rules.specs.declared.Place.{Place}
 use Rattle.rules.specs.declared.Place.the-variants.{Running, Ready, Delayed, Suspended, Ended}
+use Rattle.dispatch.specs.State.{view}
+use Rattle.dispatch.specs.Sound.{soundOf}
+use Rattle.dispatch.specs.declared.State.{State}
 use Rattle.board.specs.declared.PlaceKind.{PlaceKind}
 use Rattle.board.specs.declared.Row.{Row}
 use Rattle.board.specs.declared.FillAnswer.{FillAnswer}
-use Rattle.board.specs.Rows.{readyKind, Filling, fillingOf}
+use Rattle.board.specs.Rows.{rowLimit, readyKind, Filling, fillingOf, behind}
 
 -- "place kind (one of the five above)"
 abbrev pub kindOf : Place → PlaceKind
@@ -41,12 +44,28 @@ rowsTo m (suc n) = rowsTo m n ++ (rowOf m n ∷ [])
 abbrev pub rowsOf : Model → List Row
 rowsOf m = rowsTo m (length (m .tasks))
 
--- "Filling it writes the first rows, one per task, and no others"; 10 where the state is not sound, "else with too few rows 13,
--- and writes nothing"
-unfoldable pub fillModel : Bool → Model → List Row → Filling
-fillModel isSound m board =
-    cond isSound
-    (cond (ltb (length board) (length (m .tasks)))
-    (fillingOf FillAnswer.TooFewRows board)
-    (fillingOf FillAnswer.Done (rowsOf m ++ drop (length (m .tasks)) board)))
-    (fillingOf FillAnswer.Unsound board)
+-- "with an unsound state it answers 10, else with too few rows 13": the answer for a board of n rows
+unfoldable pub answerOf : State → ℕ → FillAnswer
+answerOf s n = cond (soundOf s) (cond (ltb n (length (view s .tasks))) FillAnswer.TooFewRows FillAnswer.Done) FillAnswer.Unsound
+
+-- "Filling it writes the first rows, one per task, and no others"; refused, it "writes nothing"
+unfoldable pub boardAfter : State → FillAnswer → List Row → List Row
+boardAfter s FillAnswer.Done board = rowsOf (view s) ++ drop (length (view s .tasks)) board
+boardAfter s FillAnswer.Unsound board = board
+boardAfter s FillAnswer.TooFewRows board = board
+
+-- what filling a board is promised to give
+abbrev pub fillOf : State → List Row → Filling
+fillOf s board = fillingOf (answerOf s (length board)) (boardAfter s (answerOf s (length board)) board)
+
+-- the same for the first rows of an array, the others staying as they are; with more of them than there are, 10 or else 13
+abbrev pub fillFirstOf : State → List Row → ℕ → Filling
+fillFirstOf s rows count =
+    cond (ltb rowLimit count) (fillingOf (cond (soundOf s) FillAnswer.TooFewRows FillAnswer.Unsound) rows)
+    (behind (fillOf s (take count rows)) (drop count rows))
+
+-- how many rows are written with an answer
+abbrev pub writtenOf : State → FillAnswer → ℕ
+writtenOf s FillAnswer.Done = length (view s .tasks)
+writtenOf s FillAnswer.Unsound = 0
+writtenOf s FillAnswer.TooFewRows = 0

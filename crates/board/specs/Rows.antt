@@ -1,6 +1,6 @@
 -- The rows of a board, and what it answers when it is asked or filled: document 01's number and values for each case.
 use mathlib.Core.Bool.{Bool, true, false}
-use mathlib.Core.List.{List}
+use mathlib.Core.List.{List, _++_}
 use Prim.Native.Nat.{ℕ}
 use lib.ListN.{getD}
 use Rattle.rules.specs.Limits.{taskLimit, firstPriority}
@@ -16,7 +16,7 @@ use Rattle.board.specs.declared.FillAnswer.{FillAnswer}
 abbrev pub rowLimit : ℕ
 rowLimit = taskLimit
 
--- "one of the five above"
+-- a row is ready by its place kind, "one of the five above"
 abbrev pub readyKind : PlaceKind → Bool
 readyKind Running = false
 readyKind Ready = true
@@ -59,3 +59,7 @@ pub record Filling : Type 0 where
 
 abbrev pub fillingOf : FillAnswer → List Row → Filling
 fillingOf a rows = record { number = fillNumber a; board = rows }
+
+-- with rows behind the board that stay as they are
+abbrev pub behind : Filling → List Row → Filling
+behind f rows = record { number = f .number; board = f .board ++ rows }

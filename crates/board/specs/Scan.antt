@@ -6,7 +6,7 @@ use lib.Dec.{eqb, ltb}
 use lib.ListN.{length, take}
 use Rattle.rules.specs.Priorities.{inRange}
 use Rattle.board.specs.declared.Row.{Row}
-use Rattle.board.specs.declared.Best.{Best}
+use Rattle.board.specs.declared.scan.Best.{Best}
 use Rattle.board.specs.declared.NextAnswer.{NextAnswer}
 use Rattle.board.specs.Rows.{rowLimit, readyKind, noRow, rowAt, Told, toldOf}
 

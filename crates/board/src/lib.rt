@@ -1,13 +1,23 @@
 // The lent board: rows of task records that a host lends, filled from a state and asked for the next row.
-// A slice of records is proved by hand: `next`, and `next_within`, which lends one. All the rest is covered.
+// A slice of records is proved by hand: `next`, `fill`, and `next_within` and `fill_within`, which lend one. All else is covered.
+mod scan;
+mod source;
+
 ghost use mathlib.Core.Path.{_≡_};
-ghost use mathlib.Core.Bool.{not, _||_};
 ghost use Prim.Native.Nat.{_≤_};
-ghost use lib.ListN.{take};
-ghost use Rattle.rules.specs.Priorities.{inRange};
-ghost use Rattle.board.specs.Rows.{rowLimit, toldOf, readyKind};
-ghost use Rattle.board.specs.Scan.{aheadOf, bestNone, betterOf, lookedOf, finishOf, nextOf, nextFirstOf};
-use rules::Checked;
+ghost use lib.ListN.{take, drop};
+ghost use Rattle.board.specs.Rows.{rowLimit, toldOf, fillNumber, fillingOf, behind};
+ghost use Rattle.board.specs.Scan.{nextOf, nextFirstOf};
+ghost use Rattle.board.specs.Fill.{fillOf, fillFirstOf};
+use crate::scan::best_none;
+use crate::scan::better;
+use crate::scan::finish;
+use crate::scan::looked;
+use crate::source::fill_answer;
+use crate::source::row_of;
+use crate::source::written;
+use dispatch::State;
+use rules::Answer;
 use rules::Priority;
 
 // The most rows that a board may have when it is asked; specs/ has the same.
@@ -44,120 +54,35 @@ pub enum FillAnswer {
     TooFewRows,
 }
 
-// The best of the rows seen so far, with its number; a row that is not ready stands for nobody. `bad` says that a
-// priority was out of range.
-pub struct Best {
-    pub bad: bool,
-    pub number: usize,
-    pub row: Row,
+// What `fill_first` hands back: the answer, and the rows after it.
+pub struct Filled {
+    pub answer: FillAnswer,
+    pub rows: [Row; ROW_LIMIT],
 }
 
-// How many of n rows are looked at: none where there are too many.
-fn looked(n: usize) -> usize
-    ensures { λ r. ⌜ r ≡ lookedOf n ⌝ }
-{
-    if ROW_LIMIT < n { 0 } else { n }
-}
-
-fn best_none() -> Best
-    ensures { λ r. ⌜ r ≡ bestNone ⌝ }
-{
-    Best {
-        bad: false,
-        number: 0,
-        row: Row {
-            kind: PlaceKind::Ended,
-            priority: Priority::FIRST,
-            position: 0,
-        },
+impl NextAnswer {
+    pub fn number(self) -> u8
+        ensures { λ r. ⌜ r ≡ toldOf self .number ⌝ }
+    {
+        match self {
+            NextAnswer::Row(_) => Answer::Done.number(),
+            NextAnswer::Nobody => Answer::Done.number(),
+            NextAnswer::TooManyRows => Answer::BadCounts.number(),
+            NextAnswer::BadPriority => Answer::BadPriority.number(),
+        }
     }
 }
 
-fn ready(row: Row) -> bool
-    ensures { λ r. ⌜ r ≡ readyKind (row .kind) ⌝ }
-{
-    let kind = row.kind;
-    match kind {
-        PlaceKind::Running => false,
-        PlaceKind::Ready => true,
-        PlaceKind::Delayed => false,
-        PlaceKind::Suspended => false,
-        PlaceKind::Ended => false,
+impl FillAnswer {
+    pub fn number(self) -> u8
+        ensures { λ r. ⌜ r ≡ fillNumber self ⌝ }
+    {
+        match self {
+            FillAnswer::Done => Answer::Done.number(),
+            FillAnswer::Unsound => Answer::Unsound.number(),
+            FillAnswer::TooFewRows => Answer::BadCounts.number(),
+        }
     }
-}
-
-fn in_range(p: Priority) -> bool
-    ensures { λ r. ⌜ r ≡ inRange (p .0) ⌝ }
-{
-    match Priority::checked(p.0 as u64) {
-        Checked::Good(_) => true,
-        Checked::OutOfRange => false,
-    }
-}
-
-// Whether a later row a comes before the best so far, b.
-fn ahead(a: Row, b: Row) -> bool
-    ensures { λ r. ⌜ r ≡ aheadOf a b ⌝ }
-{
-    if !ready(a) {
-        return false;
-    }
-    if !ready(b) {
-        return true;
-    }
-    let p = a.priority;
-    let q = b.priority;
-    if p.0 == q.0 {
-        return a.position < b.position;
-    }
-    q.0 < p.0
-}
-
-// Whether a priority so far or this one is out of range.
-fn spoiled(bad: bool, p: Priority) -> bool
-    ensures { λ r. ⌜ r ≡ (bad || not (inRange (p .0))) ⌝ }
-{
-    if bad {
-        return true;
-    }
-    !in_range(p)
-}
-
-// The best of the rows so far and of row i.
-fn better(best: Best, i: usize, row: Row) -> Best
-    ensures { λ r. ⌜ r ≡ betterOf best i row ⌝ }
-{
-    let bad = spoiled(best.bad, row.priority);
-    if ahead(row, best.row) {
-        return Best {
-            bad: bad,
-            number: i,
-            row: row,
-        };
-    }
-    let old = best.row;
-    Best {
-        bad: bad,
-        number: best.number,
-        row: old,
-    }
-}
-
-// The answer for n rows, of which the best is known.
-fn finish(n: usize, best: Best) -> NextAnswer
-    ensures { λ r. ⌜ r ≡ finishOf n best ⌝ }
-{
-    if ROW_LIMIT < n {
-        return NextAnswer::TooManyRows;
-    }
-    let bad = best.bad;
-    if bad {
-        return NextAnswer::BadPriority;
-    }
-    if ready(best.row) {
-        return NextAnswer::Row(best.number);
-    }
-    NextAnswer::Nobody
 }
 
 // The row that is to run next.
@@ -192,4 +117,47 @@ pub fn next_first(rows: [Row; ROW_LIMIT], count: usize) -> NextAnswer
         return NextAnswer::TooManyRows;
     }
     next_within(rows, count)
+}
+
+// Writes the first rows of the board, one for each task of the state, or none.
+pub fn fill(state: State, board: &mut [Row]) -> FillAnswer
+    ensures { λ r. ⌜ fillingOf r (now (board .exit)) ≡ fillOf state (now (board .entry)) ⌝ }
+{
+    let n = board.len();
+    let answer = fill_answer(state, n);
+    let m = written(state, answer);
+    let mut i: usize = 0;
+    while i < m {
+        let row = row_of(state, i);
+        board[i] = row;
+        i = i + 1;
+    }
+    answer
+}
+
+// Lends the first rows to `fill`.
+fn fill_within(state: State, rows: [Row; ROW_LIMIT], count: usize) -> Filled
+    requires { ⌜ count ≤ rowLimit ⌝ }
+    ensures { λ r. ⌜ fillingOf (r .answer) (r .rows) ≡ behind (fillOf state (take count rows)) (drop count rows) ⌝ }
+{
+    let mut board = rows;
+    let answer = fill(state, &mut board[..count]);
+    Filled {
+        answer: answer,
+        rows: board,
+    }
+}
+
+// `fill` of the first `count` rows, for callers that hold the rows by value. With more than there are, none is lent.
+pub fn fill_first(state: State, rows: [Row; ROW_LIMIT], count: usize) -> Filled
+    ensures { λ r. ⌜ fillingOf (r .answer) (r .rows) ≡ fillFirstOf state rows count ⌝ }
+{
+    if ROW_LIMIT < count {
+        let answer = fill_answer(state, 0);
+        return Filled {
+            answer: answer,
+            rows: rows,
+        };
+    }
+    fill_within(state, rows, count)
 }

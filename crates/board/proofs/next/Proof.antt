@@ -52,32 +52,32 @@ use denote.Triple.Walked.{says, Stays, stay-none-slice, walkOf, Walks, ends-at, 
 use Rattle.board.specs.Rows.{rowLimit, noRow, toldOf}
 use Rattle.board.specs.Scan.{bestNone, betterOf, bestOf, lookedOf, finishOf, scanOf}
 use Rattle.board.specs.declared.NextAnswer.{NextAnswer}
-use Rattle.board.specs.declared.Best.{Best}
+use Rattle.board.specs.declared.scan.Best.{Best}
 use Rattle.board.specs.declared.Row.{Row}
 use Rattle.board.proofs.Shapes.{R, rowSize, lowR, valsR, tellsR, typedR}
 use Rattle.board.proofs.Thin.{Upto, Nearer, nearer-wf, Returns, runs-plain, calls-plain, whiles}
 use Rattle.board.proofs.NextAnswer as N
 use Rattle.board.proofs.NextAnswer.Laws as N′
-use Rattle.board.proofs.Best as B
-use Rattle.board.proofs.Best.Laws as B′
+use Rattle.board.proofs.scan.Best as B
+use Rattle.board.proofs.scan.Best.Laws as B′
 use Rattle.board.proofs.Row as T
 use Rattle.board.proofs.Row.Laws as T′
-use Rattle.board.proofs.looked as looked
-use Rattle.board.proofs.looked.Symbol as looked-def
-use Rattle.board.proofs.looked.Symbol.{name as #board·looked}
-use Rattle.board.proofs.looked.Met as looked-thm
-use Rattle.board.proofs.best_none as best-none
-use Rattle.board.proofs.best_none.Symbol as best-none-def
-use Rattle.board.proofs.best_none.Symbol.{name as #board·best-none}
-use Rattle.board.proofs.best_none.Met as best-none-thm
-use Rattle.board.proofs.better as better
-use Rattle.board.proofs.better.Symbol as better-def
-use Rattle.board.proofs.better.Symbol.{name as #board·better}
-use Rattle.board.proofs.better.Met as better-thm
-use Rattle.board.proofs.finish as finish
-use Rattle.board.proofs.finish.Symbol as finish-def
-use Rattle.board.proofs.finish.Symbol.{name as #board·finish}
-use Rattle.board.proofs.finish.Met as finish-thm
+use Rattle.board.proofs.scan.looked as looked
+use Rattle.board.proofs.scan.looked.Symbol as looked-def
+use Rattle.board.proofs.scan.looked.Symbol.{name as #board·looked}
+use Rattle.board.proofs.scan.looked.Met as looked-thm
+use Rattle.board.proofs.scan.best_none as best-none
+use Rattle.board.proofs.scan.best_none.Symbol as best-none-def
+use Rattle.board.proofs.scan.best_none.Symbol.{name as #board·best-none}
+use Rattle.board.proofs.scan.best_none.Met as best-none-thm
+use Rattle.board.proofs.scan.better as better
+use Rattle.board.proofs.scan.better.Symbol as better-def
+use Rattle.board.proofs.scan.better.Symbol.{name as #board·better}
+use Rattle.board.proofs.scan.better.Met as better-thm
+use Rattle.board.proofs.scan.finish as finish
+use Rattle.board.proofs.scan.finish.Symbol as finish-def
+use Rattle.board.proofs.scan.finish.Symbol.{name as #board·finish}
+use Rattle.board.proofs.scan.finish.Met as finish-thm
 use Rattle.board.proofs.next.Key.{name as #board·next}
 use Rattle.board.proofs.next as next
 use Rattle.board.proofs.next.Statement as stated
@@ -355,11 +355,11 @@ next-spec 𝓤 H 𝓜 𝓖 𝓡 =
     (next-meets 𝓤 H (𝓖 .A) (givenOf 𝓤 H 𝓜 𝓖) (𝓜 .mem) (𝓡 .run) (tablesOf 𝓤 H 𝓜 (tables 𝓤 H 𝓜 𝓡 code.env))
     (record {
       to-looked = cited 𝓤 H (Looked 𝓤 H (𝓖 .A) (𝓜 .mem) (𝓡 .run)) 𝓜 𝓡 code.env #board·looked looked-def.routine
-          code.calls-board·looked (looked-thm.met 𝓤 H 𝓜 𝓖 𝓡);
+          code.calls-board·scan·looked (looked-thm.met 𝓤 H 𝓜 𝓖 𝓡);
       to-best-none = cited 𝓤 H (BestNone 𝓤 H (𝓖 .A) (𝓜 .mem) (𝓡 .run)) 𝓜 𝓡 code.env #board·best-none best-none-def.routine
-          code.calls-board·best-none (best-none-thm.met 𝓤 H 𝓜 𝓖 𝓡);
+          code.calls-board·scan·best-none (best-none-thm.met 𝓤 H 𝓜 𝓖 𝓡);
       to-better = cited 𝓤 H (Better 𝓤 H (𝓖 .A) (𝓜 .mem) (𝓡 .run)) 𝓜 𝓡 code.env #board·better better-def.routine
-          code.calls-board·better (better-thm.met 𝓤 H 𝓜 𝓖 𝓡);
+          code.calls-board·scan·better (better-thm.met 𝓤 H 𝓜 𝓖 𝓡);
       to-finish = cited 𝓤 H (Finish 𝓤 H (𝓖 .A) (𝓜 .mem) (𝓡 .run)) 𝓜 𝓡 code.env #board·finish finish-def.routine
-          code.calls-board·finish (finish-thm.met 𝓤 H 𝓜 𝓖 𝓡);
+          code.calls-board·scan·finish (finish-thm.met 𝓤 H 𝓜 𝓖 𝓡);
     }))
