@@ -66,23 +66,6 @@ decimal-more n h =
     ap (λ (b : Bool). cond b ((firstDigit + n) ∷ []) (digitsTo n (n / 10) ++ ((firstDigit + n % 10) ∷ []))) (le-ltb n 10 h) ∙
     ap (λ (l : List ℕ). l ++ ((firstDigit + n % 10) ∷ [])) (digits-same n (suc (n / 10)) (n / 10) (omega arith) (omega arith))
 
--- a text put byte by byte: the start, a turn and the end
-module _ (before text : List ℕ) (at : ℕ) where
-  pub copy-start : sets before at text ≡ sets before (at + 0) (drop 0 text)
-  copy-start = ap (λ (k : ℕ). sets before k text) (sym (add-zero at))
-
-  pub copy-turn : (out : List ℕ) (i : ℕ) → i < length text → sets before at text ≡ sets out (at + i) (drop i text) →
-      sets before at text ≡ sets (set out (at + i) (getD text i 0)) (at + (i + 1)) (drop (i + 1) text)
-  copy-turn out i h e =
-      let k : suc (at + i) ≡ at + (i + 1) = omega arith in
-      e ∙ (ap (λ (l : List ℕ). sets out (at + i) l) (drop-cons text i 0 h) ∙
-      (ap (λ (j : ℕ). sets (set out (at + i) (getD text i 0)) j (drop (suc i) text)) k ∙
-      ap (λ (j : ℕ). sets (set out (at + i) (getD text i 0)) (at + (i + 1)) (drop j text)) (sym (add-one i))))
-
-  pub copy-end : (out : List ℕ) (i : ℕ) → length text ≤ i → sets before at text ≡ sets out (at + i) (drop i text) →
-      out ≡ sets before at text
-  copy-end out i h e = sym (e ∙ ap (λ (l : List ℕ). sets out (at + i) l) (drop-of-length-le text {i = i} h))
-
 -- the last digit goes behind the others
 pub put-digits : {b b' b'' : List ℕ} {at e e' : ℕ} (n d : ℕ) → 10 ≤ n → d ≡ firstDigit + n % 10 → Put b at (decimal (n / 10)) b' e →
     Put b' e (d ∷ []) b'' e' → Put b at (decimal n) b'' e'

@@ -7,9 +7,12 @@ use roster::Verdict;
 
 mod events;
 mod inputs;
+mod pass;
 mod sizes;
+mod start;
 mod text;
 
+pub use pass::run;
 pub use text::lines;
 
 // An event of a run, decoded. Fields that an event does not use are gone; the others may be out of range.

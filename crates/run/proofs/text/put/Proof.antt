@@ -1,10 +1,13 @@
 -- `run::text::put` meets its contract.
+use mathlib.Core.Path.{ap, sym}
+use Prim.Native.Nat.{ℕ}
+use native.Mathlib.Nat.{add-zero}
 use native.Mathlib.Omega.{arith}
 use mathlib.Core.Path.{_≡_, refl, _∙_}
 use Prim.Native.Nat.{_+_, _≤_, _-_}
 use lib.ListN.{length, drop, length-set}
 use lib.Seq.{sets}
-use Rattle.run.proofs.LineLaws.{copy-start, copy-turn, copy-end}
+use Rattle.run.proofs.CopyLaws.{copy-turn, copy-end}
 use Rattle.run.proofs.text.put.Statement.{statement}
 use Rattle.run.proofs.text.put.Tie as tie
 
@@ -16,7 +19,9 @@ abbrev μ-loop : tie.MeasureT-loop
 μ-loop out₀ at text n i₀ out i = n - i
 
 loop-holds : tie.Need-loop-holds Inv-loop μ-loop
-loop-holds c = (omega arith, refl, copy-start (c .args .out .now) (c .args .text .now) (c .args .at))
+loop-holds c =
+    let a = c .args in
+    (omega arith, refl, ap (λ (j : ℕ). sets (a .out .now) j (a .text .now)) (sym (add-zero (a .at))))
 
 shared-slice-read-out : tie.Need-shared-slice-read-out Inv-loop μ-loop
 shared-slice-read-out c = omega arith
@@ -35,9 +40,16 @@ loop-less c = omega arith
 
 loop-again : tie.Need-loop-again Inv-loop μ-loop
 loop-again c =
-    let a = c .before .before .before .args in
-    let step = copy-turn (a .out .now) (a .text .now) (a .at) (c .before .before .loop .out) (c .before .before .loop .i) in
-    (omega arith, simp length-set (c .before .before .loop .inv .1), step (c .before .loop-test .taken) (c .before .before .loop .inv .2))
+    let c2 = c .before .before in
+    let c3 = c2 .before in
+    let a = c3 .args in
+    let i = c2 .loop .i in
+    let step = copy-turn (a .out .now) (a .text .now) (a .at) (c2 .loop .out) i (a .at + i) _ (i + 1) (a .at + (i + 1)) in (
+      omega arith,
+      simp length-set (c2 .loop .inv .1),
+      step (c .before .loop-test .taken) refl (omega arith) (omega arith)
+          (c2 .loop .inv .2),
+    )
 
 add-result : tie.Need-add-result Inv-loop μ-loop
 add-result c = omega arith
@@ -48,7 +60,7 @@ same-length c = c .before .loop .inv .1
 returns : tie.Need-returns Inv-loop μ-loop
 returns c =
     let a = c .before .before .args in
-    let whole = copy-end (a .out .now) (a .text .now) (a .at) (c .before .loop .out) (c .before .loop .i) in
+    let whole = copy-end (a .out .now) (a .text .now) (a .at) (c .before .loop .out) (c .before .loop .i) _ in
     record { bytes = whole (c .loop-test .left) (c .before .loop .inv .2); end = refl; fits = omega arith }
 
 pub put-spec : {M : Type 1} → statement M

@@ -1,0 +1,127 @@
+-- `run::pass::pass` meets its contract.
+use native.Mathlib.Omega.{arith}
+use borrow.Author.Needs.{needs}
+use mathlib.Core.Path.{_≡_, refl, sym, _∙_}
+use Prim.Native.Nat.{_+_, _*_, _≤_, _-_}
+use lib.ListN.{length, drop, length-set}
+use lib.Seq.{sets}
+use Rattle.roster.specs.Roster.{rosterOf}
+use Rattle.run.specs.Limits.{pairSize}
+use Rattle.run.specs.Inputs.{inputsOf}
+use Rattle.run.specs.Run.{pairsFrom}
+use Rattle.run.specs.Slices.{configOf, Going}
+use Rattle.run.proofs.PassLaws.{pairs-turn, pairs-over, runner-low}
+use Rattle.run.proofs.pass.pass.Statement.{statement}
+use Rattle.run.proofs.pass.pass.Tie as tie
+
+abbrev Inv-loop : tie.InvT-loop
+Inv-loop roster events buffer₀ head₀ tasks₀ held₀ ceilings queues₀ positions₀ n i₀ buffer head tasks held queues positions i =
+    (i ≤ n) × (length buffer ≡ length buffer₀) × Going roster head tasks held ceilings queues positions ×
+    (sets buffer₀ 0 (pairsFrom (rosterOf roster) (configOf roster head₀ tasks₀ held₀ ceilings queues₀ positions₀) (inputsOf events)) ≡
+    sets buffer (pairSize * i)
+    (pairsFrom (rosterOf roster) (configOf roster head tasks held ceilings queues positions) (drop i (inputsOf events))))
+
+abbrev μ-loop : tie.MeasureT-loop
+μ-loop roster events buffer₀ head₀ tasks₀ held₀ ceilings queues₀ positions₀ n i₀ buffer head tasks held queues positions i = n - i
+
+loop-holds : tie.Need-loop-holds Inv-loop μ-loop
+loop-holds c =
+    (omega arith, refl, c .before .before .before .before .before .before .before .before .pre .0, refl)
+
+input-at-requires : tie.Need-input-at-requires Inv-loop μ-loop
+input-at-requires c κs = search needs
+
+happen-requires : tie.Need-happen-requires Inv-loop μ-loop
+happen-requires c κs = c .before .before .before .before .before .before .before .loop .inv .2
+
+mul-at : tie.Need-mul-at Inv-loop μ-loop
+mul-at c = omega arith
+
+number-requires : tie.Need-number-requires Inv-loop μ-loop
+number-requires c κs = search needs
+
+slice-write-buffer : tie.Need-slice-write-buffer Inv-loop μ-loop
+slice-write-buffer c = omega arith
+
+running-byte-requires : tie.Need-running-byte-requires Inv-loop μ-loop
+running-byte-requires c κs =
+    runner-low (c .before .before .before .before .before .before .before .before .before .before .happen .ensures .going)
+
+add-buffer : tie.Need-add-buffer Inv-loop μ-loop
+add-buffer c =
+    let c12 = c .before .before .before .before .before .before .before .before .before .before .before .before in
+    let c18 = c12 .before .before .before .before .before .before in
+    let c28 = c18 .before .before .before .before .before .before .before .before .before .before in
+    omega (arith, c28 .good .1 .0 .0, c18 .loop-test .taken)
+
+slice-write-buffer-2 : tie.Need-slice-write-buffer-2 Inv-loop μ-loop
+slice-write-buffer-2 c = simp length-set (omega arith)
+
+add-i : tie.Need-add-i Inv-loop μ-loop
+add-i c =
+    let c12 = c .before .before .before .before .before .before .before .before .before .before .before .before in
+    let c18 = c12 .before .before .before .before .before .before in
+    let c28 = c18 .before .before .before .before .before .before .before .before .before .before in
+    omega (arith, c28 .good .1 .0 .0, c18 .loop-test .taken)
+
+loop-less : tie.Need-loop-less Inv-loop μ-loop
+loop-less c = omega arith
+
+loop-again : tie.Need-loop-again Inv-loop μ-loop
+loop-again c =
+    let c2 = c .before .before in
+    let c11 = c2 .before .before .before .before .before .before .before .before .before in
+    let c17 = c11 .before .before .before .before .before .before in
+    let c18 = c17 .before in
+    let c19 = c18 .before in
+    let loop = c19 .loop in
+    let event = c11 .happen .ensures in (
+      omega arith,
+      simp length-set (loop .inv .1),
+      event .going,
+      pairs-turn _ _ _ _ _ _ _ _ _ _ _ (c18 .loop-test .taken) (c17 .input-at .ensures) (event .answer) (event .same)
+          (c2 .number .ensures) (c .running-byte .ensures) (loop .inv .3),
+    )
+
+same-length : tie.Need-same-length Inv-loop μ-loop
+same-length c = c .before .loop .inv .1
+
+same-length-2 : tie.Need-same-length-2 Inv-loop μ-loop
+same-length-2 c = search needs
+
+same-length-3 : tie.Need-same-length-3 Inv-loop μ-loop
+same-length-3 c = search needs
+
+same-length-4 : tie.Need-same-length-4 Inv-loop μ-loop
+same-length-4 c = search needs
+
+same-length-5 : tie.Need-same-length-5 Inv-loop μ-loop
+same-length-5 c = search needs
+
+returns : tie.Need-returns Inv-loop μ-loop
+returns c = pairs-over _ _ _ _ _ _ (c .loop-test .left) (c .before .loop .inv .3)
+
+pub pass-spec : {M : Type 1} → statement M
+pass-spec =
+    tie.close
+    (tie.spec
+    Inv-loop
+    μ-loop
+    loop-holds
+    input-at-requires
+    happen-requires
+    mul-at
+    number-requires
+    slice-write-buffer
+    running-byte-requires
+    add-buffer
+    slice-write-buffer-2
+    add-i
+    loop-less
+    loop-again
+    same-length
+    same-length-2
+    same-length-3
+    same-length-4
+    same-length-5
+    returns)

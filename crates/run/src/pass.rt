@@ -1,0 +1,129 @@
+// A run: what it answers, decided first, and then one pass over its events.
+ghost use mathlib.Core.Path.{_≡_};
+ghost use Prim.Native.Nat.{_*_, _≤_};
+ghost use lib.ListN.{length, getD};
+ghost use lib.Seq.{sets};
+ghost use Rattle.rules.specs.Limits.{taskLimit};
+ghost use Rattle.roster.specs.Roster.{rosterOf};
+ghost use Rattle.roster.specs.Check.{checkOf};
+ghost use Rattle.roster.specs.declared.Verdict.the-variants.{Passed};
+ghost use Rattle.engine.specs.Memory.{runningCell, runnerOf};
+ghost use Rattle.run.specs.Limits.{pairSize};
+ghost use Rattle.run.specs.Inputs.{eventCount, inputsOf};
+ghost use Rattle.run.specs.Run.{answerOf, runningByte, pairsFrom, pairsOf, bufferOf};
+ghost use Rattle.run.specs.Slices.{configOf, Going};
+use crate::RunAnswer;
+use crate::events::happen;
+use crate::inputs::events_good;
+use crate::inputs::input_at;
+use crate::sizes::EVENT_SIZE;
+use crate::sizes::HEAD_WIDTH;
+use crate::sizes::HELD_CELLS;
+use crate::sizes::NOBODY;
+use crate::sizes::OBJECT_LIMIT;
+use crate::sizes::PAIR_SIZE;
+use crate::sizes::QUEUE_CELLS;
+use crate::sizes::RUNNING_CELL;
+use crate::sizes::TASK_CELLS;
+use crate::sizes::TASK_LIMIT;
+use crate::start::start;
+use roster::check;
+
+// The running task, or NOBODY.
+fn running_byte(head: &[u64; HEAD_WIDTH]) -> u8
+    requires { ⌜ getD (now head) runningCell 0 ≤ taskLimit ⌝ }
+    ensures { λ r. ⌜ r ≡ runningByte (runnerOf (getD (now (head .entry)) runningCell 0)) ⌝ }
+{
+    let running = head[RUNNING_CELL];
+    if running == 0 {
+        return NOBODY;
+    }
+    (running - 1) as u8
+}
+
+// Each event in order, and its pair.
+fn pass(
+    roster: &[u8],
+    events: &[u8],
+    buffer: &mut [u8],
+    head: &mut [u64; HEAD_WIDTH],
+    tasks: &mut [u64],
+    held: &mut [u8],
+    ceilings: &[u8],
+    queues: &mut [u8],
+    positions: &mut [u16],
+)
+    requires { ⌜ Going (now roster) (now head) (now tasks) (now held) (now ceilings) (now queues) (now positions) ⌝ }
+    requires { ⌜ pairSize * eventCount (now events) ≤ length (now buffer) ⌝ }
+    ensures { λ u.
+        ⌜ now (buffer .exit) ≡
+        sets (now (buffer .entry)) 0
+        (pairsFrom (rosterOf (now (roster .entry)))
+        (configOf (now (roster .entry)) (now (head .entry)) (now (tasks .entry)) (now (held .entry)) (now (ceilings .entry))
+        (now (queues .entry)) (now (positions .entry)))
+        (inputsOf (now (events .entry)))) ⌝ }
+{
+    let n = events.len() / EVENT_SIZE;
+    let mut i: usize = 0;
+    while i < n {
+        let x = input_at(events, i);
+        let answer = happen(roster, head, tasks, held, ceilings, queues, positions, x);
+        let at = PAIR_SIZE * i;
+        buffer[at] = answer.number();
+        buffer[at + 1] = running_byte(head);
+        i += 1;
+    }
+}
+
+// A run that nothing refuses.
+fn run_through(roster: &[u8], events: &[u8], buffer: &mut [u8])
+    requires { ⌜ checkOf (now roster) ≡ Passed ⌝ }
+    requires { ⌜ pairSize * eventCount (now events) ≤ length (now buffer) ⌝ }
+    ensures { λ u. ⌜ now (buffer .exit) ≡ sets (now (buffer .entry)) 0 (pairsOf (now (roster .entry)) (now (events .entry))) ⌝ }
+{
+    let mut head = [0u64; HEAD_WIDTH];
+    let mut tasks = [0u64; TASK_CELLS];
+    let mut held = [0u8; HELD_CELLS];
+    let mut ceilings = [0u8; OBJECT_LIMIT];
+    let mut queues = [0u8; QUEUE_CELLS];
+    let mut positions = [0u16; TASK_LIMIT];
+    start(
+        roster,
+        &mut head,
+        &mut tasks,
+        &mut held,
+        &mut ceilings,
+        &mut queues,
+    );
+    pass(
+        roster,
+        events,
+        buffer,
+        &mut head,
+        &mut tasks,
+        &mut held,
+        &ceilings,
+        &mut queues,
+        &mut positions,
+    );
+}
+
+// Runs a roster under events: two bytes per event into the buffer, its answer and the running task or 255. A refused run writes
+// nothing, and bytes past the last pair stay.
+pub fn run(roster: &[u8], events: &[u8], buffer: &mut [u8]) -> RunAnswer
+    ensures { λ a. ⌜ a ≡ answerOf (now (roster .entry)) (now (events .entry)) (length (now (buffer .entry))) ⌝ }
+    ensures { λ a. ⌜ now (buffer .exit) ≡ bufferOf (now (roster .entry)) (now (events .entry)) (now (buffer .entry)) ⌝ }
+{
+    let verdict = check(roster);
+    if !verdict.passed() {
+        return RunAnswer::BadRoster(verdict);
+    }
+    if !events_good(events) {
+        return RunAnswer::BadEvents;
+    }
+    if buffer.len() < PAIR_SIZE * (events.len() / EVENT_SIZE) {
+        return RunAnswer::ShortBuffer;
+    }
+    run_through(roster, events, buffer);
+    RunAnswer::Done
+}

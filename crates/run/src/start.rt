@@ -1,0 +1,73 @@
+// The fresh start of a run: the engine's slices from the roster's bases and ceilings.
+ghost use mathlib.Core.Path.{_≡_};
+ghost use Prim.Native.Nat.{_≤_};
+ghost use lib.ListN.{length, take};
+ghost use Rattle.rules.specs.Fresh.{freshModel};
+ghost use Rattle.roster.specs.Format.{taskCount, objectCount};
+ghost use Rattle.roster.specs.Roster.{rosterOf};
+ghost use Rattle.roster.specs.Check.{checkOf};
+ghost use Rattle.roster.specs.declared.Verdict.the-variants.{Passed};
+ghost use Rattle.engine.specs.Memory.{Means};
+ghost use Rattle.engine.specs.Fresh.{Sized};
+use crate::sizes::HEAD_WIDTH;
+use crate::sizes::OBJECT_LIMIT;
+use crate::sizes::TASK_LIMIT;
+use engine::fresh;
+use roster::format;
+
+// The bases, in the first cells.
+fn read_bases(roster: &[u8], bases: &mut [u8])
+    requires { ⌜ taskCount (now roster) ≤ length (now bases) ⌝ }
+    ensures { λ u. ⌜ take (taskCount (now (roster .entry))) (now (bases .exit)) ≡ rosterOf (now (roster .entry)) .bases ⌝ }
+{
+    let n = format::task_count(roster);
+    let mut t: u8 = 0;
+    while t < n {
+        bases[t as usize] = format::base_of(roster, t);
+        t += 1;
+    }
+}
+
+// The ceilings, in the first cells.
+fn read_ceilings(roster: &[u8], ceilings: &mut [u8])
+    requires { ⌜ objectCount (now roster) ≤ length (now ceilings) ⌝ }
+    ensures { λ u. ⌜ take (objectCount (now (roster .entry))) (now (ceilings .exit)) ≡ rosterOf (now (roster .entry)) .ceilings ⌝ }
+{
+    let n = format::object_count(roster);
+    let mut o: u8 = 0;
+    while o < n {
+        ceilings[o as usize] = format::ceiling_of(roster, o);
+        o += 1;
+    }
+}
+
+pub fn start(
+    roster: &[u8],
+    head: &mut [u64; HEAD_WIDTH],
+    tasks: &mut [u64],
+    held: &mut [u8],
+    ceilings: &mut [u8],
+    queues: &mut [u8],
+)
+    requires { ⌜ checkOf (now roster) ≡ Passed ⌝ }
+    requires { ⌜ Sized (now head) (now tasks) (now held) (now ceilings) (now queues) ⌝ }
+    ensures { λ u.
+        ⌜ Means (now (head .exit)) (now (tasks .exit)) (now (held .exit)) (now (ceilings .exit)) (now (queues .exit))
+        (freshModel (rosterOf (now (roster .entry)) .bases) (rosterOf (now (roster .entry)) .ceilings)) ⌝ }
+{
+    let mut bases = [0u8; TASK_LIMIT];
+    let mut given = [0u8; OBJECT_LIMIT];
+    read_bases(roster, &mut bases);
+    read_ceilings(roster, &mut given);
+    let n = format::task_count(roster) as usize;
+    let m = format::object_count(roster) as usize;
+    fresh::fresh(
+        &bases[..n],
+        &given[..m],
+        head,
+        tasks,
+        held,
+        ceilings,
+        queues,
+    );
+}
