@@ -5,3 +5,4 @@ pub mod Invariant
 pub mod Theorem
 pub mod Passing
 pub mod Written
+pub mod Hosting

@@ -1,0 +1,202 @@
+-- A caller that folds the dispatcher's methods over a list holds, at every prefix, the State of the claim's Model.
+use mathlib.Core.Path.{_≡_, refl, ap, _∙_, sym}
+use mathlib.Core.Bool.{Bool, true, false, cond}
+use mathlib.Core.List.{List, [], _∷_, map, flatMap}
+use Prim.Native.Nat.{ℕ, _*_, _≤_, _<_}
+use native.Mathlib.Omega.{arith}
+use borrow.Author.Tests.{le-leb, lt-ltb}
+use lib.Dec.{eqb, ltb}
+use lib.ListN.{length, getD, replicate, length-map, List·getD-eq-default, List·getD-map}
+use Rattle.rules.specs.Limits.{taskLimit, objectLimit, lastPriority}
+use Rattle.rules.specs.Answers.{numberOf}
+use Rattle.rules.specs.Model.{Model, TaskRecord, blank}
+use Rattle.rules.specs.Events.{apply}
+use Rattle.rules.specs.Sound.{sound}
+use Rattle.rules.specs.declared.Event.{Event}
+use Rattle.rules.specs.declared.Event.the-variants as event
+use Rattle.rules.specs.declared.Runner.{Runner}
+use Rattle.rules.specs.declared.Runner.the-variants.{Nobody, Task}
+use Rattle.rules.specs.declared.Answer.{Answer}
+use Rattle.rules.specs.declared.Answer.the-variants.{Unsound}
+use Rattle.rules.proofs.Choices.{compare, clash}
+use Rattle.rules.proofs.SoundLaws.{sound-is, below-make}
+use Rattle.rules.proofs.Soundness.{good-sound, ready-room, held-room-of}
+use Rattle.rules.proofs.EventLaws.{work-5}
+use Rattle.rules.proofs.Refusals.{table, appliesAt, exactly-when, refused-same}
+use Rattle.roster.specs.Roster.{Roster, rosterOf}
+use Rattle.roster.specs.declared.Step.{Step}
+use Rattle.roster.specs.declared.Step.the-variants.{Enter, Leave, Delay, Work, Suspend, Release, Set, Again, Finish}
+use Rattle.engine.specs.Rows.{rowFor, heldWidth, queueWidth, Lists}
+use Rattle.engine.proofs.GridLaws.{list-room, count-at}
+use Rattle.run.specs.Config.{Config, Outcome, startOf, perform, positionOf, nextStep, advance, outside, stepBy, happen}
+use Rattle.dispatch.specs.declared.Stepped.{Stepped}
+use Rattle.dispatch.specs.State.{view, holding, padded, encode}
+use Rattle.dispatch.specs.Sound.{lengthsGood, sizesFit, soundOf}
+use Rattle.dispatch.specs.Methods.{answered, appliedOf}
+use Rattle.dispatch.proofs.ListLaws.{padded-at, padded-length}
+use Rattle.dispatch.proofs.FlatLaws.{Short, lists-good}
+use Rattle.dispatch.proofs.EncodeLaws.{view-encode}
+use Rattle.dispatch.proofs.FreshLaws.{done-0}
+use Rattle.safety.specs.History as history
+use Rattle.safety.specs.History.{inputOf, afterFrom, after}
+use Rattle.safety.specs.Reckon.{Reckoning}
+use Rattle.safety.specs.Host.{Host, Reply, opening, called, stepOn, call, hostFrom, host, Hosted, Bridge}
+use Rattle.safety.proofs.Discipline.{Keeps}
+use Rattle.safety.proofs.Invariant.{Inv, by-event}
+use Rattle.safety.proofs.Theorem.{invariant}
+use Rattle.safety.proofs.Passing.{keeps}
+
+-- rows made of lists say their lengths
+lengths-of : (w n k : ℕ) (l : List ℕ) → Lists w n l → k ≤ n → lengthsGood w k l ≡ true
+lengths-of w n k l g h =
+    below-make k (λ i. ltb (getD l (i * w) 0) w) (λ i e.
+    let inside : i < n = omega arith in
+    lt-ltb (getD l (i * w) 0) w (omega (arith, count-at w n i l g inside, list-room w n i l g inside)))
+
+module _ (m : Model) (s : sound m ≡ true) where
+  held-short : Short heldWidth (padded taskLimit (map holding (m .tasks)) [])
+  held-short t =
+      rw (padded-at taskLimit (map holding (m .tasks)) [] t, List·getD-map holding (m .tasks) t blank)
+      (compare (length (m .tasks)) t
+      (λ g. omega (arith, ap (λ (k : TaskRecord). length (k .held)) (List·getD-eq-default (m .tasks) blank {n = t} g)))
+      (λ g. omega (arith, held-room-of m s t g, sound-is m s .numbers .objects)))
+
+  queue-short : Short queueWidth (m .ready)
+  queue-short p = omega (arith, ready-room m s p, sound-is m s .numbers .count)
+
+  held-count : length (padded taskLimit (map holding (m .tasks)) []) ≡ taskLimit
+  held-count =
+      padded-length taskLimit (map holding (m .tasks)) []
+      (omega (arith, length-map (m .tasks) holding, sound-is m s .numbers .count))
+
+  -- the State of a sound Model is sound
+  sizes-fit : sizesFit (encode m) ≡ true
+  unfolding sizesFit encode
+  sizes-fit =
+      let n = sound-is m s .numbers in
+      let hs = padded taskLimit (map holding (m .tasks)) [] in
+      let held = lists-good heldWidth taskLimit hs held-count held-short in
+      let ready = lists-good queueWidth lastPriority (m .ready) (n .queues) queue-short in
+      rw (
+        lengths-of heldWidth taskLimit (length (m .tasks)) (flatMap (rowFor heldWidth) hs) held (n .count),
+        lengths-of queueWidth lastPriority lastPriority (flatMap (rowFor queueWidth) (m .ready)) ready (omega arith),
+        le-leb 1 (length (m .tasks)) (n .some),
+        le-leb (length (m .tasks)) taskLimit (n .count),
+        le-leb (length (m .ceilings)) objectLimit (n .objects),
+      )
+
+  pub encode-sound : soundOf (encode m) ≡ true
+  unfolding soundOf
+  encode-sound = rw (sizes-fit, view-encode m s, s)
+
+  -- so an event does what the rule does
+  pub applied-encode : (e : Event) → appliedOf (encode m) e ≡ record { answer = apply m e .answer; state = encode (apply m e .model) }
+  unfolding appliedOf answered
+  applied-encode e = rw (encode-sound, view-encode m s) (go (eqb (numberOf (apply m e .answer)) 0) refl)
+    where
+      go : (b : Bool) → eqb (numberOf (apply m e .answer)) 0 ≡ b →
+          _≡_ {A = Stepped} (record { answer = apply m e .answer; state = cond b (encode (apply m e .model)) (encode m) })
+          (record { answer = apply m e .answer; state = encode (apply m e .model) })
+      go true f = refl
+      go false f = ap {B = Stepped} (λ (v : Model). record { answer = apply m e .answer; state = encode v })
+          (sym (refused-same m e (λ d. clash (sym (ap (λ (a : Answer). eqb (numberOf a) 0) d) ∙ f))))
+
+-- a rule answers 1 to 9, or 0
+rule-never : (m : Model) (e : Event) → apply m e .answer ≡ Unsound → ⊥
+unfolding table appliesAt
+rule-never m e u = clash (sym (exactly-when m e 9 .0 (ap numberOf u) .applies))
+
+-- the caller beside a configuration
+abbrev beside : Config → Host
+beside c = record { state = encode (c .model); positions = c .positions }
+
+abbrev replied : Outcome → Reply
+replied o = record { answer = o .answer; host = beside (o .config) }
+
+module _ (c : Config) (s : sound (c .model) ≡ true) where
+  -- the method that a step calls does what the step does
+  called-is : (x : Step) → called (encode (c .model)) x ≡
+      record { answer = perform (c .model) x .answer; state = encode (perform (c .model) x .model) }
+  unfolding called perform apply
+  called-is (Enter o) = applied-encode (c .model) s (event.Enter o)
+  called-is (Leave o) = applied-encode (c .model) s (event.Leave o)
+  called-is (Delay d) = applied-encode (c .model) s (event.Delay d)
+  called-is Work = applied-encode (c .model) s event.Work
+  called-is Suspend = applied-encode (c .model) s event.Suspend
+  called-is (Release t) = applied-encode (c .model) s (event.Release t)
+  called-is (Set t p) = applied-encode (c .model) s (event.Set t p)
+  called-is Again = refl
+  called-is Finish = applied-encode (c .model) s event.Finish
+
+  step-is : (r : Roster) (w : Runner) → c .model .running ≡ w → stepOn r (beside c) w ≡ replied (stepBy r c w)
+  unfolding stepOn stepBy advance apply
+  step-is r Nobody e = rw (applied-encode (c .model) s event.Work, work-5 (c .model) e)
+  step-is r (Task t) e = rw (called-is (nextStep r t (positionOf c t)))
+
+  call-is : (r : Roster) (e : history.Event) → call r (beside c) e ≡ replied (happen r c (inputOf e))
+  unfolding call happen outside inputOf apply encode
+  call-is r (history.clock x) = rw (applied-encode (c .model) s (event.Clock x))
+  call-is r (history.release t) = rw (applied-encode (c .model) s (event.Release t))
+  call-is r history.step = step-is r (c .model .running) refl
+
+  -- and none of it answers 10
+  perform-never : (x : Step) → perform (c .model) x .answer ≡ Unsound → ⊥
+  unfolding perform apply
+  perform-never (Enter o) u = rule-never (c .model) (event.Enter o) u
+  perform-never (Leave o) u = rule-never (c .model) (event.Leave o) u
+  perform-never (Delay d) u = rule-never (c .model) (event.Delay d) u
+  perform-never Work u = rule-never (c .model) event.Work u
+  perform-never Suspend u = rule-never (c .model) event.Suspend u
+  perform-never (Release t) u = rule-never (c .model) (event.Release t) u
+  perform-never (Set t p) u = rule-never (c .model) (event.Set t p) u
+  perform-never Again u = absurd (omega (arith, ap numberOf u))
+  perform-never Finish u = rule-never (c .model) event.Finish u
+
+  step-never : (r : Roster) (w : Runner) → stepBy r c w .answer ≡ Unsound → ⊥
+  unfolding stepBy advance
+  step-never r Nobody u = absurd (omega (arith, ap numberOf u))
+  step-never r (Task t) u = perform-never (nextStep r t (positionOf c t)) u
+
+  event-never : (r : Roster) (e : history.Event) → happen r c (inputOf e) .answer ≡ Unsound → ⊥
+  unfolding happen outside inputOf apply
+  event-never r (history.clock x) u = rule-never (c .model) (event.Clock x) u
+  event-never r (history.release t) u = rule-never (c .model) (event.Release t) u
+  event-never r history.step u = step-never r (c .model .running) u
+
+-- every list
+hosted-from : (r : Roster) → Keeps r → (es : List history.Event) (c : Config) (b : Reckoning) → Inv r c b →
+    hostFrom r (beside c) es ≡ beside (afterFrom r c es)
+unfolding hostFrom afterFrom
+hosted-from r k [] c b i = refl
+hosted-from r k (e ∷ es) c b i =
+    ap (λ (x : Reply). hostFrom r (x .host) es) (call-is c (good-sound (c .model) (i .good)) r e) ∙
+    hosted-from r k es _ _ (by-event r k c b i e)
+
+opened-is : (r : Roster) → Keeps r → opening r ≡ beside (startOf r)
+unfolding opening startOf
+opened-is r k =
+    ap (λ (x : Stepped). record { state = x .state; positions = replicate (length (r .bases)) 0 })
+    (sym (done-0 (r .bases) (r .ceilings) (k .some) (k .count) (k .objects) (k .bases) (k .ceilings)))
+
+module _ (r : Roster) (k : Keeps r) (es : List history.Event) where
+  host-is : host r es ≡ beside (after r es)
+  unfolding afterFrom
+  host-is = ap (λ (h : Host). hostFrom r h es) (opened-is r k) ∙ hosted-from r k es (startOf r) _ (invariant r k [])
+
+  here-sound : sound (after r es .model) ≡ true
+  here-sound = good-sound (after r es .model) (invariant r k es .good)
+
+  answer-is : (e : history.Event) → call r (host r es) e .answer ≡ happen r (after r es) (inputOf e) .answer
+  answer-is e = ap (λ (h : Host). call r h e .answer) host-is ∙ ap (λ (x : Reply). x .answer) (call-is (after r es) here-sound r e)
+
+  pub hosted : Hosted r es
+  hosted = record {
+    meaning = ap (λ (h : Host). view (h .state)) host-is ∙ view-encode (after r es .model) here-sound;
+    positions = ap (λ (h : Host). h .positions) host-is;
+    answer = answer-is;
+    never = λ e u. event-never (after r es) here-sound r e (sym (answer-is e) ∙ u);
+  }
+
+-- the bridge
+pub bridge : Bridge
+bridge s y ok es = hosted (rosterOf s) (keeps s y ok) es
