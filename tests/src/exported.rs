@@ -9,6 +9,14 @@ mod raw {
         pub fn dispatch_script_number(roster: *const u8, length: usize, task: u64) -> u8;
         pub fn dispatch_script_start(roster: *const u8, length: usize, task: u64) -> u64;
         pub fn dispatch_script_length(roster: *const u8, length: usize, task: u64) -> u64;
+        pub fn dispatch_run(
+            roster: *const u8,
+            length: usize,
+            events: *const u8,
+            events_length: usize,
+            buffer: *mut u8,
+            buffer_length: usize,
+        ) -> u64;
     }
 }
 
@@ -48,4 +56,19 @@ pub fn script(roster: &[u8], task: u64) -> Result<&[u8], u8> {
             Err(refusal)
         }
     }
+}
+
+/// The answer of a run; what it writes is in the buffer.
+pub fn run(roster: &[u8], events: &[u8], buffer: &mut [u8]) -> (u8, usize, usize) {
+    // SAFETY: as above; the buffer is lent for writing and is no other slice's.
+    unpacked(unsafe {
+        raw::dispatch_run(
+            roster.as_ptr(),
+            roster.len(),
+            events.as_ptr(),
+            events.len(),
+            buffer.as_mut_ptr(),
+            buffer.len(),
+        )
+    })
 }

@@ -6,10 +6,18 @@ use Rattle.roster.specs.Answers.{numberOf, taskOf, positionOf, passed}
 use Rattle.roster.specs.Format.{startAt}
 use Rattle.roster.specs.Form.{scriptAnswer}
 use Rattle.roster.specs.declared.Verdict.{Verdict}
+use Rattle.run.specs.Answers as Run
+use Rattle.run.specs.declared.RunAnswer.{RunAnswer}
 
--- a verdict in one number: its own in the lowest byte, the task in the next, the step above
-unfoldable pub packed : Verdict → ℕ
-packed v = numberOf v + 256 * taskOf v + 65536 * positionOf v
+-- an answer in one number: its own in the lowest byte, the task in the next, the step above
+unfoldable pub packed : ℕ → ℕ → ℕ → ℕ
+packed number task position = number + 256 * task + 65536 * position
+
+abbrev pub packedVerdict : Verdict → ℕ
+packedVerdict v = packed (numberOf v) (taskOf v) (positionOf v)
+
+abbrev pub packedRun : RunAnswer → ℕ
+packedRun a = packed (Run.numberOf a) (Run.taskOf a) (Run.positionOf a)
 
 -- where a task's script starts, or 0 on a refusal; its length is that of the part
 unfoldable pub scriptStart : List ℕ → ℕ → ℕ

@@ -2,38 +2,37 @@
 ghost use mathlib.Core.Path.{_≡_};
 ghost use Prim.Native.Nat.{_≤_};
 ghost use lib.ListN.{length};
-ghost use Rattle.roster.specs.Answers.{numberOf, positionOf};
+ghost use Rattle.roster.specs.Answers.{numberOf};
 ghost use Rattle.roster.specs.Limits.{largestRoster};
 ghost use Rattle.roster.specs.Form.{formOf, scriptAnswer, scriptPart};
 ghost use Rattle.roster.specs.Check.{checkOf};
-ghost use Rattle.exports.specs.Packed.{packed, scriptStart};
-use roster::Verdict;
+ghost use Rattle.run.specs.Run.{answerOf, bufferOf};
+ghost use Rattle.exports.specs.Packed.{packed, packedVerdict, packedRun, scriptStart};
 use roster::format;
 
-fn pack(v: Verdict) -> u64
-    requires { ⌜ positionOf v ≤ largestRoster ⌝ }
-    ensures { λ r. ⌜ r ≡ packed v ⌝ }
+fn pack(number: u8, task: u8, position: usize) -> u64
+    requires { ⌜ position ≤ largestRoster ⌝ }
+    ensures { λ r. ⌜ r ≡ packed number task position ⌝ }
 {
-    let number = v.number() as u64;
-    let task = v.task() as u64;
-    let position = v.position() as u64;
-    number + 256 * task + 65536 * position
+    number as u64 + 256 * task as u64 + 65536 * position as u64
 }
 
 // The form of a roster: number, 256 times the task, 65536 times the step.
 #[no_mangle]
 pub extern "C" fn dispatch_form(roster: &[u8]) -> u64
-    ensures { λ r. ⌜ r ≡ packed (formOf (now (roster .entry))) ⌝ }
+    ensures { λ r. ⌜ r ≡ packedVerdict (formOf (now (roster .entry))) ⌝ }
 {
-    pack(roster::form(roster))
+    let v = roster::form(roster);
+    pack(v.number(), v.task(), v.position())
 }
 
 // The check of a roster, in the same packing.
 #[no_mangle]
 pub extern "C" fn dispatch_check(roster: &[u8]) -> u64
-    ensures { λ r. ⌜ r ≡ packed (checkOf (now (roster .entry))) ⌝ }
+    ensures { λ r. ⌜ r ≡ packedVerdict (checkOf (now (roster .entry))) ⌝ }
 {
-    pack(roster::check(roster))
+    let v = roster::check(roster);
+    pack(v.number(), v.task(), v.position())
 }
 
 // The number of a script's refusal: 11 to 16, then 1; or 0.
@@ -61,4 +60,14 @@ pub extern "C" fn dispatch_script_length(roster: &[u8], t: u64) -> u64
     ensures { λ r. ⌜ r ≡ length (scriptPart (now (roster .entry)) t) ⌝ }
 {
     roster::script(roster, t as usize).len() as u64
+}
+
+// A run of a roster under events, its answer in the same packing; two bytes per event in the buffer.
+#[no_mangle]
+pub extern "C" fn dispatch_run(roster: &[u8], events: &[u8], buffer: &mut [u8]) -> u64
+    ensures { λ r. ⌜ r ≡ packedRun (answerOf (now (roster .entry)) (now (events .entry)) (length (now (buffer .entry)))) ⌝ }
+    ensures { λ r. ⌜ now (buffer .exit) ≡ bufferOf (now (roster .entry)) (now (events .entry)) (now (buffer .entry)) ⌝ }
+{
+    let a = run::run(roster, events, buffer);
+    pack(a.number(), a.task(), a.position())
 }

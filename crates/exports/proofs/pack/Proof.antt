@@ -5,21 +5,6 @@ use borrow.Author.Needs.{needs}
 use Rattle.exports.proofs.pack.Statement.{statement}
 use Rattle.exports.proofs.pack.Tie as tie
 
-number-requires : tie.Need-number-requires
-number-requires c κs = search needs
-
-cast-number : tie.Need-cast-number
-cast-number c = search needs
-
-task-requires : tie.Need-task-requires
-task-requires c κs = search needs
-
-cast-task : tie.Need-cast-task
-cast-task c = search needs
-
-position-requires : tie.Need-position-requires
-position-requires c κs = search needs
-
 mul-result : tie.Need-mul-result
 mul-result c = search needs
 
@@ -37,16 +22,4 @@ unfolding packed
 returns c = omega arith
 
 pub pack-spec : {M : Type 1} → statement M
-pack-spec =
-    tie.close
-    (tie.spec
-    number-requires
-    cast-number
-    task-requires
-    cast-task
-    position-requires
-    mul-result
-    add-result
-    mul-result-2
-    add-result-2
-    returns)
+pack-spec = tie.close (tie.spec mul-result add-result mul-result-2 add-result-2 returns)

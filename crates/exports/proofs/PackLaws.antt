@@ -1,0 +1,41 @@
+-- Laws of packed answers: what is packed of an answer part by part, and that a run names no step past the largest roster.
+use mathlib.Core.Path.{_≡_, _∙_}
+use mathlib.Core.Bool.{true, false, not}
+use mathlib.Core.List.{List}
+use Prim.Native.Nat.{ℕ, _*_, _≤_}
+use native.Mathlib.Omega.{arith}
+use lib.Dec.{ltb}
+use Rattle.rules.proofs.Choices.{both-ways}
+use Rattle.roster.specs.Answers.{numberOf, taskOf, positionOf, passed}
+use Rattle.roster.specs.Limits.{largestRoster}
+use Rattle.roster.specs.Check.{checkOf}
+use Rattle.roster.specs.declared.Verdict.{Verdict}
+use Rattle.roster.proofs.PositionLaws.{check-small}
+use Rattle.run.specs.Answers as Run
+use Rattle.run.specs.Limits.{pairSize}
+use Rattle.run.specs.Inputs.{eventCount, eventsGood}
+use Rattle.run.specs.Run.{answerOf}
+use Rattle.run.specs.declared.RunAnswer.{RunAnswer}
+use Rattle.exports.specs.Packed.{packed, packedVerdict, packedRun}
+
+pub pack-verdict : (v w : Verdict) (n t p r : ℕ) → v ≡ w → n ≡ numberOf v → t ≡ taskOf v → p ≡ positionOf v → r ≡ packed n t p →
+    r ≡ packedVerdict w
+pack-verdict v w n t p r e f g h i = i ∙ rw (f, g, h, e)
+
+pub pack-run : (v w : RunAnswer) (n t p r : ℕ) → v ≡ w → n ≡ Run.numberOf v → t ≡ Run.taskOf v → p ≡ Run.positionOf v → r ≡ packed n t p →
+    r ≡ packedRun w
+pack-run v w n t p r e f g h i = i ∙ rw (f, g, h, e)
+
+-- what a run names
+abbrev Small : RunAnswer → Type 0
+Small a = Run.positionOf a ≤ largestRoster
+
+run-small : (s events : List ℕ) (size : ℕ) → Run.positionOf (answerOf s events size) ≤ largestRoster
+unfolding answerOf
+run-small s events size =
+    both-ways Small (not (passed (checkOf s))) _ _ (λ e. check-small s) (λ e.
+    both-ways Small (not (eventsGood events)) _ _ (λ f. omega arith) (λ f.
+    both-ways Small (ltb size (pairSize * eventCount events)) _ _ (λ g. omega arith) (λ g. omega arith)))
+
+pub run-place : (a : RunAnswer) (s events : List ℕ) (size p : ℕ) → a ≡ answerOf s events size → p ≡ Run.positionOf a → p ≤ largestRoster
+run-place a s events size p e f = rw (f, e) (run-small s events size)
