@@ -111,24 +111,40 @@ unfolding pairsOf inputsOf
 pairs-length roster events =
     pairs-count _ _ (inputsOf events) ∙ ap (λ (n : ℕ). pairSize * n) (length-tabulate (eventCount events) (inputAt events))
 
+-- what a run answers, by its tests in their order
+module _ (roster events : List ℕ) (size : ℕ) where
+  abbrev on-roster : RunAnswer
+  on-roster = cond (not (eventsGood events)) BadEvents (cond (ltb size (pairSize * eventCount events)) ShortBuffer Done)
+
+  pub answer-roster : passed (checkOf roster) ≡ false → answerOf roster events size ≡ BadRoster (checkOf roster)
+  unfolding answerOf
+  answer-roster e = ap (λ (x : Bool). cond (not x) (BadRoster (checkOf roster)) on-roster) e
+
+  answer-on : passed (checkOf roster) ≡ true → answerOf roster events size ≡ on-roster
+  unfolding answerOf
+  answer-on e = ap (λ (x : Bool). cond (not x) (BadRoster (checkOf roster)) on-roster) e
+
+  answer-good : passed (checkOf roster) ≡ true → eventsGood events ≡ true →
+      answerOf roster events size ≡ cond (ltb size (pairSize * eventCount events)) ShortBuffer Done
+  answer-good e f =
+      answer-on e ∙ ap (λ (x : Bool). cond (not x) BadEvents (cond (ltb size (pairSize * eventCount events)) ShortBuffer Done)) f
+
+  pub answer-events : passed (checkOf roster) ≡ true → eventsGood events ≡ false → answerOf roster events size ≡ BadEvents
+  answer-events e f =
+      answer-on e ∙ ap (λ (x : Bool). cond (not x) BadEvents (cond (ltb size (pairSize * eventCount events)) ShortBuffer Done)) f
+
+  pub answer-short : passed (checkOf roster) ≡ true → eventsGood events ≡ true →
+      ltb size (pairSize * eventCount events) ≡ true → answerOf roster events size ≡ ShortBuffer
+  answer-short e f g = answer-good e f ∙ ap (λ (x : Bool). cond x ShortBuffer Done) g
+
+  pub answer-done : passed (checkOf roster) ≡ true → eventsGood events ≡ true → pairSize * eventCount events ≤ size →
+      answerOf roster events size ≡ Done
+  answer-done e f h = answer-good e f ∙ ap (λ (x : Bool). cond x ShortBuffer Done) (le-ltb _ _ h)
+
 -- the ways of a run, each test by a name for it
 module _ (roster events buffer : List ℕ) where
   abbrev pub Ran : RunAnswer → List ℕ → Type 0
   Ran a after = (a ≡ answerOf roster events (length buffer)) × (after ≡ bufferOf roster events buffer)
-
-  -- the answer once the roster passes, and once the events are good too
-  abbrev on-roster : RunAnswer
-  on-roster = cond (not (eventsGood events)) BadEvents (cond (ltb (length buffer) (pairSize * eventCount events)) ShortBuffer Done)
-
-  abbrev on-events : RunAnswer
-  on-events = cond (ltb (length buffer) (pairSize * eventCount events)) ShortBuffer Done
-
-  passed-on : passed (checkOf roster) ≡ true → answerOf roster events (length buffer) ≡ on-roster
-  unfolding answerOf
-  passed-on e = ap (λ (x : Bool). cond (not x) (BadRoster (checkOf roster)) on-roster) e
-
-  good-on : eventsGood events ≡ true → on-roster ≡ on-events
-  good-on e = ap (λ (x : Bool). cond (not x) BadEvents on-events) e
 
   -- a refused run
   refuses : (a : RunAnswer) → answerOf roster events (length buffer) ≡ a → ran a ≡ false → Ran a buffer
@@ -139,11 +155,9 @@ module _ (roster events buffer : List ℕ) where
   )
 
   pub run-roster : (v : Verdict) (b : Bool) → v ≡ checkOf roster → b ≡ passed v → b ≡ false → Ran (BadRoster v) buffer
-  unfolding answerOf
   run-roster v b e p f =
       let fails : passed (checkOf roster) ≡ false = ap passed (sym e) ∙ (sym p ∙ f) in
-      refuses (BadRoster v) (ap (λ (x : Bool). cond (not x) (BadRoster (checkOf roster)) on-roster) fails ∙ ap BadRoster (sym e))
-      (sym p ∙ f)
+      refuses (BadRoster v) (answer-roster roster events (length buffer) fails ∙ ap BadRoster (sym e)) (sym p ∙ f)
 
   module _ (v : Verdict) (b : Bool) (check : v ≡ checkOf roster) (test : b ≡ passed v) (passes : b ≡ true) where
     passed-check : passed (checkOf roster) ≡ true
@@ -153,21 +167,17 @@ module _ (roster events buffer : List ℕ) where
     run-passes = passed-is (checkOf roster) passed-check
 
     pub run-events : (g : Bool) → g ≡ eventsGood events → g ≡ false → Ran BadEvents buffer
-    run-events g e f =
-        refuses BadEvents (passed-on passed-check ∙ ap (λ (x : Bool). cond (not x) BadEvents on-events) (sym e ∙ f)) refl
+    run-events g e f = refuses BadEvents (answer-events roster events (length buffer) passed-check (sym e ∙ f)) refl
 
     pub run-short : (g : Bool) → g ≡ eventsGood events → g ≡ true → length buffer < pairSize * eventCount events → Ran ShortBuffer buffer
     run-short g e f h =
-        refuses ShortBuffer
-        (passed-on passed-check ∙ (good-on (sym e ∙ f) ∙ ap (λ (x : Bool). cond x ShortBuffer Done) (lt-ltb _ _ h))) refl
+        refuses ShortBuffer (answer-short roster events (length buffer) passed-check (sym e ∙ f) (lt-ltb _ _ h)) refl
 
     pub run-done : (g : Bool) (after : List ℕ) → g ≡ eventsGood events → g ≡ true → pairSize * eventCount events ≤ length buffer →
         after ≡ sets buffer 0 (pairsOf roster events) → Ran Done after
     unfolding bufferOf
     run-done g after e f h k =
-        let is : answerOf roster events (length buffer) ≡ Done =
-        passed-on passed-check ∙ (good-on (sym e ∙ f) ∙ ap (λ (x : Bool). cond x ShortBuffer Done) (le-ltb _ _ h))
-        in
+        let is : answerOf roster events (length buffer) ≡ Done = answer-done roster events (length buffer) passed-check (sym e ∙ f) h in
         let room : length (pairsOf roster events) ≤ length buffer = omega (arith, pairs-length roster events) in (
           sym is,
           k ∙ (sets-front buffer (pairsOf roster events) room ∙

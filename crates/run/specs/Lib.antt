@@ -4,4 +4,5 @@ pub mod Inputs
 pub mod Answers
 pub mod Run
 pub mod Lines
+pub mod Report
 pub mod Slices

@@ -1,18 +1,19 @@
 // A run of a roster under events.
 
 ghost use mathlib.Core.Path.{_≡_};
-ghost use Rattle.roster.specs.Answers as Roster;
 ghost use Rattle.run.specs.Answers.{numberOf, taskOf, positionOf};
 use roster::Verdict;
 
 mod events;
 mod inputs;
 mod pass;
+mod reports;
 mod sizes;
 mod start;
 mod text;
 
 pub use pass::run;
+pub use reports::report;
 pub use text::lines;
 
 // An event of a run, decoded. Fields that an event does not use are gone; the others may be out of range.
@@ -55,7 +56,7 @@ impl RunAnswer {
     {
         match self {
             RunAnswer::Done => 0,
-            RunAnswer::BadRoster(v) => task_of(v),
+            RunAnswer::BadRoster(v) => v.task(),
             RunAnswer::BadEvents => 0,
             RunAnswer::ShortBuffer => 0,
         }
@@ -67,47 +68,9 @@ impl RunAnswer {
     {
         match self {
             RunAnswer::Done => 0,
-            RunAnswer::BadRoster(v) => position_of(v),
+            RunAnswer::BadRoster(v) => v.position(),
             RunAnswer::BadEvents => 0,
             RunAnswer::ShortBuffer => 0,
         }
-    }
-}
-
-fn task_of(v: Verdict) -> u8
-    ensures { λ r. ⌜ r ≡ Roster.taskOf v ⌝ }
-{
-    match v {
-        Verdict::Passed => 0,
-        Verdict::NoSuchTask => 0,
-        Verdict::BadLength => 0,
-        Verdict::BadMark => 0,
-        Verdict::BadCounts => 0,
-        Verdict::BadLayout => 0,
-        Verdict::BadValues => 0,
-        Verdict::BadStep(t, _) => t,
-        Verdict::WhileHeld(t, _) => t,
-        Verdict::LowCeiling(t, _) => t,
-        Verdict::NotInnermost(t, _) => t,
-        Verdict::OtherTask(t, _) => t,
-    }
-}
-
-fn position_of(v: Verdict) -> usize
-    ensures { λ r. ⌜ r ≡ Roster.positionOf v ⌝ }
-{
-    match v {
-        Verdict::Passed => 0,
-        Verdict::NoSuchTask => 0,
-        Verdict::BadLength => 0,
-        Verdict::BadMark => 0,
-        Verdict::BadCounts => 0,
-        Verdict::BadLayout => 0,
-        Verdict::BadValues => 0,
-        Verdict::BadStep(_, k) => k,
-        Verdict::WhileHeld(_, k) => k,
-        Verdict::LowCeiling(_, k) => k,
-        Verdict::NotInnermost(_, k) => k,
-        Verdict::OtherTask(_, k) => k,
     }
 }
