@@ -163,8 +163,9 @@ module _ (roster events : List ℕ) (size : ℕ) (out : List ℕ) (pairs-enough 
       (sym (ap (λ (x : Bool). cond (not x) failed later) e)))
 
   -- what stands in front of the buffer, as many bytes as the answer says, is what is printed
-  pub report-front : take (reportSize roster events size out) (reportBuffer roster events size out) ≡ printed roster events
-  report-front =
+  pub report-text : {r : ℕ} {out' : List ℕ} → r ≡ reportSize roster events size out → out' ≡ reportBuffer roster events size out →
+      take r out' ≡ printed roster events
+  report-text {r} {out'} e f =
       let text = printed roster events in
-      ap (λ (n : ℕ). take n (reportBuffer roster events size out)) (report-enough .0) ∙
-      (ap (take (length text)) (report-enough .1) ∙ take-append-seam text (drop (length text) out))
+      ap (λ (n : ℕ). take n out') (e ∙ report-enough .0) ∙
+      (ap (take (length text)) (f ∙ report-enough .1) ∙ take-append-seam text (drop (length text) out))

@@ -1,0 +1,30 @@
+-- `program::text` meets its contract.
+use Prim.Native.Nat.{_≤_}
+use native.Mathlib.Omega.{arith}
+use Rattle.run.specs.Report.{pairsEnough}
+use Rattle.run.proofs.ReportLaws.{report-text}
+use borrow.Author.Needs.{needs}
+use Rattle.program.proofs.CountLaws.{counts}
+use Rattle.program.proofs.text.Statement.{statement}
+use Rattle.program.proofs.text.Tie as tie
+
+slice-aggregate-report : tie.Need-slice-aggregate-report
+slice-aggregate-report c = search needs
+
+report-requires : tie.Need-report-requires
+report-requires c κs = search needs
+
+same-length : tie.Need-same-length
+same-length c = search needs
+
+returns : tie.Need-returns
+returns c =
+    let c3 = c .before .before .before in
+    let c9 = c3 .before .before .before .before .before .before in
+    let a = c9 .args in
+    let e = c3 .report .ensures in
+    let enough : pairsEnough ≤ 8192 = omega arith in
+    (counts _ _ (e .1 .1 .1), report-text (a .roster .now) (a .events .now) _ (a .out .now) enough (c9 .pre) (e .0) (e .1 .1 .0))
+
+pub text-spec : {M : Type 1} → statement M
+text-spec = tie.close (tie.spec slice-aggregate-report report-requires same-length returns)
