@@ -1,4 +1,5 @@
 -- `run::pass::run` meets its contract.
+use native.Mathlib.Omega.{arith}
 use borrow.Author.Tests.{not-true, not-false}
 use Rattle.run.proofs.RunLaws.{run-roster, run-passes, run-events, run-short, run-done}
 use borrow.Author.Needs.{needs}
@@ -47,7 +48,7 @@ run-through-requires c κs =
     let a = c10 .args in (
       run-passes (a .roster .now) (a .events .now) (a .buffer .now) _ _ (c6 .check .ensures) (c5 .passed .ensures)
           (not-false _ (c4 .if1 .left)),
-      c .before .if3 .left,
+      omega (arith, c .before .if3 .left),
     )
 
 same-length : tie.Need-same-length

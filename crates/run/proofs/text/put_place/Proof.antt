@@ -20,28 +20,22 @@ returns-2 c =
 put-byte-requires : tie.Need-put-byte-requires
 put-byte-requires c κs =
     let a = c .before .before .before .before .args in
-    omega (arith, place-length (a .number) (a .task) (a .position) (c .before .before .if1 .left) (c .before .if2 .left))
+    omega (arith, place-length (a .number) (a .task) (a .position) (omega arith) (omega arith))
 
 put-number-requires : tie.Need-put-number-requires
 put-number-requires c κs =
     let c3 = c .before .before .before in
-    let c5 = c3 .before .before in
-    let c6 = c5 .before in
-    let c8 = c6 .before .before in
-    let a = c8 .args in
-    omega (arith, place-length (a .number) (a .task) (a .position) (c6 .if1 .left) (c5 .if2 .left), put-length (c3 .put-byte .ensures))
+    let a = c3 .before .before .before .before .before .args in
+    omega (arith, place-length (a .number) (a .task) (a .position) (omega arith) (omega arith), put-length (c3 .put-byte .ensures))
 
 put-byte-requires-2 : tie.Need-put-byte-requires-2
 put-byte-requires-2 c κs =
     let c3 = c .before .before .before in
     let c7 = c3 .before .before .before .before in
-    let c9 = c7 .before .before in
-    let c10 = c9 .before in
-    let c12 = c10 .before .before in
-    let a = c12 .args in
+    let a = c7 .before .before .before .before .before .args in
     omega (
       arith,
-      place-length (a .number) (a .task) (a .position) (c10 .if1 .left) (c9 .if2 .left),
+      place-length (a .number) (a .task) (a .position) (omega arith) (omega arith),
       put-length (c7 .put-byte .ensures),
       put-length (c3 .put-number .ensures),
     )
@@ -51,13 +45,10 @@ put-number-requires-2 c κs =
     let c3 = c .before .before .before in
     let c7 = c3 .before .before .before .before in
     let c11 = c7 .before .before .before .before in
-    let c13 = c11 .before .before in
-    let c14 = c13 .before in
-    let c16 = c14 .before .before in
-    let a = c16 .args in
+    let a = c11 .before .before .before .before .before .args in
     omega (
       arith,
-      place-length (a .number) (a .task) (a .position) (c14 .if1 .left) (c13 .if2 .left),
+      place-length (a .number) (a .task) (a .position) (omega arith) (omega arith),
       put-length (c11 .put-byte .ensures),
       put-length (c7 .put-number .ensures),
       put-length (c3 .put-byte2 .ensures),
