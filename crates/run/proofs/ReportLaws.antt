@@ -162,10 +162,11 @@ module _ (roster events : List ℕ) (size : ℕ) (out : List ℕ) (pairs-enough 
       refused (BadRoster v) (printed roster events) (answer-roster roster events size e) e
       (sym (ap (λ (x : Bool). cond (not x) failed later) e)))
 
-  -- what stands in front of the buffer, as many bytes as the answer says, is what is printed
-  pub report-text : {r : ℕ} {out' : List ℕ} → r ≡ reportSize roster events size out → out' ≡ reportBuffer roster events size out →
-      take r out' ≡ printed roster events
-  report-text {r} {out'} e f =
-      let text = printed roster events in
-      ap (λ (n : ℕ). take n out') (e ∙ report-enough .0) ∙
-      (ap (take (length text)) (f ∙ report-enough .1) ∙ take-append-seam text (drop (length text) out))
+-- what stands in front of the buffer, as many bytes as the answer says, is what is printed
+pub report-text : (roster events : List ℕ) (size : ℕ) (out : List ℕ) {r : ℕ} {out' : List ℕ} → r ≡ reportSize roster events size out →
+    out' ≡ reportBuffer roster events size out → pairsEnough ≤ size → linesEnough ≤ length out → take r out' ≡ printed roster events
+report-text roster events size out {r} {out'} e f h g =
+    let text = printed roster events in
+    let enough = report-enough roster events size out h g in
+    ap (λ (n : ℕ). take n out') (e ∙ enough .0) ∙
+    (ap (take (length text)) (f ∙ enough .1) ∙ take-append-seam text (drop (length text) out))

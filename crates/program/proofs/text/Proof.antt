@@ -1,7 +1,5 @@
 -- `program::text` meets its contract.
-use Prim.Native.Nat.{_≤_}
 use native.Mathlib.Omega.{arith}
-use Rattle.run.specs.Report.{pairsEnough}
 use Rattle.run.proofs.ReportLaws.{report-text}
 use borrow.Author.Needs.{needs}
 use Rattle.program.proofs.CountLaws.{counts}
@@ -23,8 +21,7 @@ returns c =
     let c9 = c3 .before .before .before .before .before .before in
     let a = c9 .args in
     let e = c3 .report .ensures in
-    let enough : pairsEnough ≤ 8192 = omega arith in
-    (counts _ _ (e .1 .1 .1), report-text (a .roster .now) (a .events .now) _ (a .out .now) enough (c9 .pre) (e .0) (e .1 .1 .0))
+    (counts _ _ (e .1 .1 .1), report-text (a .roster .now) (a .events .now) _ (a .out .now) (e .0) (e .1 .1 .0) (omega arith) (c9 .pre))
 
 pub text-spec : {M : Type 1} → statement M
 text-spec = tie.close (tie.spec slice-aggregate-report report-requires same-length returns)
