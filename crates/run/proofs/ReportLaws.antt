@@ -97,7 +97,8 @@ reported roster events pairs after out out' a n r ea en k er eo =
     (cc, (k, (cc, within)))
 
 -- where both buffers are long enough, what is printed is the line of a refusal, or the lines of the pairs
-module _ (roster events : List ℕ) (size : ℕ) (out : List ℕ) (pairs-enough : pairsEnough ≤ size) (lines-enough : linesEnough ≤ length out) where
+module _ (roster events : List ℕ) (size : ℕ) (out : List ℕ) (pairs-enough : pairsEnough ≤ size)
+    (lines-enough : linesEnough ≤ length out) where
   few : eventsGood events ≡ true → eventCount events ≤ largestEvents / eventSize
   unfolding eventsGood
   few e =
