@@ -2,33 +2,29 @@
 use mathlib.Core.Path.{_≡_, refl, ap, _∙_, sym, subst}
 use mathlib.Core.Bool.{Bool, true, false, cond, not, _||_}
 use mathlib.Core.List.{[], _∷_, _++_}
-use Prim.Native.Nat.{ℕ, zero, suc, _+_, _-_, _<_}
+use Prim.Native.Nat.{ℕ, _<_}
 use native.Mathlib.Omega.{arith}
 use borrow.Author.Tests.{ltb-false}
-use lib.Dec.{eqb, leb, ltb}
+use lib.Dec.{ltb}
 use lib.ListN.{length}
 use lib.Seq.{set-set}
 use Rattle.rules.specs.Limits.{lastReading}
 use Rattle.rules.specs.Priorities.{inRange}
 use Rattle.rules.specs.Answers.{numberOf}
-use Rattle.rules.specs.Model.{Model, TaskRecord, Waiting, none, waits, blank, withPlace, withBase, withWaiting, withNow}
+use Rattle.rules.specs.Model.{Model, TaskRecord, none, waits, blank, withPlace, withBase, withWaiting, withNow}
 use Rattle.rules.specs.Model.{taskAt, withTask}
 use Rattle.rules.specs.Model.{queue, withTasks, ceilingOf, activeOf, active}
-use Rattle.rules.specs.Moves.{stopped, becomeReady, preempt, start, highest, dispatchBy, dispatch}
-use Rattle.rules.specs.Events.{noTask, noObject, holds, inside, takeHold, enter, innermost, giveUp, settleWith, settle, leave, putOff}
-use Rattle.rules.specs.Events.{delay, rest, suspend, releaseFrom, release, Due, nobody, task, firstDue, wake, wakeUp, clock}
-use Rattle.rules.specs.Events.{requeue, rebase, isEnded, setBase, work, finish, apply}
+use Rattle.rules.specs.Moves.{stopped, becomeReady, dispatch}
+use Rattle.rules.specs.Events.{noTask, noObject, holds, inside, takeHold, enter, innermost, giveUp, settle, leave, putOff}
+use Rattle.rules.specs.Events.{delay, rest, suspend, releaseFrom, release, wakeUp, clock}
+use Rattle.rules.specs.Events.{rebase, isEnded, setBase, work, finish}
 use Rattle.rules.specs.Moved.{Moved, refused, accepted, byRunning}
-use Rattle.rules.specs.declared.Place.{Place}
-use Rattle.rules.specs.declared.Place.the-variants.{Running, Ready, Delayed, Suspended, Ended}
-use Rattle.rules.specs.declared.Event.{Event}
-use Rattle.rules.specs.declared.Event.the-variants.{Enter, Leave, Delay, Suspend, Release, Clock, Set, Work, Finish}
+use Rattle.rules.specs.declared.Place.the-variants.{Ended}
 use Rattle.rules.specs.declared.Runner.{Runner}
 use Rattle.rules.specs.declared.Runner.the-variants.{Nobody, Task}
 use Rattle.rules.specs.declared.Answer.{Answer}
 use Rattle.rules.specs.declared.Answer.the-variants.{Done, NoSuchTask, NoSuchObject, BadPriority, BadReading, NobodyRuns, EndedTask}
 use Rattle.rules.specs.declared.Answer.the-variants.{InsideAction, AboveCeiling, NotInnermost}
-use Rattle.rules.proofs.Choices.{both-ways}
 use Rattle.rules.proofs.TaskLaws.{depth, at-same}
 use Rattle.rules.proofs.Levels.{bare}
 use Rattle.rules.proofs.MoveLaws.{Queued, ready-tail}
@@ -159,92 +155,3 @@ module _ (m : Model) (t : ℕ) where
       ap (λ (x : Model). rebase x t v) (rebase-inside m t p e) ∙ rebase-inside n t v (ap inside is ∙ e) ∙
       ap (λ (u : TaskRecord). withTask n t (withWaiting u (waits v))) is ∙
       ap (withTasks m) (set-set (m .tasks) t k (withWaiting (taskAt m t) (waits v))) ∙ sym (rebase-inside m t v e)
-
--- No event changes the ceilings
-abbrev Fixed : Model → Model → Type 0
-Fixed m n = n .ceilings ≡ m .ceilings
-
-dispatch-fixed : (m n : Model) → Fixed m n → Fixed m (dispatch n)
-unfolding dispatch dispatchBy start preempt stopped
-dispatch-fixed m n f = go (n .running)
-  where
-    go : (w : Runner) → Fixed m (dispatchBy n w)
-    go Nobody = both-ways (Fixed m) (eqb (highest n) 0) n _ (λ e. f) (λ e. f)
-    go (Task t) = both-ways (Fixed m) (leb (highest n) (active n t)) n _ (λ e. f) (λ e. f)
-
-accepted-fixed : (m n : Model) → Fixed m n → Fixed m (accepted n .model)
-unfolding accepted
-accepted-fixed m n f = dispatch-fixed m n f
-
-unless-fixed : (m : Model) (b : Bool) (a : Answer) (r : Moved) → Fixed m (r .model) → Fixed m (cond b (refused m a) r .model)
-unless-fixed m b a r f = both-ways (λ (v : Moved). Fixed m (v .model)) b (refused m a) r (λ e. refl) (λ e. f)
-
-by-fixed : (m : Model) (w : Runner) (f : ℕ → Moved) → ((t : ℕ) → Fixed m (f t .model)) → Fixed m (byRunning m w f .model)
-unfolding byRunning
-by-fixed m Nobody f g = refl
-by-fixed m (Task t) f g = g t
-
-settle-fixed : (m n : Model) (t : ℕ) → Fixed m n → Fixed m (settle n t)
-unfolding settle settleWith becomeReady stopped
-settle-fixed m n t f = both-ways (Fixed m) (inside (taskAt n t)) n _ (λ e. f) (λ e. go (taskAt n t .waiting))
-  where
-    go : (w : Waiting) → Fixed m (settleWith n t w)
-    go none = f
-    go (waits p) = f
-
-wake-fixed : (m n : Model) (x : Due) → Fixed m n → Fixed m (wake n x)
-unfolding wake becomeReady
-wake-fixed m n nobody f = f
-wake-fixed m n (task t d) f = f
-
-wakes-fixed : (r k : ℕ) (m n : Model) → Fixed m n → Fixed m (wakeUp r k n)
-unfolding wakeUp
-wakes-fixed r zero m n f = f
-wakes-fixed r (suc k) m n f =
-    wakes-fixed r k m (wake n (firstDue r nobody 0 (n .tasks))) (wake-fixed m n (firstDue r nobody 0 (n .tasks)) f)
-
-released-fixed : (m : Model) (t : ℕ) (x : Place) → Fixed m (releaseFrom m t x)
-unfolding releaseFrom becomeReady
-released-fixed m t Running = refl
-released-fixed m t Ready = refl
-released-fixed m t (Delayed d) = refl
-released-fixed m t Suspended = refl
-released-fixed m t Ended = refl
-
-requeue-fixed : (m n : Model) (t p : ℕ) (x : Place) → Fixed m n → Fixed m (requeue n t p x)
-unfolding requeue becomeReady stopped
-requeue-fixed m n t p Running f = f
-requeue-fixed m n t p Ready f = f
-requeue-fixed m n t p (Delayed d) f = f
-requeue-fixed m n t p Suspended f = f
-requeue-fixed m n t p Ended f = f
-
-rebase-fixed : (m : Model) (t p : ℕ) → Fixed m (rebase m t p)
-unfolding rebase
-rebase-fixed m t p =
-    both-ways (Fixed m) (inside (taskAt m t)) _ _ (λ e. refl)
-    (λ e. both-ways (Fixed m) (eqb (taskAt m t .base) p) m _ (λ i. refl) (λ i. requeue-fixed m _ t (active m t) (taskAt m t .place) refl))
-
-pub ceilings-kept : (m : Model) (e : Event) → apply m e .model .ceilings ≡ m .ceilings
-unfolding apply enter leave delay suspend release clock setBase work finish putOff rest stopped becomeReady
-ceilings-kept m (Enter o) =
-    unless-fixed m (noObject m o) _ _ (by-fixed m (m .running) _ (λ t.
-    unless-fixed m (holds (taskAt m t) o) _ _
-    (unless-fixed m (ltb (ceilingOf (m .ceilings) o) (active m t)) _ _ (accepted-fixed m _ refl))))
-ceilings-kept m (Leave o) =
-    unless-fixed m (noObject m o) _ _ (by-fixed m (m .running) _ (λ t.
-    unless-fixed m (not (innermost (taskAt m t) o)) _ _ (accepted-fixed m _ (settle-fixed m (giveUp m t) t refl))))
-ceilings-kept m (Delay d) =
-    by-fixed m (m .running) _ (λ t. unless-fixed m (inside (taskAt m t)) _ _
-    (accepted-fixed m _ (both-ways (Fixed m) (eqb d 0) _ _ (λ e. refl) (λ e. refl))))
-ceilings-kept m Suspend =
-    by-fixed m (m .running) _ (λ t. unless-fixed m (inside (taskAt m t)) _ _
-    (accepted-fixed m _ (both-ways (Fixed m) (taskAt m t .permit) _ _ (λ e. refl) (λ e. refl))))
-ceilings-kept m (Release t) = unless-fixed m (noTask m t) _ _ (accepted-fixed m _ (released-fixed m t (taskAt m t .place)))
-ceilings-kept m (Clock r) =
-    unless-fixed m (ltb r (m .now) || ltb lastReading r) _ _ (accepted-fixed m _ (wakes-fixed r (length (m .tasks)) m (withNow m r) refl))
-ceilings-kept m (Set t p) =
-    unless-fixed m (noTask m t) _ _ (unless-fixed m (not (inRange (p .0))) _ _
-    (unless-fixed m (isEnded (taskAt m t .place)) _ _ (accepted-fixed m _ (rebase-fixed m t (p .0)))))
-ceilings-kept m Work = by-fixed m (m .running) _ (λ t. accepted-fixed m m refl)
-ceilings-kept m Finish = by-fixed m (m .running) _ (λ t. unless-fixed m (inside (taskAt m t)) _ _ (accepted-fixed m _ refl))

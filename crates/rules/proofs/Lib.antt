@@ -19,5 +19,6 @@ pub mod MoveLaws
 pub mod Refusals
 pub mod EventLaws
 pub mod Effects
+pub mod Unchanged
 pub mod Cases
 pub mod PriorityLaws

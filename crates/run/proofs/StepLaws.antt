@@ -19,6 +19,7 @@ use Rattle.rules.specs.declared.Runner.{Runner}
 use Rattle.rules.specs.declared.Runner.the-variants.{Nobody, Task}
 use Rattle.rules.specs.declared.Event.the-variants as Event
 use Rattle.rules.proofs.SoundLaws.{sound-is}
+use Rattle.rules.proofs.Unchanged.{count-kept}
 use Rattle.roster.specs.Limits.{smallestRoster, largestRoster}
 use Rattle.roster.specs.Format.{taskCount, startAt, lengthAt, partAt}
 use Rattle.roster.specs.Steps.{stepCount, stepsOf, stepIn}
@@ -38,7 +39,6 @@ use Rattle.run.specs.declared.Input.the-variants.{Step as Stepped}
 use Rattle.run.specs.Config.{Config, Outcome, perform, positionAfter, isDone}
 use Rattle.run.specs.Config.{advance, nextStep, positionOf, stepBy, outside, happen}
 use Rattle.run.specs.Slices.{configOf, Going, Moves, Happened}
-use Rattle.run.proofs.CountLaws.{count-kept}
 
 -- a step moves a position on by one at most
 after-low : (k : ℕ) (x : Step) → positionAfter k x ≤ suc k

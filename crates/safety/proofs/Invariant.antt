@@ -23,7 +23,7 @@ use Rattle.rules.proofs.TaskLaws.{at-same, at-other, at-keeps}
 use Rattle.rules.proofs.HeldLaws.{distinct-once}
 use Rattle.rules.proofs.Pending.{Good, t-in}
 use Rattle.rules.proofs.EventLaws.{release-1, clock-4}
-use Rattle.rules.proofs.Effects.{ceilings-kept}
+use Rattle.rules.proofs.Unchanged.{ceilings-kept}
 use Rattle.roster.specs.Roster.{Roster, scriptOf}
 use Rattle.roster.specs.Check.{isInnermost, heldAfter, heldBefore}
 use Rattle.roster.specs.declared.Step.{Step}
