@@ -107,17 +107,17 @@ module _ (m : Model) (s : sound m ≡ true) where
   sizes : Numbers m
   sizes = sound-is m s .numbers
 
-  held-short : Short heldWidth (padded taskLimit (map holding (m .tasks)) [])
+  pub held-short : Short heldWidth (padded taskLimit (map holding (m .tasks)) [])
   held-short t =
       rw (padded-at taskLimit (map holding (m .tasks)) [] t, List·getD-map holding (m .tasks) t blank)
       (compare (length (m .tasks)) t
       (λ g. omega (arith, ap (λ (k : TaskRecord). length (k .held)) (List·getD-eq-default (m .tasks) blank {n = t} g)))
       (λ g. omega (arith, held-room-of m s t g, sizes .objects)))
 
-  queue-short : Short queueWidth (m .ready)
+  pub queue-short : Short queueWidth (m .ready)
   queue-short p = omega (arith, ready-room m s p, sizes .count)
 
-  held-count : length (padded taskLimit (map holding (m .tasks)) []) ≡ taskLimit
+  pub held-count : length (padded taskLimit (map holding (m .tasks)) []) ≡ taskLimit
   held-count = padded-length taskLimit (map holding (m .tasks)) [] (omega (arith, length-map (m .tasks) holding, sizes .count))
 
   pub view-encode : view (encode m) ≡ m

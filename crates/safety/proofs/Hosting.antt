@@ -6,10 +6,10 @@ use Prim.Native.Nat.{ℕ, _*_, _≤_, _<_}
 use native.Mathlib.Omega.{arith}
 use borrow.Author.Tests.{le-leb, lt-ltb}
 use lib.Dec.{eqb, ltb}
-use lib.ListN.{length, getD, replicate, length-map, List·getD-eq-default, List·getD-map}
+use lib.ListN.{length, getD, replicate}
 use Rattle.rules.specs.Limits.{taskLimit, objectLimit, lastPriority}
 use Rattle.rules.specs.Answers.{numberOf}
-use Rattle.rules.specs.Model.{Model, TaskRecord, blank}
+use Rattle.rules.specs.Model.{Model}
 use Rattle.rules.specs.Events.{apply}
 use Rattle.rules.specs.Sound.{sound}
 use Rattle.rules.specs.declared.Event.{Event}
@@ -18,9 +18,9 @@ use Rattle.rules.specs.declared.Runner.{Runner}
 use Rattle.rules.specs.declared.Runner.the-variants.{Nobody, Task}
 use Rattle.rules.specs.declared.Answer.{Answer}
 use Rattle.rules.specs.declared.Answer.the-variants.{Unsound}
-use Rattle.rules.proofs.Choices.{compare, clash}
+use Rattle.rules.proofs.Choices.{clash}
 use Rattle.rules.proofs.SoundLaws.{sound-is, below-make}
-use Rattle.rules.proofs.Soundness.{good-sound, ready-room, held-room-of}
+use Rattle.rules.proofs.Soundness.{good-sound}
 use Rattle.rules.proofs.EventLaws.{work-5}
 use Rattle.rules.proofs.Refusals.{table, appliesAt, exactly-when, refused-same}
 use Rattle.roster.specs.Roster.{Roster, rosterOf}
@@ -33,9 +33,8 @@ use Rattle.dispatch.specs.declared.Stepped.{Stepped}
 use Rattle.dispatch.specs.State.{view, holding, padded, encode}
 use Rattle.dispatch.specs.Sound.{lengthsGood, sizesFit, soundOf}
 use Rattle.dispatch.specs.Methods.{answered, appliedOf}
-use Rattle.dispatch.proofs.ListLaws.{padded-at, padded-length}
-use Rattle.dispatch.proofs.FlatLaws.{Short, lists-good}
-use Rattle.dispatch.proofs.EncodeLaws.{view-encode}
+use Rattle.dispatch.proofs.FlatLaws.{lists-good}
+use Rattle.dispatch.proofs.EncodeLaws.{held-short, queue-short, held-count, view-encode}
 use Rattle.dispatch.proofs.FreshLaws.{done-0}
 use Rattle.safety.specs.History as history
 use Rattle.safety.specs.History.{inputOf, afterFrom, after}
@@ -54,29 +53,14 @@ lengths-of w n k l g h =
     lt-ltb (getD l (i * w) 0) w (omega (arith, count-at w n i l g inside, list-room w n i l g inside)))
 
 module _ (m : Model) (s : sound m ≡ true) where
-  held-short : Short heldWidth (padded taskLimit (map holding (m .tasks)) [])
-  held-short t =
-      rw (padded-at taskLimit (map holding (m .tasks)) [] t, List·getD-map holding (m .tasks) t blank)
-      (compare (length (m .tasks)) t
-      (λ g. omega (arith, ap (λ (k : TaskRecord). length (k .held)) (List·getD-eq-default (m .tasks) blank {n = t} g)))
-      (λ g. omega (arith, held-room-of m s t g, sound-is m s .numbers .objects)))
-
-  queue-short : Short queueWidth (m .ready)
-  queue-short p = omega (arith, ready-room m s p, sound-is m s .numbers .count)
-
-  held-count : length (padded taskLimit (map holding (m .tasks)) []) ≡ taskLimit
-  held-count =
-      padded-length taskLimit (map holding (m .tasks)) []
-      (omega (arith, length-map (m .tasks) holding, sound-is m s .numbers .count))
-
   -- the State of a sound Model is sound
   sizes-fit : sizesFit (encode m) ≡ true
   unfolding sizesFit encode
   sizes-fit =
       let n = sound-is m s .numbers in
       let hs = padded taskLimit (map holding (m .tasks)) [] in
-      let held = lists-good heldWidth taskLimit hs held-count held-short in
-      let ready = lists-good queueWidth lastPriority (m .ready) (n .queues) queue-short in
+      let held = lists-good heldWidth taskLimit hs (held-count m s) (held-short m s) in
+      let ready = lists-good queueWidth lastPriority (m .ready) (n .queues) (queue-short m s) in
       rw (
         lengths-of heldWidth taskLimit (length (m .tasks)) (flatMap (rowFor heldWidth) hs) held (n .count),
         lengths-of queueWidth lastPriority lastPriority (flatMap (rowFor queueWidth) (m .ready)) ready (omega arith),
