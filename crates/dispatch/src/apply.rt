@@ -1,7 +1,7 @@
 // What the engine does for an event.
 ghost use Rattle.rules.specs.Events.{apply};
 ghost use Rattle.engine.specs.Memory.{modelOf, Valid, Did};
-use crate::sizes::HEAD_WIDTH;
+use engine::sizes::HEAD_WIDTH;
 use rules::Answer;
 use rules::Event;
 

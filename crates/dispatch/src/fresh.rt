@@ -6,14 +6,14 @@ ghost use Rattle.dispatch.specs.State.{encode};
 ghost use Rattle.dispatch.specs.Methods.{beside, freshOf};
 use crate::State;
 use crate::Stepped;
-use crate::sizes::HEAD_WIDTH;
-use crate::sizes::HELD_CELLS;
-use crate::sizes::OBJECT_LIMIT;
-use crate::sizes::QUEUE_CELLS;
-use crate::sizes::TASK_CELLS;
-use crate::sizes::TASK_LIMIT;
 use crate::store::store;
 use crate::test::all_in_range;
+use engine::sizes::HEAD_WIDTH;
+use engine::sizes::HELD_CELLS;
+use engine::sizes::OBJECT_LIMIT;
+use engine::sizes::QUEUE_CELLS;
+use engine::sizes::TASK_CELLS;
+use engine::sizes::TASK_LIMIT;
 use rules::Answer;
 
 // The fresh state of these bases and ceilings.

@@ -4,14 +4,13 @@ mod fresh;
 mod load;
 mod methods;
 mod readers;
-mod sizes;
 mod store;
 mod test;
 
-use crate::sizes::HELD_CELLS;
-use crate::sizes::OBJECT_LIMIT;
-use crate::sizes::QUEUE_CELLS;
-use crate::sizes::TASK_LIMIT;
+use engine::sizes::HELD_CELLS;
+use engine::sizes::OBJECT_LIMIT;
+use engine::sizes::QUEUE_CELLS;
+use engine::sizes::TASK_LIMIT;
 use rules::Answer;
 use rules::Priority;
 use rules::Runner;

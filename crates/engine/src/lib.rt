@@ -6,6 +6,6 @@ mod held;
 mod moves;
 mod queues;
 mod rows;
-mod sizes;
+pub mod sizes;
 pub mod soundness;
 pub mod tasks;

@@ -3,6 +3,8 @@ pub const TASK_LIMIT: usize = 32;
 
 pub const OBJECT_LIMIT: usize = 16;
 
+pub const PRIORITIES: usize = 32;
+
 // The largest reading of the clock.
 pub const LAST_READING: u64 = 281474976710655;
 
@@ -48,3 +50,10 @@ pub const RUNNING_CELL: usize = 1;
 pub const TASKS_CELL: usize = 2;
 
 pub const OBJECTS_CELL: usize = 3;
+
+// The cells of all task records, of all held lists and of all queues.
+pub const TASK_CELLS: usize = TASK_LIMIT * TASK_WIDTH;
+
+pub const HELD_CELLS: usize = TASK_LIMIT * HELD_WIDTH;
+
+pub const QUEUE_CELLS: usize = PRIORITIES * QUEUE_WIDTH;
