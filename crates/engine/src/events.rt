@@ -15,17 +15,18 @@ use rules::Answer;
 use rules::Place;
 use rules::Priority;
 
+// No dispatch follows: who enters stays the highest.
 pub fn enter(
-    head: &mut [u64; HEAD_WIDTH],
-    tasks: &mut [u64],
+    head: &[u64; HEAD_WIDTH],
+    tasks: &[u64],
     held: &mut [u8],
     ceilings: &[u8],
-    queues: &mut [u8],
+    queues: &[u8],
     o: u64,
 ) -> Answer
     requires { ⌜ Valid (now head) (now tasks) (now held) (now ceilings) (now queues) ⌝ }
     ensures { λ r.
-        ⌜ Did (now (head .exit)) (now (tasks .exit)) (now (held .exit)) (now (ceilings .entry)) (now (queues .exit)) r
+        ⌜ Did (now (head .entry)) (now (tasks .entry)) (now (held .exit)) (now (ceilings .entry)) (now (queues .entry)) r
         (enter
         (modelOf (now (head .entry)) (now (tasks .entry)) (now (held .entry)) (now (ceilings .entry)) (now (queues .entry)))
         o) ⌝ }
@@ -47,7 +48,6 @@ pub fn enter(
         return Answer::AboveCeiling;
     }
     held::push(held, t, object);
-    moves::dispatch(head, tasks, held, ceilings, queues);
     Answer::Done
 }
 
@@ -227,23 +227,23 @@ pub fn set(
     Answer::Done
 }
 
+// No dispatch follows: in a sound state it moves nobody.
 pub fn work(
-    head: &mut [u64; HEAD_WIDTH],
-    tasks: &mut [u64],
+    head: &[u64; HEAD_WIDTH],
+    tasks: &[u64],
     held: &[u8],
     ceilings: &[u8],
-    queues: &mut [u8],
+    queues: &[u8],
 ) -> Answer
     requires { ⌜ Valid (now head) (now tasks) (now held) (now ceilings) (now queues) ⌝ }
     ensures { λ r.
-        ⌜ Did (now (head .exit)) (now (tasks .exit)) (now (held .entry)) (now (ceilings .entry)) (now (queues .exit)) r
+        ⌜ Did (now (head .entry)) (now (tasks .entry)) (now (held .entry)) (now (ceilings .entry)) (now (queues .entry)) r
         (work
         (modelOf (now (head .entry)) (now (tasks .entry)) (now (held .entry)) (now (ceilings .entry)) (now (queues .entry)))) ⌝ }
 {
     if head[RUNNING_CELL] == 0 {
         return Answer::NobodyRuns;
     }
-    moves::dispatch(head, tasks, held, ceilings, queues);
     Answer::Done
 }
 

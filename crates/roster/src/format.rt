@@ -1,6 +1,6 @@
 // Reads the parts of a roster. Internal: pub for this project's own crates.
 ghost use mathlib.Core.Path.{_≡_};
-ghost use Prim.Native.Nat.{_+_, _≤_};
+ghost use Prim.Native.Nat.{_+_, _≤_, _<_};
 ghost use lib.ListN.{length};
 ghost use Rattle.rules.specs.Model.{ceilingOf};
 ghost use Rattle.roster.specs.Format.{byteAt, wordAt, trailer, taskCount, objectCount, taskTable, objectTable};
@@ -18,16 +18,32 @@ pub fn byte_at(s: &[u8], i: usize) -> u8
     0
 }
 
-// The two bytes at i.
+fn wide(x: u8) -> u16
+    ensures { λ r. ⌜ (r ≡ x) × (r < 256) ⌝ }
+{
+    x as u16
+}
+
+// The two bytes at i, which are there.
+pub fn word_in(s: &[u8], i: usize) -> u16
+    requires { ⌜ i + 1 < length (now s) ⌝ }
+    ensures { λ r. ⌜ r ≡ wordAt (now (s .entry)) i ⌝ }
+{
+    wide(s[i]) + 256 * wide(s[i + 1])
+}
+
+// The two bytes at i; a byte past the end is 0.
 pub fn word_at(s: &[u8], i: usize) -> u16
     ensures { λ r. ⌜ r ≡ wordAt (now (s .entry)) i ⌝ }
 {
-    let low = byte_at(s, i) as u16;
-    if i < s.len() {
-        let high = byte_at(s, i + 1) as u16;
-        return low + 256 * high;
+    let n = s.len();
+    if n <= i {
+        return 0;
     }
-    low
+    if n - i < 2 {
+        return wide(s[i]);
+    }
+    word_in(s, i)
 }
 
 // Where the trailer starts.

@@ -63,9 +63,9 @@ pub fn step_at(part: &[u8], k: usize) -> Step
 {
     if k < part.len() / Limits::STEP {
         let at = Limits::STEP * k;
-        let code = format::byte_at(part, at);
-        let a = format::byte_at(part, at + 1);
-        let b = format::word_at(part, at + 2);
+        let code = part[at];
+        let a = part[at + 1];
+        let b = format::word_in(part, at + 2);
         return step_of(code, a, b);
     }
     Step::Finish

@@ -11,6 +11,7 @@ pub mod WakingLaws
 pub mod WakeOrder
 pub mod Pending
 pub mod Kept
+pub mod StillLaws
 pub mod SoundLaws
 pub mod Soundness
 pub mod FreshLaws

@@ -77,7 +77,7 @@ same-length-3 c = search needs
 returns : tie.Need-returns
 unfolding apply delayFits
 returns c =
-    let at = c .before .before .before .before .before .before in
+    let at = c .before .before in
     let told = at .before .before .before .before .before .before .event .given in
     let a = at .before .before .before .before .before .before .before .before .before .before .before .before in
     event-did (a .pre) (a .args .event) (Enter (told .0 .0)) (cc) refl (at .enter .ensures)
@@ -195,9 +195,8 @@ same-length-24 c = search needs
 returns-8 : tie.Need-returns-8
 unfolding apply delayFits
 returns-8 c =
-    let at = c .before .before .before .before in
-    let a = at .before .before .before .before .before .before .before .before .before .before .before in
-    event-did (a .pre) (a .args .event) Work (cc) refl (at .work .ensures)
+    let a = c .before .before .before .before .before .before .before .before .before .before .before in
+    event-did (a .pre) (a .args .event) Work (cc) refl (c .work .ensures)
 
 same-length-25 : tie.Need-same-length-25
 same-length-25 c = search needs

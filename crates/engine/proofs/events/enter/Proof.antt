@@ -1,15 +1,14 @@
 -- `engine::events::enter` meets its contract.
-use mathlib.Core.Path.{_∙_}
+use mathlib.Core.Path.{_∙_, sym}
 use Prim.Native.Nat.{_-_}
 use borrow.Author.Needs.{needs}
-use Rattle.rules.specs.Moves.{dispatch}
 use Rattle.rules.specs.declared.Answer.the-variants.{NoSuchObject, NobodyRuns, InsideAction, AboveCeiling}
 use Rattle.rules.proofs.EventLaws.{enter-2, enter-5, enter-7, enter-8, enter-0}
-use Rattle.rules.proofs.Pending.{pending-enter}
+use Rattle.rules.proofs.StillLaws.{still-enter}
 use Rattle.engine.proofs.EffectLaws.{holdable, hold-law}
 use Rattle.engine.proofs.EventLaws.{did-not, did}
-use Rattle.engine.proofs.MemoryLaws.{then-means, idle}
-use Rattle.engine.proofs.ValidLaws.{dispatchable, runner, runner-counted, holds-is, hold-room, good, known-object}
+use Rattle.engine.proofs.MemoryLaws.{means-by, idle}
+use Rattle.engine.proofs.ValidLaws.{runner, runner-counted, holds-is, hold-room, good, known-object}
 use Rattle.engine.proofs.ValidLaws.{unknown-object, above-ceiling, within-ceiling}
 use Rattle.engine.proofs.events.enter.Statement.{statement}
 use Rattle.engine.proofs.events.enter.Tie as tie
@@ -69,7 +68,7 @@ returns-3 c =
 
 active-requires : tie.Need-active-requires
 active-requires c κs =
-    let at-if2 = c .before .before .before .before .before .before .before in
+    let at-if2 = c .before .before .before .before in
     let entry = at-if2 .before .before .before .before .before .before .before .before in
     let v = entry .pre in
     let d = v .laid in
@@ -86,13 +85,10 @@ same-length-2 c = search needs
 same-length-3 : tie.Need-same-length-3
 same-length-3 c = search needs
 
-same-length-4 : tie.Need-same-length-4
-same-length-4 c = search needs
-
 returns-4 : tie.Need-returns-4
 returns-4 c =
     let at-active = c .before .before .before in
-    let at-if3 = at-active .before .before .before .before .before in
+    let at-if3 = at-active .before .before in
     let at-holds = at-if3 .before in
     let at-if2 = at-holds .before .before in
     let at-if1 = at-if2 .before .before in
@@ -107,7 +103,7 @@ returns-4 c =
 
 push-requires : tie.Need-push-requires
 push-requires c κs =
-    let at-if3 = c .before .before .before .before .before .before .before .before .before in
+    let at-if3 = c .before .before .before .before .before .before in
     let at-holds = at-if3 .before in
     let at-if2 = at-holds .before .before in
     let at-if1 = at-if2 .before .before in
@@ -119,41 +115,12 @@ push-requires c κs =
     let free = holds-is v _ _ _ g (at-holds .holds .ensures) ∙ at-if3 .if3 .left in
     hold-room v _ _ e g (at-if1 .if1 .left) free
 
-dispatch-requires : tie.Need-dispatch-requires
-dispatch-requires c κs =
-    let at-push = c .before .before .before .before .before .before in
-    let at-if4 = at-push .before .before in
-    let at-active = at-if4 .before .before .before in
-    let at-if3 = at-active .before .before .before .before .before in
-    let at-holds = at-if3 .before in
-    let at-if2 = at-holds .before .before in
-    let at-if1 = at-if2 .before .before in
-    let entry = at-if1 .before .before .before .before .before .before in
-    let v = entry .pre in
-    let d = v .laid in
-    let e = runner v (at-if2 .if2 .left) in
-    let g = runner-counted v (at-if2 .if2 .left) in
-    let free = holds-is v _ _ _ g (at-holds .holds .ensures) ∙ at-if3 .if3 .left in
-    let within = within-ceiling v _ _ _ (at-if1 .if1 .left) (at-active .active .ensures) (at-if4 .if4 .left) in
-    dispatchable (hold-law d _ _ g (at-push .push .ensures))
-    (pending-enter _ _ _ (good v) e (known-object v _ (at-if1 .if1 .left)) free within)
-
-same-length-5 : tie.Need-same-length-5
-same-length-5 c = search needs
-
-same-length-6 : tie.Need-same-length-6
-same-length-6 c = search needs
-
-same-length-7 : tie.Need-same-length-7
-same-length-7 c = search needs
-
 returns-5 : tie.Need-returns-5
 returns-5 c =
-    let at-dispatch = c .before .before .before .before in
-    let at-push = at-dispatch .before .before .before .before .before .before .before in
+    let at-push = c .before .before in
     let at-if4 = at-push .before .before in
     let at-active = at-if4 .before .before .before in
-    let at-if3 = at-active .before .before .before .before .before in
+    let at-if3 = at-active .before .before in
     let at-holds = at-if3 .before in
     let at-if2 = at-holds .before .before in
     let at-if1 = at-if2 .before .before in
@@ -164,7 +131,7 @@ returns-5 c =
     let g = runner-counted v (at-if2 .if2 .left) in
     let free = holds-is v _ _ _ g (at-holds .holds .ensures) ∙ at-if3 .if3 .left in
     let within = within-ceiling v _ _ _ (at-if1 .if1 .left) (at-active .active .ensures) (at-if4 .if4 .left) in
-    let x = then-means dispatch (hold-law d _ _ g (at-push .push .ensures)) (at-dispatch .dispatch .ensures) in
+    let x = means-by (hold-law d _ _ g (at-push .push .ensures)) (sym (still-enter _ _ (good v) e _)) in
     did _ x (enter-0 _ _ _ (known-object v _ (at-if1 .if1 .left)) e free within)
 
 pub enter-spec : {M : Type 1} → statement M
@@ -183,12 +150,7 @@ enter-spec =
     active-requires
     shared-slice-read-if4
     same-length-2
-    same-length-3
-    same-length-4
     returns-4
     push-requires
-    dispatch-requires
-    same-length-5
-    same-length-6
-    same-length-7
+    same-length-3
     returns-5)

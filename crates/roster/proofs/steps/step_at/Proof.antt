@@ -1,5 +1,6 @@
 -- `roster::steps::step_at` meets its contract.
 use mathlib.Core.Path.{sym}
+use native.Mathlib.Omega.{arith}
 use Rattle.roster.specs.Steps.{stepAt, codeAt, aAt, bAt}
 use Rattle.roster.proofs.StepLaws.{steps-at, steps-past}
 use borrow.Author.Needs.{needs}
@@ -9,27 +10,27 @@ use Rattle.roster.proofs.steps.step_at.Tie as tie
 mul-at : tie.Need-mul-at
 mul-at c = search needs
 
-byte-at-requires : tie.Need-byte-at-requires
-byte-at-requires c κs = search needs
+shared-slice-read-code : tie.Need-shared-slice-read-code
+shared-slice-read-code c = search needs
 
-add-byte-at : tie.Need-add-byte-at
-add-byte-at c = search needs
+add-a : tie.Need-add-a
+add-a c = search needs
 
-byte-at-requires-2 : tie.Need-byte-at-requires-2
-byte-at-requires-2 c κs = search needs
+shared-slice-read-a : tie.Need-shared-slice-read-a
+shared-slice-read-a c = search needs
 
-add-word-at : tie.Need-add-word-at
-add-word-at c = search needs
+add-word-in : tie.Need-add-word-in
+add-word-in c = search needs
 
-word-at-requires : tie.Need-word-at-requires
-word-at-requires c κs = search needs
+word-in-requires : tie.Need-word-in-requires
+word-in-requires c κs = search needs
 
 step-of-requires : tie.Need-step-of-requires
 step-of-requires c κs = search needs
 
 returns : tie.Need-returns
 unfolding stepAt codeAt aAt bAt
-returns c =
+returns c = 
     let c6 = c .before .before .before .before .before .before in
     cc (steps-at (c6 .args .part .now) (c6 .args .k) (search needs))
 
@@ -41,11 +42,11 @@ step-at-spec =
     tie.close
     (tie.spec
     mul-at
-    byte-at-requires
-    add-byte-at
-    byte-at-requires-2
-    add-word-at
-    word-at-requires
+    shared-slice-read-code
+    add-a
+    shared-slice-read-a
+    add-word-in
+    word-in-requires
     step-of-requires
     returns
     returns-2)

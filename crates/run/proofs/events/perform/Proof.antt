@@ -89,10 +89,10 @@ same-length-3 c = search needs
 returns : tie.Need-returns
 unfolding perform apply delayFits
 returns c =
-    let c6 = c .before .before .before .before .before .before in
-    let c12 = c6 .before .before .before .before .before .before in
-    let c18 = c12 .before .before .before .before .before .before in
-    step-moves _ _ _ (Event.the-variants.Enter _) (c12 .x .given .1) refl (c18 .pre .sound) refl (c6 .enter .ensures)
+    let c2 = c .before .before in
+    let c8 = c2 .before .before .before .before .before .before in
+    let c14 = c8 .before .before .before .before .before .before in
+    step-moves _ _ _ (Event.the-variants.Enter _) (c8 .x .given .1) refl (c14 .pre .sound) refl (c2 .enter .ensures)
 
 same-length-4 : tie.Need-same-length-4
 same-length-4 c = search needs
@@ -143,10 +143,9 @@ same-length-12 c = search needs
 returns-4 : tie.Need-returns-4
 unfolding perform apply delayFits
 returns-4 c =
-    let c4 = c .before .before .before .before in
-    let c9 = c4 .before .before .before .before .before in
-    let c15 = c9 .before .before .before .before .before .before in
-    step-moves _ _ _ Event.the-variants.Work (c9 .enum-told .given .1) refl (c15 .pre .sound) refl (c4 .work .ensures)
+    let c5 = c .before .before .before .before .before in
+    let c11 = c5 .before .before .before .before .before .before in
+    step-moves _ _ _ Event.the-variants.Work (c5 .enum-told .given .1) refl (c11 .pre .sound) refl (c .work .ensures)
 
 same-length-13 : tie.Need-same-length-13
 same-length-13 c = search needs
