@@ -1,0 +1,5 @@
+pub mod TableLaws
+pub mod ReadLaws
+pub mod PutLaws
+pub mod WriteLaws
+pub mod BackLaws

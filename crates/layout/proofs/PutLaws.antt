@@ -1,0 +1,125 @@
+-- Laws of bytes that are put one behind the other.
+use mathlib.Core.Path.{_≡_, refl, ap, sym, _∙_}
+use mathlib.Core.List.{List, [], _∷_, _++_, flatMap}
+use Prim.Native.Nat.{ℕ, zero, suc, _+_, _-_, _*_, _/_, _%_, _≤_, _<_}
+use native.Mathlib.Nat.{add-zero}
+use native.Mathlib.Omega.{arith}
+use lib.ListN.{length, getD, set, drop, drop-of-length-le, length-append}
+use lib.Seq.{sets, sets-eq, drop-cons}
+use Rattle.rules.specs.declared.Task.{Task}
+use Rattle.layout.specs.Sizes.{taskSize, tasksStart}
+use Rattle.engine.specs.Tasks.{dueOf, bit}
+use Rattle.dispatch.specs.declared.State.{State}
+use Rattle.layout.specs.Encode.{lowBytes, runningByte, kindByte, waitsByte, waitingByte, taskTail, taskBytes, headTail, headBytes}
+
+-- stores in two runs
+pub sets-append : (l : List ℕ) (i : ℕ) (xs ys : List ℕ) → sets l i (xs ++ ys) ≡ sets (sets l i xs) (i + length xs) ys
+sets-append l i [] ys = ap (λ (k : ℕ). sets l k ys) (sym (add-zero i))
+sets-append l i (x ∷ xs) ys =
+    let e : suc i + length xs ≡ i + suc (length xs) = omega arith in
+    sets-append (set l i x) (suc i) xs ys ∙ ap (λ (k : ℕ). sets (sets (set l i x) (suc i) xs) k ys) e
+
+pub put-behind : (l l' l'' xs ys : List ℕ) (i j : ℕ) → l' ≡ sets l i xs → l'' ≡ sets l' j ys → j ≡ i + length xs → l'' ≡ sets l i (xs ++ ys)
+put-behind l l' l'' xs ys i j e f g =
+    f ∙ (ap (λ (k : List ℕ). sets k j ys) e ∙ (ap (λ (k : ℕ). sets (sets l i xs) k ys) g ∙ sym (sets-append l i xs ys)))
+
+-- what stands in front after bytes were put from 0 on
+pub sets-front : (l xs : List ℕ) (n : ℕ) → length xs ≡ n → n ≤ length l → sets l 0 xs ≡ xs ++ drop n l
+sets-front l xs n e h =
+    let same : 0 + length xs ≡ n = omega arith in
+    sets-eq xs l 0 (omega arith) ∙ ap (λ (k : ℕ). xs ++ drop k l) same
+
+module _ (before text : List ℕ) (at : ℕ) where
+  -- the next byte is stored at j
+  pub copy-turn : (out : List ℕ) (i j x i' j' : ℕ) → i < length text → x ≡ getD text i 0 → i' ≡ suc i → j' ≡ suc j →
+      sets before at text ≡ sets out j (drop i text) → sets before at text ≡ sets (set out j x) j' (drop i' text)
+  copy-turn out i j x i' j' h e f g k =
+      k ∙ (ap (λ (l : List ℕ). sets out j l) (drop-cons text i 0 h) ∙
+      (ap (λ (y : ℕ). sets (set out j y) (suc j) (drop (suc i) text)) (sym e) ∙
+      (ap (λ (n : ℕ). sets (set out j x) n (drop (suc i) text)) (sym g) ∙
+      ap (λ (n : ℕ). sets (set out j x) j' (drop n text)) (sym f))))
+
+  pub copy-end : (out : List ℕ) (i j : ℕ) → length text ≤ i → sets before at text ≡ sets out j (drop i text) → out ≡ sets before at text
+  copy-end out i j h e = sym (e ∙ ap (λ (l : List ℕ). sets out j l) (drop-of-length-le text {i = i} h))
+
+-- the bytes of a number
+low-more : (k n m : ℕ) → m ≡ suc k → lowBytes m n ≡ n % 256 ∷ lowBytes k (n / 256)
+unfolding lowBytes
+low-more k n m e = ap (λ (j : ℕ). lowBytes j n) e
+
+pub low-length : (k n : ℕ) → length (lowBytes k n) ≡ k
+unfolding lowBytes
+low-length zero n = refl
+low-length (suc k) n = ap suc (low-length k (n / 256))
+
+module _ (whole out : List ℕ) (at i rest : ℕ) where
+  -- the next byte of a number is stored
+  pub number-turn : (x rest' : ℕ) → i < 8 → x ≡ rest % 256 → rest' ≡ rest / 256 → whole ≡ sets out (at + i) (lowBytes (8 - i) rest) →
+      whole ≡ sets (set out (at + i) x) (at + (i + 1)) (lowBytes (8 - (i + 1)) rest')
+  number-turn x rest' h e f g =
+      let k = 8 - (i + 1) in
+      let next : suc (at + i) ≡ at + (i + 1) = omega arith in
+      g ∙ (ap (λ (l : List ℕ). sets out (at + i) l) (low-more k rest (8 - i) (omega arith)) ∙
+      (ap (λ (y : ℕ). sets (set out (at + i) y) (suc (at + i)) (lowBytes k (rest / 256))) (sym e) ∙
+      (ap (λ (r : ℕ). sets (set out (at + i) x) (suc (at + i)) (lowBytes k r)) (sym f) ∙
+      ap (λ (j : ℕ). sets (set out (at + i) x) j (lowBytes k rest')) next)))
+
+  pub number-end : 8 ≤ i → whole ≡ sets out (at + i) (lowBytes (8 - i) rest) → out ≡ whole
+  unfolding lowBytes
+  number-end h g =
+      let e : 8 - i ≡ 0 = omega arith in
+      sym (g ∙ ap (λ (k : ℕ). sets out (at + i) (lowBytes k rest)) e)
+
+-- task rows
+pub task-length : (k : Task) → length (taskBytes k) ≡ taskSize
+unfolding taskBytes taskTail
+task-length k =
+    let due = lowBytes 8 (dueOf (k .place)) in
+    length-append due (taskTail k) ∙ omega (arith, low-length 8 (dueOf (k .place)))
+
+pub tasks-length : (ks : List Task) → length (flatMap taskBytes ks) ≡ taskSize * length ks
+unfolding flatMap
+tasks-length [] = omega arith
+tasks-length (k ∷ ks) =
+    length-append (taskBytes k) (flatMap taskBytes ks) ∙ omega (arith, task-length k, tasks-length ks)
+
+pub tasks-end : (whole : List ℕ) (ks : List Task) (out : List ℕ) (t : ℕ) → length ks ≤ t →
+    whole ≡ sets out (tasksStart + taskSize * t) (flatMap taskBytes (drop t ks)) → out ≡ whole
+unfolding flatMap
+tasks-end whole ks out t h g =
+    sym (g ∙ ap (λ (l : List Task). sets out (tasksStart + taskSize * t) (flatMap taskBytes l)) (drop-of-length-le ks {i = t} h))
+
+module _ (whole : List ℕ) (ks : List Task) (out out' : List ℕ) (t : ℕ) where
+  -- the next row is put
+  pub task-turn : (k d : Task) → t < length ks → k ≡ getD ks t d → out' ≡ sets out (tasksStart + taskSize * t) (taskBytes k) →
+      whole ≡ sets out (tasksStart + taskSize * t) (flatMap taskBytes (drop t ks)) →
+      whole ≡ sets out' (tasksStart + taskSize * (t + 1)) (flatMap taskBytes (drop (t + 1) ks))
+  unfolding flatMap
+  task-turn k d h e f g =
+      let j = tasksStart + taskSize * t in
+      let next : j + length (taskBytes k) ≡ tasksStart + taskSize * (t + 1) = omega (arith, task-length k) in
+      let more : suc t ≡ t + 1 = omega arith in
+      let split : drop t ks ≡ k ∷ drop (t + 1) ks =
+      drop-cons ks t d h ∙ (ap (λ (x : Task). x ∷ drop (suc t) ks) (sym e) ∙ ap (λ (n : ℕ). k ∷ drop n ks) more) in
+      let rest = flatMap taskBytes (drop (t + 1) ks) in
+      g ∙ (ap (λ (l : List Task). sets out j (flatMap taskBytes l)) split ∙
+      (sets-append out j (taskBytes k) rest ∙
+      (ap (λ (l : List ℕ). sets l (j + length (taskBytes k)) rest) (sym f) ∙ ap (λ (n : ℕ). sets out' n rest) next)))
+
+-- a task row and the head: the number, and the bytes behind it
+module _ (l l' l'' : List ℕ) (at j : ℕ) (next : j ≡ at + 8) where
+  behind-number : (n : ℕ) (tail : List ℕ) → l' ≡ sets l at (lowBytes 8 n) → l'' ≡ sets l' j tail → l'' ≡ sets l at (lowBytes 8 n ++ tail)
+  behind-number n tail e f = put-behind l l' l'' (lowBytes 8 n) tail at j e f (omega (arith, low-length 8 n))
+
+  pub task-put : (k : Task) (due kind waits waiting on : ℕ) → due ≡ dueOf (k .place) → kind ≡ kindByte (k .place) →
+      waits ≡ waitsByte (k .waiting) → waiting ≡ waitingByte (k .waiting) → on ≡ bit (k .permit) → l' ≡ sets l at (lowBytes 8 due) →
+      l'' ≡ sets l' j (kind ∷ (k .base .0 ∷ (waits ∷ (waiting ∷ (on ∷ (0 ∷ (0 ∷ (0 ∷ [])))))))) → l'' ≡ sets l at (taskBytes k)
+  unfolding taskBytes taskTail
+  task-put k due kind waits waiting on e1 e2 e3 e4 e5 f g =
+      behind-number due (kind ∷ (k .base .0 ∷ (waits ∷ (waiting ∷ (on ∷ (0 ∷ (0 ∷ (0 ∷ [])))))))) f g ∙ rw (e1, e2, e3, e4, e5)
+
+  pub head-put : (s : State) (running : ℕ) → running ≡ runningByte (s .running) → l' ≡ sets l at (lowBytes 8 (s .now)) →
+      l'' ≡ sets l' j (running ∷ (s .«task_count» ∷ (s .«object_count» ∷ (0 ∷ (0 ∷ (0 ∷ (0 ∷ (0 ∷ [])))))))) → l'' ≡ sets l at (headBytes s)
+  unfolding headBytes headTail
+  head-put s running e f g =
+      behind-number (s .now) (running ∷ (s .«task_count» ∷ (s .«object_count» ∷ (0 ∷ (0 ∷ (0 ∷ (0 ∷ (0 ∷ [])))))))) f g ∙ rw e

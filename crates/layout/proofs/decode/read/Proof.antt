@@ -1,0 +1,59 @@
+-- `layout::decode::read` meets its contract.
+use Rattle.layout.specs.Decode.{stateOfBytes}
+use borrow.Author.Needs.{needs}
+use Rattle.layout.proofs.decode.read.Statement.{statement}
+use Rattle.layout.proofs.decode.read.Tie as tie
+
+byte-at-requires : tie.Need-byte-at-requires
+byte-at-requires c κs = search needs
+
+runner-of-requires : tie.Need-runner-of-requires
+runner-of-requires c κs = search needs
+
+tasks-from-requires : tie.Need-tasks-from-requires
+tasks-from-requires c κs = search needs
+
+slice-aggregate-copy-cells : tie.Need-slice-aggregate-copy-cells
+slice-aggregate-copy-cells c = search needs
+
+copy-cells-requires : tie.Need-copy-cells-requires
+copy-cells-requires c κs = search needs
+
+ceilings-from-requires : tie.Need-ceilings-from-requires
+ceilings-from-requires c κs = search needs
+
+slice-aggregate-copy-cells-2 : tie.Need-slice-aggregate-copy-cells-2
+slice-aggregate-copy-cells-2 c = search needs
+
+copy-cells-requires-2 : tie.Need-copy-cells-requires-2
+copy-cells-requires-2 c κs = search needs
+
+number-at-requires : tie.Need-number-at-requires
+number-at-requires c κs = search needs
+
+byte-at-requires-2 : tie.Need-byte-at-requires-2
+byte-at-requires-2 c κs = search needs
+
+byte-at-requires-3 : tie.Need-byte-at-requires-3
+byte-at-requires-3 c κs = search needs
+
+returns : tie.Need-returns
+unfolding stateOfBytes
+returns c = cc
+
+pub read-spec : {M : Type 1} → statement M
+read-spec =
+    tie.close
+    (tie.spec
+    byte-at-requires
+    runner-of-requires
+    tasks-from-requires
+    slice-aggregate-copy-cells
+    copy-cells-requires
+    ceilings-from-requires
+    slice-aggregate-copy-cells-2
+    copy-cells-requires-2
+    number-at-requires
+    byte-at-requires-2
+    byte-at-requires-3
+    returns)

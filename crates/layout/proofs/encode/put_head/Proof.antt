@@ -1,0 +1,40 @@
+-- `layout::encode::put_head` meets its contract.
+use native.Mathlib.Omega.{arith}
+use Rattle.layout.proofs.PutLaws.{head-put}
+use borrow.Author.Needs.{needs}
+use Rattle.layout.proofs.encode.put_head.Statement.{statement}
+use Rattle.layout.proofs.encode.put_head.Tie as tie
+
+put-number-requires : tie.Need-put-number-requires
+put-number-requires c κs = search needs
+
+running-byte-requires : tie.Need-running-byte-requires
+running-byte-requires c κs = search needs
+
+slice-aggregate-put : tie.Need-slice-aggregate-put
+slice-aggregate-put c = search needs
+
+put-requires : tie.Need-put-requires
+put-requires c κs = search needs
+
+same-length : tie.Need-same-length
+same-length c = search needs
+
+returns : tie.Need-returns
+returns c =
+    let p = c .before .before in
+    let b2 = p .before .before .before in
+    let b1 = b2 .before .before .before in
+    let a = b1 .before .before .before .args in
+    head-put (a .out .now) _ _ 0 _ (omega arith) (a .state) _ (b2 .running-byte .ensures) (b1 .put-number .ensures) (p .put .ensures)
+
+pub put-head-spec : {M : Type 1} → statement M
+put-head-spec =
+    tie.close
+    (tie.spec
+    put-number-requires
+    running-byte-requires
+    slice-aggregate-put
+    put-requires
+    same-length
+    returns)

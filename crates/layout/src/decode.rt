@@ -1,0 +1,183 @@
+// From bytes to a state.
+ghost use mathlib.Core.Path.{_≡_};
+ghost use Prim.Native.Nat.{_+_, _≤_, _<_};
+ghost use lib.ListN.{length};
+ghost use Rattle.dispatch.specs.State.{priority};
+ghost use Rattle.layout.specs.Sizes.{ceilingsStart, stateSize};
+ghost use Rattle.rules.specs.Limits.{objectLimit};
+ghost use Rattle.layout.specs.Decode.{tabulate, byteAt, wordAt, numberAt, runnerOf, placeOf, waitingOf, taskFrom, tasksFrom};
+ghost use Rattle.layout.specs.Decode.{cellsFrom, stateOfBytes};
+use crate::sizes::BASE;
+use crate::sizes::CEILINGS_START;
+use crate::sizes::DELAYED;
+use crate::sizes::ENDED;
+use crate::sizes::HELD_CELLS;
+use crate::sizes::HELD_START;
+use crate::sizes::KIND;
+use crate::sizes::NOBODY;
+use crate::sizes::OBJECT_COUNT_AT;
+use crate::sizes::OBJECT_LIMIT;
+use crate::sizes::PERMIT;
+use crate::sizes::QUEUE_CELLS;
+use crate::sizes::QUEUES_START;
+use crate::sizes::READY;
+use crate::sizes::RUNNING_AT;
+use crate::sizes::SUSPENDED;
+use crate::sizes::TASK_COUNT_AT;
+use crate::sizes::TASK_LIMIT;
+use crate::sizes::TASK_SIZE;
+use crate::sizes::TASKS_START;
+use crate::sizes::WAITING;
+use crate::sizes::WAITS;
+use dispatch::State;
+use rules::Place;
+use rules::Priority;
+use rules::Runner;
+use rules::Task;
+use rules::WaitingBase;
+
+// The byte at i, or 0 past the end.
+pub fn byte_at(s: &[u8], i: usize) -> u8
+    ensures { λ r. ⌜ r ≡ byteAt (now (s .entry)) i ⌝ }
+{
+    if i < s.len() {
+        return s[i];
+    }
+    0
+}
+
+fn wide_at(s: &[u8], i: usize) -> u64
+    ensures { λ r. ⌜ (r ≡ byteAt (now (s .entry)) i) × (r < 256) ⌝ }
+{
+    byte_at(s, i) as u64
+}
+
+fn word_at(s: &[u8], i: usize) -> u64
+    requires { ⌜ i < stateSize ⌝ }
+    ensures { λ r. ⌜ (r ≡ wordAt (now (s .entry)) i) × (r < 65536) ⌝ }
+{
+    wide_at(s, i) + 256 * wide_at(s, i + 1)
+}
+
+// The number of eight bytes at i.
+fn number_at(s: &[u8], i: usize) -> u64
+    requires { ⌜ i + 6 < stateSize ⌝ }
+    ensures { λ r. ⌜ r ≡ numberAt (now (s .entry)) i ⌝ }
+{
+    let first = word_at(s, i);
+    let second = word_at(s, i + 2);
+    let third = word_at(s, i + 4);
+    let last = word_at(s, i + 6);
+    first + 65536 * (second + 65536 * (third + 65536 * last))
+}
+
+fn runner_of(b: u8) -> Runner
+    ensures { λ r. ⌜ r ≡ runnerOf b ⌝ }
+{
+    if b == NOBODY {
+        return Runner::Nobody;
+    }
+    Runner::Task(b)
+}
+
+fn place_of(kind: u8, due: u64) -> Place
+    ensures { λ r. ⌜ r ≡ placeOf kind due ⌝ }
+{
+    match kind {
+        READY => Place::Ready,
+        DELAYED => Place::Delayed(due),
+        SUSPENDED => Place::Suspended,
+        ENDED => Place::Ended,
+        _ => Place::Running,
+    }
+}
+
+fn waiting_of(waits: u8, p: u8) -> WaitingBase
+    ensures { λ r. ⌜ r ≡ waitingOf waits p ⌝ }
+{
+    if waits == 0 {
+        return WaitingBase::Nothing;
+    }
+    WaitingBase::Base(Priority(p))
+}
+
+// The task row that starts at i.
+fn task_from(s: &[u8], i: usize) -> Task
+    requires { ⌜ i + 12 < stateSize ⌝ }
+    ensures { λ r. ⌜ r ≡ taskFrom (now (s .entry)) i ⌝ }
+{
+    let due = number_at(s, i);
+    let place = place_of(byte_at(s, i + KIND), due);
+    let base = Priority(byte_at(s, i + BASE));
+    let waiting = waiting_of(byte_at(s, i + WAITS), byte_at(s, i + WAITING));
+    let permit = byte_at(s, i + PERMIT) != 0;
+    Task {
+        place: place,
+        base: base,
+        waiting: waiting,
+        permit: permit,
+    }
+}
+
+fn tasks_from(s: &[u8]) -> [Task; TASK_LIMIT]
+    ensures { λ r. ⌜ r ≡ tasksFrom (now (s .entry)) ⌝ }
+{
+    let first = task_from(s, TASKS_START);
+    let mut tasks = [first; TASK_LIMIT];
+    let mut t: usize = 0;
+    while t < TASK_LIMIT {
+        let k = task_from(s, TASKS_START + TASK_SIZE * t);
+        tasks[t] = k;
+        t += 1;
+    }
+    tasks
+}
+
+fn ceilings_from(s: &[u8]) -> [Priority; OBJECT_LIMIT]
+    ensures { λ r. ⌜ r ≡ tabulate objectLimit (λ o. priority (byteAt (now (s .entry)) (ceilingsStart + o))) ⌝ }
+{
+    let mut ceilings = [Priority(0); OBJECT_LIMIT];
+    let mut o: usize = 0;
+    while o < OBJECT_LIMIT {
+        let p = Priority(byte_at(s, CEILINGS_START + o));
+        ceilings[o] = p;
+        o += 1;
+    }
+    ceilings
+}
+
+// The bytes from `start` on, as many as there is room for.
+fn copy_cells(s: &[u8], start: usize, to: &mut [u8])
+    requires { ⌜ start + length (now to) ≤ stateSize ⌝ }
+    ensures { λ u. ⌜ now (to .exit) ≡ cellsFrom (now (s .entry)) start (length (now (to .entry))) ⌝ }
+{
+    let n = to.len();
+    let mut i: usize = 0;
+    while i < n {
+        to[i] = byte_at(s, start + i);
+        i += 1;
+    }
+}
+
+// The state that the first STATE_SIZE bytes stand for; what lies past the last byte reads as 0.
+pub fn read(bytes: &[u8]) -> State
+    ensures { λ r. ⌜ r ≡ stateOfBytes (now (bytes .entry)) ⌝ }
+{
+    let running = runner_of(byte_at(bytes, RUNNING_AT));
+    let tasks = tasks_from(bytes);
+    let mut held = [0u8; HELD_CELLS];
+    copy_cells(bytes, HELD_START, &mut held);
+    let ceilings = ceilings_from(bytes);
+    let mut queues = [0u8; QUEUE_CELLS];
+    copy_cells(bytes, QUEUES_START, &mut queues);
+    State {
+        now: number_at(bytes, 0),
+        running: running,
+        task_count: byte_at(bytes, TASK_COUNT_AT),
+        object_count: byte_at(bytes, OBJECT_COUNT_AT),
+        tasks: tasks,
+        held: held,
+        ceilings: ceilings,
+        queues: queues,
+    }
+}

@@ -1,0 +1,201 @@
+// From a state to bytes.
+ghost use mathlib.Core.Path.{_≡_};
+ghost use mathlib.Core.List.{map, flatMap};
+ghost use Prim.Native.Nat.{_+_, _≤_};
+ghost use lib.ListN.{length};
+ghost use lib.Seq.{sets};
+ghost use Rattle.engine.specs.Tasks.{dueOf, bit};
+ghost use Rattle.dispatch.specs.State.{level};
+ghost use Rattle.layout.specs.Sizes.{tasksStart, stateSize};
+ghost use Rattle.layout.specs.Encode.{lowBytes, runningByte, kindByte, waitsByte, waitingByte, taskBytes, headBytes, withState};
+use crate::sizes::CEILINGS_START;
+use crate::sizes::DELAYED;
+use crate::sizes::ENDED;
+use crate::sizes::HELD_START;
+use crate::sizes::NOBODY;
+use crate::sizes::OBJECT_LIMIT;
+use crate::sizes::QUEUES_START;
+use crate::sizes::READY;
+use crate::sizes::RUNNING;
+use crate::sizes::RUNNING_AT;
+use crate::sizes::STATE_SIZE;
+use crate::sizes::SUSPENDED;
+use crate::sizes::TASK_LIMIT;
+use crate::sizes::TASK_SIZE;
+use crate::sizes::TASKS_START;
+use dispatch::State;
+use rules::Place;
+use rules::Priority;
+use rules::Runner;
+use rules::Task;
+use rules::WaitingBase;
+
+// Bytes put into others, from `at` on.
+fn put(out: &mut [u8], at: usize, bytes: &[u8])
+    requires { ⌜ at + length (now bytes) ≤ length (now out) ⌝ }
+    ensures { λ u. ⌜ now (out .exit) ≡ sets (now (out .entry)) at (now (bytes .entry)) ⌝ }
+{
+    let n = bytes.len();
+    let mut i: usize = 0;
+    while i < n {
+        out[at + i] = bytes[i];
+        i += 1;
+    }
+}
+
+// A number as eight bytes, the lowest first.
+fn put_number(out: &mut [u8], at: usize, n: u64)
+    requires { ⌜ at + 8 ≤ length (now out) ⌝ }
+    ensures { λ u. ⌜ now (out .exit) ≡ sets (now (out .entry)) at (lowBytes 8 n) ⌝ }
+{
+    let mut rest = n;
+    let mut i: usize = 0;
+    while i < 8 {
+        out[at + i] = (rest % 256) as u8;
+        rest = rest / 256;
+        i += 1;
+    }
+}
+
+fn running_byte(running: Runner) -> u8
+    ensures { λ r. ⌜ r ≡ runningByte running ⌝ }
+{
+    match running {
+        Runner::Nobody => NOBODY,
+        Runner::Task(t) => t,
+    }
+}
+
+pub fn kind_byte(place: Place) -> u8
+    ensures { λ r. ⌜ r ≡ kindByte place ⌝ }
+{
+    match place {
+        Place::Running => RUNNING,
+        Place::Ready => READY,
+        Place::Delayed(_) => DELAYED,
+        Place::Suspended => SUSPENDED,
+        Place::Ended => ENDED,
+    }
+}
+
+fn due_of(place: Place) -> u64
+    ensures { λ r. ⌜ r ≡ dueOf place ⌝ }
+{
+    match place {
+        Place::Running => 0,
+        Place::Ready => 0,
+        Place::Delayed(due) => due,
+        Place::Suspended => 0,
+        Place::Ended => 0,
+    }
+}
+
+fn waits_byte(waiting: WaitingBase) -> u8
+    ensures { λ r. ⌜ r ≡ waitsByte waiting ⌝ }
+{
+    match waiting {
+        WaitingBase::Nothing => 0,
+        WaitingBase::Base(_) => 1,
+    }
+}
+
+fn waiting_byte(waiting: WaitingBase) -> u8
+    ensures { λ r. ⌜ r ≡ waitingByte waiting ⌝ }
+{
+    match waiting {
+        WaitingBase::Nothing => 0,
+        WaitingBase::Base(p) => p.0,
+    }
+}
+
+fn bit(permit: bool) -> u8
+    ensures { λ r. ⌜ r ≡ bit permit ⌝ }
+{
+    if permit { 1 } else { 0 }
+}
+
+// A task row.
+fn put_task(out: &mut [u8], at: usize, task: Task)
+    requires { ⌜ at + 16 ≤ length (now out) ⌝ }
+    ensures { λ u. ⌜ now (out .exit) ≡ sets (now (out .entry)) at (taskBytes task) ⌝ }
+{
+    let place = task.place;
+    let base = task.base;
+    let waiting = task.waiting;
+    let permit = task.permit;
+    put_number(out, at, due_of(place));
+    let rest = [
+        kind_byte(place),
+        base.0,
+        waits_byte(waiting),
+        waiting_byte(waiting),
+        bit(permit),
+        0,
+        0,
+        0,
+    ];
+    put(out, at + 8, &rest);
+}
+
+fn put_tasks(out: &mut [u8], tasks: [Task; TASK_LIMIT])
+    requires { ⌜ stateSize ≤ length (now out) ⌝ }
+    ensures { λ u. ⌜ now (out .exit) ≡ sets (now (out .entry)) tasksStart (flatMap taskBytes tasks) ⌝ }
+{
+    let mut t: usize = 0;
+    while t < TASK_LIMIT {
+        let k = tasks[t];
+        put_task(out, TASKS_START + TASK_SIZE * t, k);
+        t += 1;
+    }
+}
+
+fn levels(ceilings: [Priority; OBJECT_LIMIT]) -> [u8; OBJECT_LIMIT]
+    ensures { λ r. ⌜ r ≡ map level ceilings ⌝ }
+{
+    let mut levels = [0u8; OBJECT_LIMIT];
+    let mut o: usize = 0;
+    while o < OBJECT_LIMIT {
+        let p = ceilings[o];
+        levels[o] = p.0;
+        o += 1;
+    }
+    levels
+}
+
+fn put_head(out: &mut [u8], state: State)
+    requires { ⌜ stateSize ≤ length (now out) ⌝ }
+    ensures { λ u. ⌜ now (out .exit) ≡ sets (now (out .entry)) 0 (headBytes state) ⌝ }
+{
+    let running = state.running;
+    put_number(out, 0, state.now);
+    let rest = [
+        running_byte(running),
+        state.task_count,
+        state.object_count,
+        0,
+        0,
+        0,
+        0,
+        0,
+    ];
+    put(out, RUNNING_AT, &rest);
+}
+
+// The state into the first STATE_SIZE bytes, the others staying as they are; nothing is written if there are fewer.
+pub fn write(state: State, bytes: &mut [u8])
+    ensures { λ u. ⌜ now (bytes .exit) ≡ withState state (now (bytes .entry)) ⌝ }
+{
+    if bytes.len() < STATE_SIZE {
+        return;
+    }
+    put_head(bytes, state);
+    let tasks = state.tasks;
+    put_tasks(bytes, tasks);
+    let ceilings = state.ceilings;
+    let priorities = levels(ceilings);
+    put(bytes, CEILINGS_START, &priorities);
+    let held = state.held;
+    put(bytes, HELD_START, &held);
+    let queues = state.queues;
+    put(bytes, QUEUES_START, &queues);
+}
