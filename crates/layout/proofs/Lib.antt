@@ -3,3 +3,5 @@ pub mod ReadLaws
 pub mod PutLaws
 pub mod WriteLaws
 pub mod BackLaws
+pub mod EventLaws
+pub mod HistoryLaws

@@ -1,3 +1,4 @@
 pub mod Sizes
 pub mod Decode
 pub mod Encode
+pub mod Events

@@ -57,7 +57,7 @@ fn put_number(out: &mut [u8], at: usize, n: u64)
     }
 }
 
-fn running_byte(running: Runner) -> u8
+pub fn running_byte(running: Runner) -> u8
     ensures { λ r. ⌜ r ≡ runningByte running ⌝ }
 {
     match running {
@@ -66,7 +66,7 @@ fn running_byte(running: Runner) -> u8
     }
 }
 
-pub fn kind_byte(place: Place) -> u8
+fn kind_byte(place: Place) -> u8
     ensures { λ r. ⌜ r ≡ kindByte place ⌝ }
 {
     match place {

@@ -1,9 +1,15 @@
-// A state as bytes, for callers in other languages: read out of lent bytes and written into them, in the layout of specs/.
+// A state as bytes, for callers in other languages: read out of lent bytes and written into them, in the layout of specs/, and
+// moved there by a fresh start and by events.
 
 mod decode;
 mod encode;
+mod events;
 mod sizes;
 
 pub use decode::read;
 pub use encode::write;
+pub use events::apply;
+pub use events::fresh;
+pub use events::running;
+pub use events::sound;
 pub use sizes::STATE_SIZE;

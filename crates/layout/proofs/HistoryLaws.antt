@@ -1,0 +1,148 @@
+-- Bytes that a fresh start and events move stand for the states that the methods give: a caller that holds bytes is where one that
+-- holds the state by value is.
+use mathlib.Core.Path.{_≡_, refl, ap, _∙_}
+use mathlib.Core.Bool.{Bool, true, false, cond}
+use mathlib.Core.List.{List, [], _++_, map}
+use Prim.Native.Nat.{ℕ, _+_, _*_, _≤_, _<_}
+use native.Mathlib.Omega.{arith}
+use borrow.Author.Tests.{le-ltb}
+use lib.Dec.{eqb, ltb}
+use lib.ListN.{length, getD, drop, length-map, List·getD-eq-default, List·getD-map}
+use Rattle.rules.specs.Limits.{taskLimit, objectLimit}
+use Rattle.rules.specs.Answers.{numberOf}
+use Rattle.rules.specs.Model.{Model, TaskRecord, blank, taskAt}
+use Rattle.rules.specs.Sound.{sound}
+use Rattle.rules.specs.Events.{apply}
+use Rattle.rules.specs.Fresh.{fresh}
+use Rattle.rules.specs.declared.Place.{Place}
+use Rattle.rules.specs.declared.Place.the-variants.{Running, Ready, Delayed, Suspended, Ended}
+use Rattle.rules.specs.declared.Event.{Event}
+use Rattle.rules.proofs.Choices.{compare, cond-false, and-right}
+use Rattle.rules.proofs.Kept.{delayFits}
+use Rattle.rules.proofs.SoundLaws.{Numbers, sound-is}
+use Rattle.rules.proofs.Soundness.{sound-kept, ready-room, held-room-of}
+use Rattle.rules.proofs.FreshLaws.{fresh-sound}
+use Rattle.engine.specs.Rows.{heldWidth, queueWidth}
+use Rattle.engine.specs.Tasks.{dueOf, blankTask}
+use Rattle.dispatch.specs.State.{priority, view, waitingFor, taskFor, holding, padded, encode}
+use Rattle.dispatch.specs.Sound.{sizesFit, soundOf}
+use Rattle.dispatch.specs.Loading.{Shaped}
+use Rattle.dispatch.specs.Methods.{answered, unsound, appliedOf, freshOf}
+use Rattle.dispatch.specs.declared.State.{State}
+use Rattle.dispatch.specs.declared.Stepped.{Stepped}
+use Rattle.dispatch.proofs.ListLaws.{padded-length, padded-at}
+use Rattle.dispatch.proofs.FlatLaws.{Short, flat-length}
+use Rattle.layout.specs.Sizes.{stateSize}
+use Rattle.layout.specs.Decode.{stateOfBytes}
+use Rattle.layout.specs.Encode.{bytesOfState, withState, numberValues, Fits}
+use Rattle.layout.specs.Events.{eventNumber, eventBytes, freshBytes}
+use Rattle.layout.proofs.BackLaws.{state-back}
+use Rattle.layout.proofs.EventLaws.{own-answer}
+
+-- the due time of a place that is not delayed is 0
+due-small : (x : Place) → ((d : ℕ) → x ≡ Delayed d → d < numberValues) → dueOf x < numberValues
+due-small Running f = omega arith
+due-small Ready f = omega arith
+due-small (Delayed d) f = f d refl
+due-small Suspended f = omega arith
+due-small Ended f = omega arith
+
+-- the state for a sound Model has the lengths and numbers that bytes have room for
+module _ (m : Model) (s : sound m ≡ true) where
+  sizes : Numbers m
+  sizes = sound-is m s .numbers
+
+  held-short : Short heldWidth (padded taskLimit (map holding (m .tasks)) [])
+  held-short t =
+      rw (padded-at taskLimit (map holding (m .tasks)) [] t, List·getD-map holding (m .tasks) t blank)
+      (compare (length (m .tasks)) t
+      (λ g. omega (arith, ap (λ (k : TaskRecord). length (k .held)) (List·getD-eq-default (m .tasks) blank {n = t} g)))
+      (λ g. omega (arith, held-room-of m s t g, sizes .objects)))
+
+  queue-short : Short queueWidth (m .ready)
+  queue-short p = omega (arith, ready-room m s p, sizes .count)
+
+  held-count : length (padded taskLimit (map holding (m .tasks)) []) ≡ taskLimit
+  held-count = padded-length taskLimit (map holding (m .tasks)) [] (omega (arith, length-map (m .tasks) holding, sizes .count))
+
+  shaped : Shaped (encode m)
+  unfolding encode
+  shaped =
+      record {
+        tasks = padded-length taskLimit (map taskFor (m .tasks)) blankTask (omega (arith, length-map (m .tasks) taskFor, sizes .count));
+        held =
+            flat-length heldWidth (padded taskLimit (map holding (m .tasks)) []) held-short ∙ ap (λ (n : ℕ). n * heldWidth) held-count;
+        ceilings =
+            padded-length objectLimit (map priority (m .ceilings)) (priority 0)
+            (omega (arith, length-map (m .ceilings) priority, sizes .objects));
+        queues = flat-length queueWidth (m .ready) queue-short ∙ ap (λ (n : ℕ). n * queueWidth) (sizes .queues);
+      }
+
+  record-at : (t : ℕ) → getD (padded taskLimit (map taskFor (m .tasks)) blankTask) t blankTask ≡ taskFor (taskAt m t)
+  unfolding waitingFor
+  record-at t = padded-at taskLimit (map taskFor (m .tasks)) blankTask t ∙ List·getD-map taskFor (m .tasks) t blank
+
+  due-fits : (t d : ℕ) → taskAt m t .place ≡ Delayed d → d < numberValues
+  due-fits t d e =
+      compare (length (m .tasks)) t
+      (λ g. absurd (let z : _≡_ {A = ℕ} 0 1 = cc (List·getD-eq-default (m .tasks) blank {n = t} g) in omega arith))
+      (λ g. omega (arith, sound-is m s .due t d g e .1, sizes .reading))
+
+  fits : Fits (encode m)
+  unfolding encode
+  fits =
+      record {
+        now = omega (arith, sizes .reading);
+        running = λ t e. omega (arith, sizes .runner t e, sizes .count);
+        due = λ t. rw (record-at t) (due-small (taskAt m t .place) (due-fits t));
+      }
+
+  -- its bytes, written over others that are enough, stand for it
+  pub written-back : (b : List ℕ) → stateSize ≤ length b → stateOfBytes (withState (encode m) b) ≡ encode m
+  unfolding withState
+  written-back b h =
+      let after = bytesOfState (encode m) ++ drop stateSize b in
+      ap stateOfBytes (cond-false (ltb (length b) stateSize) b after (le-ltb (length b) stateSize h)) ∙
+      state-back (encode m) (drop stateSize b) shaped fits
+
+-- after a fresh start
+pub fresh-back : (bases ceilings b : List ℕ) → stateSize ≤ length b →
+    stateOfBytes (freshBytes bases ceilings b) ≡ freshOf bases ceilings .state
+unfolding freshBytes freshOf
+fresh-back bases ceilings b h = written-back (fresh bases ceilings .model) (fresh-sound bases ceilings) b h
+
+-- after an event
+module _ (b : List ℕ) (e : Event) (h : stateSize ≤ length b) (d : delayFits e ≡ true) where
+  abbrev s : State
+  s = stateOfBytes b
+
+  number-is : eventNumber b e ≡ numberOf (appliedOf s e .answer)
+  unfolding eventNumber
+  number-is = own-answer b (numberOf (appliedOf s e .answer)) h
+
+  -- what is written where the answer is 0, and what stays
+  bytes-are : eventBytes b e ≡ cond (eqb (numberOf (appliedOf s e .answer)) 0) (withState (appliedOf s e .state) b) b
+  unfolding eventBytes
+  bytes-are = ap (λ (n : ℕ). cond (eqb n 0) (withState (appliedOf s e .state) b) b) number-is
+
+  abbrev Held : Stepped → Type 0
+  Held r = stateOfBytes (cond (eqb (numberOf (r .answer)) 0) (withState (r .state) b) b) ≡ r .state
+
+  when-sound : soundOf s ≡ true → Held (answered s (apply (view s) e))
+  unfolding answered soundOf
+  when-sound g = by-test (eqb (numberOf (apply (view s) e .answer)) 0)
+    where
+      m : Model
+      m = apply (view s) e .model
+
+      by-test : (t : Bool) → stateOfBytes (cond t (withState (cond t (encode m) s) b) b) ≡ cond t (encode m) s
+      by-test true = written-back m (sound-kept (view s) e d (and-right (sizesFit s) (sound (view s)) g)) b h
+      by-test false = refl
+
+  pub event-back : stateOfBytes (eventBytes b e) ≡ appliedOf s e .state
+  unfolding appliedOf
+  event-back = ap stateOfBytes bytes-are ∙ both (soundOf s) refl
+    where
+      both : (t : Bool) → soundOf s ≡ t → Held (cond t (answered s (apply (view s) e)) (unsound s))
+      both true g = when-sound g
+      both false g = refl

@@ -1,0 +1,68 @@
+-- `layout::events::apply` meets its contract.
+use native.Mathlib.Omega.{arith}
+use mathlib.Core.Path.{_∙_, ap}
+use Rattle.dispatch.specs.Methods.{appliedOf}
+use Rattle.dispatch.specs.declared.State.{State}
+use Rattle.layout.proofs.EventLaws.{event-short, event-refused, event-done}
+use borrow.Author.Needs.{needs}
+use Rattle.layout.proofs.events.apply.Statement.{statement}
+use Rattle.layout.proofs.events.apply.Tie as tie
+
+number-requires : tie.Need-number-requires
+number-requires c κs = search needs
+
+returns : tie.Need-returns
+returns c =
+    let a = c .before .before .before .args in
+    event-short (a .bytes .now) (a .event) _ (c .number .ensures) (omega arith)
+
+read-requires : tie.Need-read-requires
+read-requires c κs = search needs
+
+stepped-requires : tie.Need-stepped-requires
+stepped-requires c κs = search needs
+
+number-requires-2 : tie.Need-number-requires-2
+number-requires-2 c κs = search needs
+
+same-length : tie.Need-same-length
+same-length c = search needs
+
+returns-2 : tie.Need-returns-2
+returns-2 c =
+    let n = c .before in
+    let r = n .before .before in
+    let a = r .before .before .before .before .args in
+    let step = n .before .stepped .ensures ∙ ap (λ (x : State). appliedOf x (a .event)) (r .read .ensures) in
+    event-refused (a .bytes .now) (a .event) _ step _ (n .number2 .ensures) (omega arith) (c .if2 .taken)
+
+write-requires : tie.Need-write-requires
+write-requires c κs = search needs
+
+same-length-2 : tie.Need-same-length-2
+same-length-2 c = search needs
+
+returns-3 : tie.Need-returns-3
+returns-3 c =
+    let w = c .before .before in
+    let i = w .before .before .before in
+    let n = i .before in
+    let r = n .before .before in
+    let a = r .before .before .before .before .args in
+    let step = n .before .stepped .ensures ∙ ap (λ (x : State). appliedOf x (a .event)) (r .read .ensures) in
+    event-done (a .bytes .now) (a .event) _ step _ (n .number2 .ensures) (omega arith) _ (omega arith) (w .write .ensures)
+
+pub apply-spec : {M : Type 1} → statement M
+apply-spec =
+    tie.close
+    (tie.spec
+    number-requires
+    returns
+    read-requires
+    stepped-requires
+    number-requires-2
+    same-length
+    returns-2
+    write-requires
+    same-length-2
+    returns-3)

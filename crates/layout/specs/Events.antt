@@ -1,0 +1,45 @@
+-- What a fresh start and an event make of a state in lent bytes: the number of the answer, and the bytes afterwards.
+use mathlib.Core.Bool.{cond}
+use mathlib.Core.List.{List}
+use Prim.Native.Nat.{ℕ}
+use lib.Dec.{eqb, ltb}
+use lib.ListN.{length}
+use Rattle.rules.specs.Answers.{numberOf}
+use Rattle.rules.specs.declared.Event.{Event}
+use Rattle.rules.specs.declared.Answer.the-variants.{Unsound}
+use Rattle.dispatch.specs.Sound.{soundOf}
+use Rattle.dispatch.specs.Methods.{appliedOf, freshOf}
+use Rattle.dispatch.specs.declared.State.{State}
+use Rattle.layout.specs.Sizes.{nobodyByte, stateSize}
+use Rattle.layout.specs.Decode.{stateOfBytes}
+use Rattle.layout.specs.Encode.{runningByte, withState}
+
+-- too few bytes for a state answer 10
+abbrev pub unlessShort : List ℕ → ℕ → ℕ
+unlessShort b n = cond (ltb (length b) stateSize) (numberOf Unsound) n
+
+-- a state that is written beside the answer 0, "Any refusal returns the state unchanged."
+abbrev pub ifDone : ℕ → State → List ℕ → List ℕ
+ifDone n s b = cond (eqb n 0) (withState s b) b
+
+-- an event
+unfoldable pub eventNumber : List ℕ → Event → ℕ
+eventNumber b e = unlessShort b (numberOf (appliedOf (stateOfBytes b) e .answer))
+
+unfoldable pub eventBytes : List ℕ → Event → List ℕ
+eventBytes b e = ifDone (eventNumber b e) (appliedOf (stateOfBytes b) e .state) b
+
+-- a fresh start: "the state beside that answer" is written too
+unfoldable pub freshNumber : List ℕ → List ℕ → List ℕ → ℕ
+freshNumber bases ceilings b = unlessShort b (numberOf (freshOf bases ceilings .answer))
+
+unfoldable pub freshBytes : List ℕ → List ℕ → List ℕ → List ℕ
+freshBytes bases ceilings b = withState (freshOf bases ceilings .state) b
+
+-- 0, or 10 for an unsound state
+unfoldable pub soundNumber : List ℕ → ℕ
+soundNumber b = unlessShort b (cond (soundOf (stateOfBytes b)) 0 (numberOf Unsound))
+
+-- who runs, 255 being nobody
+unfoldable pub runningNumber : List ℕ → ℕ
+runningNumber b = cond (ltb (length b) stateSize) nobodyByte (runningByte (stateOfBytes b .running))

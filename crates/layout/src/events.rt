@@ -1,0 +1,91 @@
+// A fresh start and the events, on a state in lent bytes.
+ghost use mathlib.Core.Path.{_≡_};
+ghost use Rattle.dispatch.specs.Methods.{appliedOf};
+ghost use Rattle.layout.specs.Events.{eventNumber, eventBytes, freshNumber, freshBytes, soundNumber, runningNumber};
+use crate::decode::read;
+use crate::encode::running_byte;
+use crate::encode::write;
+use crate::sizes::NOBODY;
+use crate::sizes::STATE_SIZE;
+use dispatch::State;
+use dispatch::Stepped;
+use rules::Answer;
+use rules::Event;
+
+// The method for an event.
+fn stepped(state: State, event: Event) -> Stepped
+    ensures { λ r. ⌜ r ≡ appliedOf state event ⌝ }
+{
+    match event {
+        Event::Enter(o) => state.enter(o),
+        Event::Leave(o) => state.leave(o),
+        Event::Delay(d) => state.delay(d),
+        Event::Suspend => state.suspend(),
+        Event::Release(t) => state.release(t),
+        Event::Clock(r) => state.clock(r),
+        Event::Set(t, p) => state.set(t, p),
+        Event::Work => state.work(),
+        Event::Finish => state.finish(),
+    }
+}
+
+// The state goes on by an event: its bytes are written anew, unless the event is refused.
+pub fn apply(bytes: &mut [u8], event: Event) -> u8
+    ensures { λ r. ⌜ r ≡ eventNumber (now (bytes .entry)) event ⌝ }
+    ensures { λ r. ⌜ now (bytes .exit) ≡ eventBytes (now (bytes .entry)) event ⌝ }
+{
+    if bytes.len() < STATE_SIZE {
+        return Answer::Unsound.number();
+    }
+    let state = read(bytes);
+    let next = stepped(state, event);
+    let answer = next.answer;
+    let number = answer.number();
+    if number != 0 {
+        return number;
+    }
+    let after = next.state;
+    write(after, bytes);
+    0
+}
+
+// The fresh state of these bases and ceilings, or the one beside a refusal.
+pub fn fresh(bases: &[u8], ceilings: &[u8], bytes: &mut [u8]) -> u8
+    ensures { λ r. ⌜ r ≡ freshNumber (now (bases .entry)) (now (ceilings .entry)) (now (bytes .entry)) ⌝ }
+    ensures { λ r. ⌜ now (bytes .exit) ≡ freshBytes (now (bases .entry)) (now (ceilings .entry)) (now (bytes .entry)) ⌝ }
+{
+    if bytes.len() < STATE_SIZE {
+        return Answer::Unsound.number();
+    }
+    let start = State::fresh(bases, ceilings);
+    let state = start.state;
+    write(state, bytes);
+    let answer = start.answer;
+    answer.number()
+}
+
+// Whether the state is sound: 0, or 10.
+pub fn sound(bytes: &[u8]) -> u8
+    ensures { λ r. ⌜ r ≡ soundNumber (now (bytes .entry)) ⌝ }
+{
+    if bytes.len() < STATE_SIZE {
+        return Answer::Unsound.number();
+    }
+    let state = read(bytes);
+    if state.sound() {
+        return 0;
+    }
+    Answer::Unsound.number()
+}
+
+// Who runs, 255 being nobody.
+pub fn running(bytes: &[u8]) -> u8
+    ensures { λ r. ⌜ r ≡ runningNumber (now (bytes .entry)) ⌝ }
+{
+    if bytes.len() < STATE_SIZE {
+        return NOBODY;
+    }
+    let state = read(bytes);
+    let runner = state.running;
+    running_byte(runner)
+}
