@@ -10,6 +10,8 @@ ghost use Rattle.run.specs.Run.{answerOf, bufferOf};
 ghost use Rattle.exports.specs.Packed.{packed, packedVerdict, packedRun, scriptStart};
 use roster::format;
 
+mod states;
+
 fn pack(number: u8, task: u8, position: usize) -> u64
     requires { ⌜ position ≤ largestRoster ⌝ }
     ensures { λ r. ⌜ r ≡ packed number task position ⌝ }

@@ -1,0 +1,104 @@
+// A state in lent bytes: its fresh start, its events, its test and who runs. The layout is crate layout's.
+ghost use mathlib.Core.Path.{_≡_};
+ghost use Rattle.rules.specs.declared.Event.the-variants.{Enter, Leave, Delay, Suspend, Release, Clock, Set, Work, Finish};
+ghost use Rattle.layout.specs.Events.{eventNumber, eventBytes, freshNumber, freshBytes, soundNumber, runningNumber};
+use rules::Event;
+use rules::Priority;
+
+// The fresh state of bases and ceilings: 0, 13 or 15, the state being written each time; 10, and nothing, into too few bytes.
+#[no_mangle]
+pub extern "C" fn dispatch_fresh(bases: &[u8], ceilings: &[u8], state: &mut [u8]) -> u8
+    ensures { λ r. ⌜ r ≡ freshNumber (now (bases .entry)) (now (ceilings .entry)) (now (state .entry)) ⌝ }
+    ensures { λ r. ⌜ now (state .exit) ≡ freshBytes (now (bases .entry)) (now (ceilings .entry)) (now (state .entry)) ⌝ }
+{
+    layout::fresh(bases, ceilings, state)
+}
+
+// Each event: the number of its answer. With 0 the bytes are the next state's, with any other they stay as they are.
+#[no_mangle]
+pub extern "C" fn dispatch_enter(state: &mut [u8], object: u64) -> u8
+    ensures { λ r. ⌜ r ≡ eventNumber (now (state .entry)) (Enter object) ⌝ }
+    ensures { λ r. ⌜ now (state .exit) ≡ eventBytes (now (state .entry)) (Enter object) ⌝ }
+{
+    layout::apply(state, Event::Enter(object))
+}
+
+#[no_mangle]
+pub extern "C" fn dispatch_leave(state: &mut [u8], object: u64) -> u8
+    ensures { λ r. ⌜ r ≡ eventNumber (now (state .entry)) (Leave object) ⌝ }
+    ensures { λ r. ⌜ now (state .exit) ≡ eventBytes (now (state .entry)) (Leave object) ⌝ }
+{
+    layout::apply(state, Event::Leave(object))
+}
+
+#[no_mangle]
+pub extern "C" fn dispatch_delay(state: &mut [u8], ticks: u16) -> u8
+    ensures { λ r. ⌜ r ≡ eventNumber (now (state .entry)) (Delay ticks) ⌝ }
+    ensures { λ r. ⌜ now (state .exit) ≡ eventBytes (now (state .entry)) (Delay ticks) ⌝ }
+{
+    layout::apply(state, Event::Delay(ticks))
+}
+
+#[no_mangle]
+pub extern "C" fn dispatch_suspend(state: &mut [u8]) -> u8
+    ensures { λ r. ⌜ r ≡ eventNumber (now (state .entry)) Suspend ⌝ }
+    ensures { λ r. ⌜ now (state .exit) ≡ eventBytes (now (state .entry)) Suspend ⌝ }
+{
+    layout::apply(state, Event::Suspend)
+}
+
+#[no_mangle]
+pub extern "C" fn dispatch_release(state: &mut [u8], task: u64) -> u8
+    ensures { λ r. ⌜ r ≡ eventNumber (now (state .entry)) (Release task) ⌝ }
+    ensures { λ r. ⌜ now (state .exit) ≡ eventBytes (now (state .entry)) (Release task) ⌝ }
+{
+    layout::apply(state, Event::Release(task))
+}
+
+#[no_mangle]
+pub extern "C" fn dispatch_clock(state: &mut [u8], reading: u64) -> u8
+    ensures { λ r. ⌜ r ≡ eventNumber (now (state .entry)) (Clock reading) ⌝ }
+    ensures { λ r. ⌜ now (state .exit) ≡ eventBytes (now (state .entry)) (Clock reading) ⌝ }
+{
+    layout::apply(state, Event::Clock(reading))
+}
+
+#[no_mangle]
+pub extern "C" fn dispatch_set(state: &mut [u8], task: u64, priority: u8) -> u8
+    ensures { λ r. ⌜ r ≡ eventNumber (now (state .entry)) (Set task (record { 0 = priority })) ⌝ }
+    ensures { λ r. ⌜ now (state .exit) ≡ eventBytes (now (state .entry)) (Set task (record { 0 = priority })) ⌝ }
+{
+    layout::apply(state, Event::Set(task, Priority(priority)))
+}
+
+#[no_mangle]
+pub extern "C" fn dispatch_work(state: &mut [u8]) -> u8
+    ensures { λ r. ⌜ r ≡ eventNumber (now (state .entry)) Work ⌝ }
+    ensures { λ r. ⌜ now (state .exit) ≡ eventBytes (now (state .entry)) Work ⌝ }
+{
+    layout::apply(state, Event::Work)
+}
+
+#[no_mangle]
+pub extern "C" fn dispatch_finish(state: &mut [u8]) -> u8
+    ensures { λ r. ⌜ r ≡ eventNumber (now (state .entry)) Finish ⌝ }
+    ensures { λ r. ⌜ now (state .exit) ≡ eventBytes (now (state .entry)) Finish ⌝ }
+{
+    layout::apply(state, Event::Finish)
+}
+
+// Whether the state is sound: 0, or 10.
+#[no_mangle]
+pub extern "C" fn dispatch_sound(state: &[u8]) -> u8
+    ensures { λ r. ⌜ r ≡ soundNumber (now (state .entry)) ⌝ }
+{
+    layout::sound(state)
+}
+
+// Who runs; 255 is nobody, or too few bytes.
+#[no_mangle]
+pub extern "C" fn dispatch_running(state: &[u8]) -> u8
+    ensures { λ r. ⌜ r ≡ runningNumber (now (state .entry)) ⌝ }
+{
+    layout::running(state)
+}
