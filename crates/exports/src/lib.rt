@@ -10,6 +10,7 @@ ghost use Rattle.run.specs.Run.{answerOf, bufferOf};
 ghost use Rattle.exports.specs.Packed.{packed, packedVerdict, packedRun, scriptStart};
 use roster::format;
 
+mod boards;
 mod states;
 
 fn pack(number: u8, task: u8, position: usize) -> u64

@@ -5,3 +5,5 @@ pub mod WriteLaws
 pub mod BackLaws
 pub mod EventLaws
 pub mod HistoryLaws
+pub mod BoardLaws
+pub mod FilledLaws

@@ -1,10 +1,10 @@
 -- Laws of lists that are given entry by entry.
 use mathlib.Core.Path.{_≡_, refl, ap, sym, _∙_}
-use mathlib.Core.List.{List}
-use Prim.Native.Nat.{ℕ, zero, suc, _<_}
+use mathlib.Core.List.{List, _∷_}
+use Prim.Native.Nat.{ℕ, zero, suc, _≤_, _<_}
 use native.Mathlib.Nat.{not-suc-le-zero, le-of-suc-le-suc}
 use native.Mathlib.Omega.{arith}
-use lib.ListN.{length, getD}
+use lib.ListN.{length, getD, take}
 use lib.Seq.{ext-getD}
 use Rattle.layout.specs.Decode.{tabulate}
 
@@ -25,3 +25,10 @@ module _ {A : Type 0} where
   table-of l n f d e g =
       ext-getD d (tabulate n f) l (table-length n f ∙ sym e)
       (λ i h. let k : i < n = omega (arith, table-length n f) in table-at n f i d k ∙ g i k)
+
+  -- the first entries of a table
+  pub table-take : (n m : ℕ) (f : ℕ → A) → n ≤ m → take n (tabulate m f) ≡ tabulate n f
+  unfolding tabulate
+  table-take zero m f h = refl
+  table-take (suc n) zero f h = absurd (not-suc-le-zero h)
+  table-take (suc n) (suc m) f h = ap (λ (l : List A). f 0 ∷ l) (table-take n m (λ i. f (suc i)) (le-of-suc-le-suc h))

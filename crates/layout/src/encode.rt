@@ -31,7 +31,7 @@ use rules::Task;
 use rules::WaitingBase;
 
 // Bytes put into others, from `at` on.
-fn put(out: &mut [u8], at: usize, bytes: &[u8])
+pub fn put(out: &mut [u8], at: usize, bytes: &[u8])
     requires { ⌜ at + length (now bytes) ≤ length (now out) ⌝ }
     ensures { λ u. ⌜ now (out .exit) ≡ sets (now (out .entry)) at (now (bytes .entry)) ⌝ }
 {

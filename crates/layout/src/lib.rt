@@ -1,11 +1,14 @@
 // A state as bytes, for callers in other languages: read out of lent bytes and written into them, in the layout of specs/, and
-// moved there by a fresh start and by events.
+// moved there by a fresh start and by events; and a board as bytes.
 
+mod boards;
 mod decode;
 mod encode;
 mod events;
 mod sizes;
 
+pub use boards::fill;
+pub use boards::next;
 pub use decode::read;
 pub use encode::write;
 pub use events::apply;
