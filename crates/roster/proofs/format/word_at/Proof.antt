@@ -9,7 +9,7 @@ use Rattle.roster.proofs.format.word_at.Tie as tie
 
 returns : tie.Need-returns
 unfolding wordAt
-returns c = 
+returns c =
     let a = c .before .before .args in
     omega (
       arith,
@@ -29,7 +29,7 @@ wide-requires c κs = search needs
 
 returns-2 : tie.Need-returns-2
 unfolding wordAt
-returns-2 c = 
+returns-2 c =
     let c2 = c .before .before in
     let a = c2 .before .before .before .args in
     omega (arith, c .wide .ensures .0, List·getD-eq-default (a .s .now) 0 {n = a .i + 1} (omega (arith, c2 .if2 .taken)))

@@ -30,7 +30,7 @@ step-of-requires c κs = search needs
 
 returns : tie.Need-returns
 unfolding stepAt codeAt aAt bAt
-returns c = 
+returns c =
     let c6 = c .before .before .before .before .before .before in
     cc (steps-at (c6 .args .part .now) (c6 .args .k) (search needs))
 
