@@ -1,6 +1,8 @@
 //! Printing and counting: bytes in hexadecimal, and how often each answer came.
 
 use std::collections::BTreeMap;
+use std::fs;
+use std::path::PathBuf;
 
 pub fn hex(bytes: &[u8]) -> String {
     bytes.iter().map(|b| format!("{b:02X}")).collect()
@@ -13,6 +15,19 @@ pub fn bytes_of(text: &str) -> Vec<u8> {
         .chunks(2)
         .map(|pair| (16 * pair[0] + pair[1]) as u8)
         .collect()
+}
+
+/// Saves a case under target/failed as `roster.bin` and `events.bin`, which the program can be run on, and names the folder.
+pub fn save(test: &str, seed: u64, roster: &[u8], events: &[u8]) -> String {
+    let folder =
+        PathBuf::from(env!("CARGO_MANIFEST_DIR")).join(format!("../target/failed/{test}-{seed}"));
+    let written = fs::create_dir_all(&folder)
+        .and_then(|()| fs::write(folder.join("roster.bin"), roster))
+        .and_then(|()| fs::write(folder.join("events.bin"), events));
+    match written {
+        Ok(()) => format!("saved in target/failed/{test}-{seed}"),
+        Err(error) => format!("not saved: {error}"),
+    }
 }
 
 /// How often each answer came.

@@ -7,6 +7,10 @@ pub const MOST_OBJECTS: usize = 16;
 pub const LARGEST: usize = 32_768;
 const TRAILER: usize = 8;
 
+/// Document 01's roster of 46 bytes.
+pub const WHOLE_CASE: &str = "01000000 04000000 02000000 03000500 01000000 02000000 \
+    0A0000000C00 14000C000C00 1400 5235020124001800";
+
 pub const ENTER: u8 = 1;
 pub const LEAVE: u8 = 2;
 pub const DELAY: u8 = 3;
@@ -392,4 +396,43 @@ fn off_layout(random: &mut Random, bytes: &mut Vec<u8>) {
             bytes.remove(random.below(trailer.max(1)));
         }
     }
+}
+
+/// One made roster: most pass, the others have one fault, two, or none that was planned.
+pub fn made(seed: u64) -> Vec<u8> {
+    let mut random = Random::new(seed);
+    let mut plan = passing(&mut random);
+    match seed % 10 {
+        0..=5 => plan.bytes(),
+        6 | 7 => with_fault(&mut random, &mut plan, 11 + (seed / 10 % 10) as u8),
+        8 => {
+            plant(&mut random, &mut plan, 15 + (seed / 10 % 6) as u8);
+            with_fault(&mut random, &mut plan, 11 + (seed / 60 % 10) as u8)
+        }
+        _ => noise(&mut random, plan.bytes()),
+    }
+}
+
+fn with_fault(random: &mut Random, plan: &mut Plan, number: u8) -> Vec<u8> {
+    if number >= 16 || (number == 15 && random.once_in(2)) {
+        plant(random, plan, number);
+        return plan.bytes();
+    }
+    let mut bytes = plan.bytes();
+    damage(random, &mut bytes, number);
+    bytes
+}
+
+/// One byte changed, cut, extended, or nothing but noise.
+fn noise(random: &mut Random, mut bytes: Vec<u8>) -> Vec<u8> {
+    match random.below(4) {
+        0 => bytes.truncate(random.below(bytes.len() + 1)),
+        1 => bytes.extend((0..random.within(1, 9)).map(|_| 0)),
+        2 => bytes = (0..random.below(80)).map(|_| random.byte()).collect(),
+        _ => {
+            let at = random.below(bytes.len());
+            bytes[at] = random.byte();
+        }
+    }
+    bytes
 }

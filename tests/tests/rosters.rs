@@ -1,52 +1,12 @@
 //! The proved reader and check of rosters against the second program, on made and damaged rosters.
 
 use harness::exported;
-use harness::random::Random;
 use harness::report::{bytes_of, hex, Histogram};
-use harness::rosters::{damage, passing, plant, Plan};
+use harness::rosters::{made, WHOLE_CASE};
 use second::roster as other;
 
 const CASES: u64 = 24_000;
 const LEAST: usize = 200;
-
-/// One made roster: most pass, the others have one fault, two, or none that was planned.
-fn made(seed: u64) -> Vec<u8> {
-    let mut random = Random::new(seed);
-    let mut plan = passing(&mut random);
-    match seed % 10 {
-        0..=5 => plan.bytes(),
-        6 | 7 => with_fault(&mut random, &mut plan, 11 + (seed / 10 % 10) as u8),
-        8 => {
-            plant(&mut random, &mut plan, 15 + (seed / 10 % 6) as u8);
-            with_fault(&mut random, &mut plan, 11 + (seed / 60 % 10) as u8)
-        }
-        _ => noise(&mut random, plan.bytes()),
-    }
-}
-
-fn with_fault(random: &mut Random, plan: &mut Plan, number: u8) -> Vec<u8> {
-    if number >= 16 || (number == 15 && random.once_in(2)) {
-        plant(random, plan, number);
-        return plan.bytes();
-    }
-    let mut bytes = plan.bytes();
-    damage(random, &mut bytes, number);
-    bytes
-}
-
-/// One byte changed, cut, extended, or nothing but noise.
-fn noise(random: &mut Random, mut bytes: Vec<u8>) -> Vec<u8> {
-    match random.below(4) {
-        0 => bytes.truncate(random.below(bytes.len() + 1)),
-        1 => bytes.extend((0..random.within(1, 9)).map(|_| 0)),
-        2 => bytes = (0..random.below(80)).map(|_| random.byte()).collect(),
-        _ => {
-            let at = random.below(bytes.len());
-            bytes[at] = random.byte();
-        }
-    }
-    bytes
-}
 
 fn check_of(bytes: &[u8]) -> (u8, usize, usize) {
     match other::admit(bytes) {
@@ -103,10 +63,7 @@ fn form_and_scripts_agree_with_the_second_program() {
 /// Document 01's whole case, and the variant with ceiling 19.
 #[test]
 fn the_whole_case() {
-    let bytes = bytes_of(
-        "01000000 04000000 02000000 03000500 01000000 02000000 \
-         0A0000000C00 14000C000C00 1400 5235020124001800",
-    );
+    let bytes = bytes_of(WHOLE_CASE);
     assert_eq!(bytes.len(), 46);
     assert_eq!(exported::check(&bytes), (0, 0, 0));
     let mut low = bytes.clone();

@@ -1,0 +1,55 @@
+//! Made events of a run: 8 bytes each, mostly good ones.
+
+use crate::random::Random;
+
+/// One record: mostly a Step; readings go on by little, and now and then by much or backwards.
+fn record(random: &mut Random, now: &mut u64) -> [u8; 8] {
+    let mut raw = [0; 8];
+    match random.below(20) {
+        0..=2 => {
+            *now = match random.below(12) {
+                0 => now.saturating_sub(1),
+                1 => random.word() >> 16,
+                _ => *now + random.below(9) as u64,
+            };
+            raw[0] = 1;
+            raw[2..].copy_from_slice(&now.to_le_bytes()[..6]);
+        }
+        3 | 4 => {
+            raw[0] = 2;
+            raw[1] = random.below(34) as u8;
+        }
+        5 | 6 => {
+            raw[0] = 4;
+            raw[1] = random.below(6) as u8;
+            raw[2] = random.pick(&[0, 1, 2, 5, 15, 20, 31, 32, 33, 255]);
+            raw[6] = random.once_in(20) as u8;
+        }
+        _ => raw[0] = 3,
+    }
+    raw
+}
+
+/// The events of a run; about one list in twelve is bad in one of the ways that answer 21 names.
+pub fn events_of(random: &mut Random) -> Vec<u8> {
+    let longest = random.pick(&[0, 4, 40, 40, 400, 1500, 4096]);
+    let mut now = 0;
+    let mut events = Vec::new();
+    for _ in 0..random.below(longest + 1) {
+        events.extend(record(random, &mut now));
+    }
+    if random.once_in(12) {
+        spoil(random, &mut events);
+    }
+    events
+}
+
+fn spoil(random: &mut Random, events: &mut Vec<u8>) {
+    match random.below(5) {
+        0 => events.push(random.byte()),
+        1 => events.extend([3, 1, 0, 0, 0, 0, 0, 0]),
+        2 => events.extend([1, 1, 9, 0, 0, 0, 0, 0]),
+        3 => events.extend([random.within(5, 255) as u8, 0, 0, 0, 0, 0, 0, 0]),
+        _ => events.resize(32_768 + 8 * random.within(1, 3), 3),
+    }
+}

@@ -1,0 +1,122 @@
+//! Boards through the exported functions, against the second program: filled from sound and scrambled states, and made ones asked.
+
+use harness::exported;
+use harness::layout::{bytes_of, put_rows, rows_of, state_of, ROW_SIZE, STATE_SIZE};
+use harness::random::Random;
+use harness::report::{hex, Histogram};
+use harness::states::{plant, sound_state};
+use second::board::{self, Kind, Row};
+
+const CASES: u64 = 12_000;
+const LEAST: usize = 200;
+
+fn made_state(random: &mut Random) -> Vec<u8> {
+    let mut state = sound_state(random);
+    if random.once_in(3) {
+        plant(random, &mut state);
+    }
+    let mut bytes = bytes_of(&state);
+    if random.once_in(10) {
+        bytes[random.below(STATE_SIZE)] = random.byte();
+    }
+    bytes
+}
+
+#[test]
+fn filling_agrees_with_the_second_program() {
+    let mut answers = Histogram::new();
+    for seed in 0..CASES {
+        let mut random = Random::new(seed);
+        let bytes = made_state(&mut random);
+        let state = state_of(&bytes);
+        let tasks = state.tasks.len();
+        // around the number of tasks, and now and then far from it; bytes behind the last whole row too
+        let rows = match random.below(4) {
+            0 => random.below(tasks + 1),
+            1 => random.below(40),
+            _ => tasks + random.below(3),
+        };
+        let mut found: Vec<u8> = (0..ROW_SIZE * rows + random.below(3))
+            .map(|_| random.byte())
+            .collect();
+        let mut wanted = found.clone();
+        let input = || format!("seed {seed}, {rows} rows, state {}", hex(&bytes));
+        let mut filled = rows_of(&wanted);
+        let number = board::fill(&state, &mut filled);
+        if number == 0 {
+            put_rows(&mut wanted, &filled[..tasks]);
+        }
+        let answer = exported::fill(&bytes, &mut found);
+        assert_eq!(answer, number, "answer, {}", input());
+        assert_eq!(found, wanted, "board, {}", input());
+        if answer == 0 {
+            let rows = &found[..ROW_SIZE * tasks];
+            assert_eq!(
+                exported::next(rows),
+                board::next(&filled[..tasks]),
+                "next, {}",
+                input()
+            );
+            let head = state
+                .highest_ready()
+                .and_then(|p| state.queue(p)?.front().copied());
+            assert_eq!(exported::next(rows), Ok(head), "head, {}", input());
+        }
+        answers.count(answer);
+    }
+    answers.print("boards filled by answer");
+    answers.require(&[0, 10, 13], LEAST);
+}
+
+fn made_row(random: &mut Random, priorities: usize) -> Row {
+    let kinds = [
+        Kind::Running,
+        Kind::Ready,
+        Kind::Ready,
+        Kind::Delayed,
+        Kind::Suspended,
+        Kind::Ended,
+    ];
+    Row {
+        kind: random.pick(&kinds),
+        priority: random.within(1, priorities) as u64,
+        position: random.pick(&[0, 0, 1, 2, 255]),
+    }
+}
+
+#[test]
+fn the_next_row_agrees_with_the_second_program() {
+    let mut answers = Histogram::new();
+    let (mut nobody, mut last) = (0, 0);
+    for seed in 0..CASES {
+        let mut random = Random::new(seed);
+        let count = random.pick(&[0, 1, 2, 3, 8, 31, 32, 32, 33, 40]);
+        let priorities = random.pick(&[1, 2, 32]);
+        let rows: Vec<Row> = (0..count)
+            .map(|_| made_row(&mut random, priorities))
+            .collect();
+        let mut bytes = vec![0; ROW_SIZE * count + random.below(3)];
+        put_rows(&mut bytes, &rows);
+        if count > 0 && random.once_in(4) {
+            bytes[ROW_SIZE * random.below(count) + 1] = random.pick(&[0, 33, 255]);
+        }
+        if count > 0 && random.once_in(8) {
+            bytes[ROW_SIZE * random.below(count)] = random.byte();
+        }
+        let before = bytes.clone();
+        let found = exported::next(&bytes);
+        let input = || format!("seed {seed}, board {}", hex(&bytes));
+        assert_eq!(found, board::next(&rows_of(&bytes)), "{}", input());
+        assert_eq!(bytes, before, "asking changes nothing, {}", input());
+        match found {
+            Ok(None) => nobody += 1,
+            Ok(Some(row)) => last += (row + 1 == count) as usize,
+            Err(_) => {}
+        }
+        answers.count(found.err().unwrap_or(0));
+    }
+    answers.print("boards asked by answer");
+    println!("nobody {nobody}, the last row {last}");
+    answers.require(&[0, 3, 13], LEAST);
+    assert!(nobody >= LEAST && last >= LEAST);
+}

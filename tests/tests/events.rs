@@ -1,0 +1,179 @@
+//! Single events and fresh starts through the exported functions, against the second program: the answer and every byte of the state.
+
+use std::collections::BTreeMap;
+
+use harness::exported;
+use harness::layout::{bytes_of, state_of, STATE_SIZE};
+use harness::random::Random;
+use harness::report::{hex, Histogram};
+use harness::states::{event_of, plant, sound_state};
+use second::machine;
+use second::sound::{broken, CLAUSES};
+use second::state;
+
+const CASES: u64 = 24_000;
+const LEAST: usize = 200;
+const LEAST_ALONE: usize = 20;
+/// Bytes behind the state, which nobody may touch.
+const GUARD: usize = 5;
+
+/// The bytes of a state: half of them of a sound one, the others with one planted fault or two, a changed byte, or noise.
+fn made(random: &mut Random, seed: u64) -> Vec<u8> {
+    let mut state = sound_state(random);
+    match seed % 16 {
+        0..=8 => bytes_of(&state),
+        9..=12 => {
+            plant(random, &mut state);
+            bytes_of(&state)
+        }
+        13 => {
+            plant(random, &mut state);
+            plant(random, &mut state);
+            bytes_of(&state)
+        }
+        14 => {
+            let mut bytes = bytes_of(&state);
+            let anywhere = random.below(STATE_SIZE);
+            let at = random.pick(&[8, 9, 10, anywhere]);
+            bytes[at] = random.byte();
+            bytes
+        }
+        _ => (0..STATE_SIZE).map(|_| random.byte()).collect(),
+    }
+}
+
+#[test]
+fn an_event_agrees_with_the_second_program() {
+    let mut answers = Histogram::new();
+    let mut clauses: BTreeMap<&str, usize> = BTreeMap::new();
+    let mut alone: BTreeMap<&str, usize> = BTreeMap::new();
+    let mut sound = 0;
+    for seed in 0..CASES {
+        let mut random = Random::new(seed);
+        let before = made(&mut random, seed);
+        let state = state_of(&before);
+        let event = event_of(&mut random, &state);
+        let input = || format!("seed {seed}, {event:?}, state {}", hex(&before));
+        let faults = broken(&state);
+        faults
+            .iter()
+            .for_each(|name| *clauses.entry(name).or_insert(0) += 1);
+        if let [only] = faults[..] {
+            *alone.entry(only).or_insert(0) += 1;
+        }
+        sound += faults.is_empty() as usize;
+        let unsound = if faults.is_empty() { 0 } else { 10 };
+        assert_eq!(exported::sound(&before), unsound, "sound, {}", input());
+
+        let (wanted, next) = machine::apply(state, event);
+        let mut after = before.clone();
+        after.extend([0xA5; GUARD]);
+        let answer = exported::event(&mut after, event);
+        assert_eq!(answer, wanted, "answer, {}", input());
+        assert_eq!(answer == 10, unsound == 10, "10, {}", input());
+        let kept = if answer == 0 {
+            bytes_of(&next)
+        } else {
+            before.clone()
+        };
+        assert_eq!(after[..STATE_SIZE], kept, "state, {}", input());
+        assert_eq!(after[STATE_SIZE..], [0xA5; GUARD], "guard, {}", input());
+        assert_eq!(exported::running(&after), after[8], "running, {}", input());
+        answers.count(answer);
+    }
+    answers.print("events by answer");
+    answers.require(&[0, 1, 2, 3, 4, 5, 6, 7, 8, 9, 10], LEAST);
+    println!("states by what is wrong, and by what alone is wrong ({sound} of {CASES} are sound)");
+    for clause in &CLAUSES {
+        let of = |counts: &BTreeMap<&str, usize>| counts.get(clause.name).copied().unwrap_or(0);
+        let (times, only) = (of(&clauses), of(&alone));
+        println!("  {:34} {times:5} {only:5}", clause.name);
+        assert!(times >= LEAST, "{} came {times} times", clause.name);
+        assert!(
+            only >= LEAST_ALONE,
+            "{} came {only} times alone",
+            clause.name
+        );
+    }
+    assert!(2 * sound >= CASES as usize, "{sound} sound states");
+}
+
+#[test]
+fn a_history_agrees_with_the_second_program() {
+    for seed in 0..600 {
+        let mut random = Random::new(seed);
+        let mut state = sound_state(&mut random);
+        let mut bytes = bytes_of(&state);
+        for step in 0..200 {
+            let event = event_of(&mut random, &state);
+            let (wanted, next) = machine::apply(state, event);
+            state = next;
+            let answer = exported::event(&mut bytes, event);
+            assert_eq!(
+                answer, wanted,
+                "answer, seed {seed}, event {step}, {event:?}"
+            );
+            assert_eq!(
+                bytes,
+                bytes_of(&state),
+                "state, seed {seed}, event {step}, {event:?}"
+            );
+        }
+    }
+}
+
+#[test]
+fn a_fresh_start_agrees_with_the_second_program() {
+    let mut answers = Histogram::new();
+    for seed in 0..3_000 {
+        let mut random = Random::new(seed);
+        let (most, spread) = random.pick(&[(4, 32), (32, 32), (40, 33), (3, 40)]);
+        let tasks = random.below(most + 1);
+        let objects = random.below(most / 2 + 1);
+        let mut values = |n: usize| {
+            (0..n)
+                .map(|_| random.below(spread) as u8 + 1)
+                .collect::<Vec<u8>>()
+        };
+        let (bases, ceilings) = (values(tasks), values(objects));
+        let wide = |bytes: &[u8]| bytes.iter().map(|b| *b as u64).collect::<Vec<u64>>();
+        let (wanted, state) = state::fresh(&wide(&bases), &wide(&ceilings));
+        let mut bytes = vec![0xA5; STATE_SIZE];
+        let answer = exported::fresh(&bases, &ceilings, &mut bytes);
+        assert_eq!(
+            answer, wanted,
+            "seed {seed}, bases {bases:?}, ceilings {ceilings:?}"
+        );
+        assert_eq!(
+            bytes,
+            bytes_of(&state),
+            "seed {seed}, bases {bases:?}, ceilings {ceilings:?}"
+        );
+        answers.count(answer);
+    }
+    answers.print("fresh starts by answer");
+    answers.require(&[0, 13, 15], LEAST);
+}
+
+#[test]
+fn a_state_that_is_too_short_is_refused_and_kept() {
+    for length in [0, 1, 8, 11, 16, 1088, STATE_SIZE - 1] {
+        let (_, state) = state::fresh(&[10, 20], &[20]);
+        let mut bytes = bytes_of(&state)[..length].to_vec();
+        let before = bytes.clone();
+        assert_eq!(
+            exported::event(&mut bytes, machine::Event::Work),
+            10,
+            "length {length}"
+        );
+        assert_eq!(
+            exported::fresh(&[10], &[], &mut bytes),
+            10,
+            "length {length}"
+        );
+        assert_eq!(exported::sound(&bytes), 10, "length {length}");
+        assert_eq!(exported::running(&bytes), 255, "length {length}");
+        assert_eq!(exported::fill(&bytes, &mut [0; 96]), 10, "length {length}");
+        assert_eq!(bytes, before, "length {length}");
+    }
+}

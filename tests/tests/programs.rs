@@ -1,0 +1,149 @@
+//! The compiled program against the second program's command: what both print for the same folder and standard input.
+
+use std::fs::{self, File};
+use std::path::{Path, PathBuf};
+use std::process::{Command, Stdio};
+
+use harness::events::events_of;
+use harness::random::Random;
+use harness::report::{bytes_of, save, Histogram};
+use harness::rosters::{made, passing, WHOLE_CASE};
+
+const CASES: u64 = 600;
+/// Of each refusal a few are enough: the run's own test has hundreds of each.
+const LEAST: usize = 5;
+
+fn in_repository(path: &str) -> PathBuf {
+    Path::new(env!("CARGO_MANIFEST_DIR")).join("..").join(path)
+}
+
+/// A command that the gate has built; fails with what to do where it has not.
+fn built(path: &str, how: &str) -> PathBuf {
+    let program = in_repository(path);
+    assert!(program.exists(), "{path} is not built: {how}");
+    program.canonicalize().unwrap()
+}
+
+fn proved() -> PathBuf {
+    built("target/bin/dispatcher", "rt check dispatcher")
+}
+
+fn second() -> PathBuf {
+    built(
+        "tests/second/target/release/second",
+        "cargo build --release --manifest-path tests/second/Cargo.toml",
+    )
+}
+
+/// A folder of its own for each case, removed when the test ends well.
+fn folder_for(name: &str) -> PathBuf {
+    let folder = in_repository("target/programs").join(name);
+    let _ = fs::remove_dir_all(&folder);
+    fs::create_dir_all(&folder).unwrap();
+    folder
+}
+
+fn printed(program: &Path, folder: &Path) -> (String, bool) {
+    let events = File::open(folder.join("events.bin")).unwrap();
+    let output = Command::new(program)
+        .current_dir(folder)
+        .stdin(Stdio::from(events))
+        .output()
+        .unwrap();
+    (
+        String::from_utf8(output.stdout).unwrap(),
+        output.status.success(),
+    )
+}
+
+/// The number on a line `refused N ..`, or 0.
+fn number_of(text: &str) -> u8 {
+    let mut words = text.split_whitespace();
+    match words.next() {
+        Some("refused") => words.next().unwrap().parse().unwrap(),
+        _ => 0,
+    }
+}
+
+fn roster_of(random: &mut Random, seed: u64) -> Vec<u8> {
+    match seed % 5 {
+        0 => made(10 * (seed / 5) + 6),
+        1 => made(seed),
+        _ => passing(random).bytes(),
+    }
+}
+
+#[test]
+fn the_program_agrees_with_the_second_programs_command() {
+    let (proved, second) = (proved(), second());
+    let mut answers = Histogram::new();
+    for seed in 0..CASES {
+        let mut random = Random::new(seed);
+        let roster = roster_of(&mut random, seed);
+        let events = events_of(&mut random);
+        let folder = folder_for(&format!("seed-{seed}"));
+        if !random.once_in(40) {
+            fs::write(folder.join("roster.bin"), &roster).unwrap();
+        }
+        fs::write(folder.join("events.bin"), &events).unwrap();
+        let found = printed(&proved, &folder);
+        let wanted = printed(&second, &folder);
+        assert!(
+            found == wanted,
+            "seed {seed}, {}: printed\n{}but wanted\n{}",
+            save("program", seed, &roster, &events),
+            found.0,
+            wanted.0
+        );
+        assert!(found.1, "seed {seed}: the program failed");
+        answers.count(number_of(&found.0));
+        fs::remove_dir_all(&folder).unwrap();
+    }
+    answers.print("programs by answer");
+    answers.require(&[0, 11, 12, 13, 14, 15, 16, 17, 18, 19, 20, 21], LEAST);
+}
+
+/// The line of a folder that has this in place of its roster.
+fn alone(name: &str, prepare: impl Fn(&Path), events: &[u8]) -> String {
+    let folder = folder_for(name);
+    fs::write(folder.join("events.bin"), events).unwrap();
+    prepare(&folder.join("roster.bin"));
+    let (text, ended_well) = printed(&proved(), &folder);
+    assert!(ended_well, "{name}");
+    fs::remove_dir_all(&folder).unwrap();
+    text
+}
+
+#[test]
+fn odd_files_are_refused() {
+    let whole = bytes_of(WHOLE_CASE);
+    let good = |at: &Path| fs::write(at, &whole).unwrap();
+    assert_eq!(alone("missing", |_| {}, &[]), "refused 11\n");
+    assert_eq!(
+        alone("folder", |at| fs::create_dir(at).unwrap(), &[]),
+        "refused 11\n"
+    );
+    assert_eq!(
+        alone("empty", |at| fs::write(at, []).unwrap(), &[]),
+        "refused 11\n"
+    );
+    for length in [32_769, 65_535, 65_536, 65_537, 200_000] {
+        let long = vec![0; length];
+        assert_eq!(
+            alone("long", |at| fs::write(at, &long).unwrap(), &[]),
+            "refused 11\n",
+            "{length}"
+        );
+        assert_eq!(
+            alone("long-events", good, &long),
+            "refused 21\n",
+            "{length}"
+        );
+    }
+    assert_eq!(alone("no-events", good, &[]), "passed\nend\n");
+    assert_eq!(alone("odd-events", good, &[3, 0, 0]), "refused 21\n");
+    let steps = [3, 0, 0, 0, 0, 0, 0, 0].repeat(4096);
+    let lines = alone("most-events", good, &steps);
+    assert_eq!(lines.lines().count(), 4098);
+    assert!(lines.starts_with("passed\n0 0\n") && lines.ends_with("5 -\nend\n"));
+}
