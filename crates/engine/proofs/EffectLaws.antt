@@ -24,7 +24,7 @@ use Rattle.engine.specs.declared.effects.Due.{Due as Found}
 use Rattle.engine.specs.Rows.{heldBy, Held, QueueBecame, HeldBecame, queueIn}
 use Rattle.engine.specs.Tasks.{taskIn, Tasks, TaskBecame, placed, based, waited}
 use Rattle.engine.specs.Memory.{nowCell, runningCell, tasksCell, taskCount, runnerOf, waitingIn, recordOf, modelOf, Laid, Means}
-use Rattle.engine.specs.Room.{Joins, settled, Requeues, dueOf}
+use Rattle.engine.specs.Room.{Joins, settled, Requeues, dueOf, someDue}
 use Rattle.engine.proofs.TaskLaws.{then-became}
 use Rattle.engine.proofs.MemoryLaws.{then-means, means-by, count-is, task-is, held-is, waiting-is, run-law, now-law, queue-law}
 use Rattle.engine.proofs.MemoryLaws.{task-law, place-law, base-law, waiting-law, held-law}
@@ -122,6 +122,12 @@ module _ {h ts hd cs qs : List ℕ} (d : Laid h ts hd cs qs) where
       getD-set-other h nowCell tasksCell r 0 (omega arith) ∙ sym (count-is d) in
       means-by (then-means (wakeUp r (taskCount (set h nowCell r))) x y)
       (ap (λ (n : ℕ). wakeUp r n (withNow (modelOf h ts hd cs qs) r)) count)
+
+  -- who is due does not depend on the reading in the slices
+  pub due-now : (r : ℕ) →
+      someDue (firstDue r nobody 0 (modelOf h ts hd cs qs .tasks)) ≡
+      someDue (firstDue r nobody 0 (modelOf (set h nowCell r) ts hd cs qs .tasks))
+  due-now r = sym (ap (λ (m : Model). someDue (firstDue r nobody 0 (m .tasks))) (now-law d r .same))
 
   -- one object more, one object less
   pub hold-law : {hd' : List ℕ} (t o : ℕ) → t < taskCount h → HeldBecame hd hd' t (heldBy hd t ++ (o ∷ [])) →

@@ -1,21 +1,25 @@
 -- What an event has done, and the searches and wakings of a clock reading.
 use mathlib.Core.Path.{_≡_, refl, ap, _∙_, sym}
 use mathlib.Core.Bool.{true, false}
-use mathlib.Core.List.{List}
+use mathlib.Core.List.{List, [], _∷_}
 use Prim.Native.Nat.{ℕ, zero, suc, _+_, _-_, _≤_, _<_}
 use native.Mathlib.Omega.{arith}
-use borrow.Author.Tests.{le-leb, lt-leb}
-use Rattle.rules.specs.Model.{Model}
+use borrow.Author.Tests.{le-leb, lt-leb, lt-ltb}
+use lib.Dec.{ltb}
+use lib.ListN.{length}
+use Rattle.rules.specs.Model.{Model, TaskRecord, withNow}
 use Rattle.rules.specs.Moves.{becomeReady, dispatch}
 use Rattle.rules.specs.Moved.{Moved, refused, accepted}
-use Rattle.rules.specs.Events.{permitOn, releaseFrom, nobody, task, dueAt, earlier, firstDue, wake, wakeUp}
+use Rattle.rules.specs.Events.{Due as RuleDue, permitOn, releaseFrom, nobody, task, dueAt, earlier, firstDue, wake, wakeUp}
 use Rattle.rules.specs.declared.Place.{Place}
 use Rattle.rules.specs.declared.Place.the-variants.{Running, Ready, Delayed, Suspended, Ended}
 use Rattle.rules.specs.declared.Answer.{Answer}
 use Rattle.rules.specs.declared.Answer.the-variants.{Done}
 use Rattle.rules.proofs.Choices.{clash, cond-true, cond-false}
+use Rattle.rules.proofs.Pending.{Good}
+use Rattle.rules.proofs.StillLaws.{still-now}
 use Rattle.engine.specs.declared.effects.Due.{Due}
-use Rattle.engine.specs.Room.{isSuspended, dueOf}
+use Rattle.engine.specs.Room.{isSuspended, dueOf, someDue}
 use Rattle.engine.specs.Memory.{modelOf, Laid, Means, Did}
 
 -- refused; or accepted with the Model n before the dispatch
@@ -97,3 +101,42 @@ wake-stays r (suc j) n k m e f =
 pub wake-rest : (r n k : ℕ) (m : Model) → n ≤ k → firstDue r nobody 0 (wakeUp r n m .tasks) ≡ nobody →
     wakeUp r n m ≡ wakeUp r k m
 wake-rest r n k m h e = sym (wake-stays r (k - n) n k m e (omega arith))
+
+-- once i of the tasks ks have been woken: if any, somebody was due
+abbrev pub Some : ℕ → List TaskRecord → ℕ → Type 0
+Some r ks i = 0 < i → someDue (firstDue r nobody 0 ks) ≡ true
+
+-- was anybody due? Where all tasks have been woken, and where nobody is due any more
+pub some-all : (r : ℕ) (ks : List TaskRecord) (i : ℕ) → Some r ks i → length ks ≡ i → ltb 0 i ≡ someDue (firstDue r nobody 0 ks)
+unfolding firstDue
+some-all r [] zero s e = refl
+some-all r (k ∷ ks) zero s e = absurd (omega arith)
+some-all r ks (suc i) s e = lt-ltb 0 (suc i) (omega arith) ∙ sym (s (omega arith))
+
+pub some-none : (r : ℕ) (m : Model) (i : ℕ) → Some r (m .tasks) i → firstDue r nobody 0 (wakeUp r i m .tasks) ≡ nobody →
+    ltb 0 i ≡ someDue (firstDue r nobody 0 (m .tasks))
+unfolding wakeUp
+some-none r m zero s e = sym (ap someDue e)
+some-none r m (suc i) s e = lt-ltb 0 (suc i) (omega arith) ∙ sym (s (omega arith))
+
+pub some-more : (r : ℕ) (m : Model) (i t d : ℕ) → Some r (m .tasks) i → firstDue r nobody 0 (wakeUp r i m .tasks) ≡ task t d →
+    Some r (m .tasks) (suc i)
+unfolding wakeUp
+some-more r m zero t d s e h = ap someDue e
+some-more r m (suc i) t d s e h = s (omega arith)
+
+-- nobody is due: nobody wakes
+none-wakes : (r n : ℕ) (m : Model) → someDue (firstDue r nobody 0 (m .tasks)) ≡ false → m ≡ wakeUp r n m
+unfolding wakeUp
+none-wakes r n m e = wake-rest r 0 n m (omega arith) (none-is (firstDue r nobody 0 (m .tasks)) e)
+  where
+    none-is : (x : RuleDue) → someDue x ≡ false → x ≡ nobody
+    none-is nobody f = refl
+    none-is (task t d) f = clash f
+
+-- .. and a dispatch moves nobody
+pub quiet-clock : (m : Model) (r n : ℕ) → Good false m → someDue (firstDue r nobody 0 (m .tasks)) ≡ false →
+    wakeUp r n (withNow m r) ≡ dispatch (wakeUp r n (withNow m r))
+quiet-clock m r n h e =
+    let w : withNow m r ≡ wakeUp r n (withNow m r) = none-wakes r n (withNow m r) e in
+    sym w ∙ sym (still-now m r h) ∙ ap dispatch w

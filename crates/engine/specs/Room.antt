@@ -57,6 +57,11 @@ abbrev pub dueOf : Due → RuleDue
 dueOf Nobody = nobody
 dueOf (Task t d) = task t d
 
+-- whether anybody is due
+abbrev pub someDue : RuleDue → Bool
+someDue nobody = false
+someDue (task t d) = true
+
 -- after any number of wakings, who is the next to wake can join its queue
 pub record Wakes (m : Model) (r : ℕ) : Type 0 where
   pub next : (n t d : ℕ) → firstDue r nobody 0 (wakeUp r n m .tasks) ≡ task t d → Joins (wakeUp r n m) t

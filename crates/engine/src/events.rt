@@ -164,6 +164,7 @@ pub fn release(
     Answer::Done
 }
 
+// No dispatch follows where nobody is due: the reading moves nobody then.
 pub fn clock(
     head: &mut [u64; HEAD_WIDTH],
     tasks: &mut [u64],
@@ -186,7 +187,9 @@ pub fn clock(
         return Answer::BadReading;
     }
     head[NOW_CELL] = r;
-    effects::wake_up(head, tasks, held, ceilings, queues, r);
+    if !effects::wake_up(head, tasks, held, ceilings, queues, r) {
+        return Answer::Done;
+    }
     moves::dispatch(head, tasks, held, ceilings, queues);
     Answer::Done
 }
