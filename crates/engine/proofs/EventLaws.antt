@@ -7,17 +7,18 @@ use native.Mathlib.Omega.{arith}
 use borrow.Author.Tests.{le-leb, lt-leb, lt-ltb}
 use lib.Dec.{ltb}
 use lib.ListN.{length}
-use Rattle.rules.specs.Model.{Model, TaskRecord, withNow}
+use Rattle.rules.specs.Model.{Model, TaskRecord, withNow, taskAt}
 use Rattle.rules.specs.Moves.{becomeReady, dispatch}
 use Rattle.rules.specs.Moved.{Moved, refused, accepted}
-use Rattle.rules.specs.Events.{Due as RuleDue, permitOn, releaseFrom, nobody, task, dueAt, earlier, firstDue, wake, wakeUp}
+use Rattle.rules.specs.Events.{Due as RuleDue, rest, permitOn, releaseFrom, nobody, task, dueAt, earlier, firstDue, wake, wakeUp}
 use Rattle.rules.specs.declared.Place.{Place}
 use Rattle.rules.specs.declared.Place.the-variants.{Running, Ready, Delayed, Suspended, Ended}
 use Rattle.rules.specs.declared.Answer.{Answer}
 use Rattle.rules.specs.declared.Answer.the-variants.{Done}
 use Rattle.rules.proofs.Choices.{clash, cond-true, cond-false}
+use Rattle.rules.proofs.EventLaws.{rest-permit}
 use Rattle.rules.proofs.Pending.{Good}
-use Rattle.rules.proofs.StillLaws.{still-now}
+use Rattle.rules.proofs.StillLaws.{still-now, still-permit}
 use Rattle.engine.specs.declared.effects.Due.{Due}
 use Rattle.engine.specs.Room.{isSuspended, dueOf, someDue}
 use Rattle.engine.specs.Memory.{modelOf, Laid, Means, Did}
@@ -140,3 +141,15 @@ pub quiet-clock : (m : Model) (r n : ℕ) → Good false m → someDue (firstDue
 quiet-clock m r n h e =
     let w : withNow m r ≡ wakeUp r n (withNow m r) = none-wakes r n (withNow m r) e in
     sym w ∙ sym (still-now m r h) ∙ ap dispatch w
+
+-- a Release of a task that is not suspended, and a Suspend with a permit
+pub quiet-release : (m : Model) (t : ℕ) (x : Place) → Good false m → isSuspended x ≡ false →
+    releaseFrom m t x ≡ dispatch (releaseFrom m t x)
+quiet-release m t x h e =
+    let p = release-permit m t x e in
+    p ∙ sym (still-permit m t true h) ∙ ap dispatch (sym p)
+
+pub quiet-rest : (m : Model) (t : ℕ) → Good false m → taskAt m t .permit ≡ true → rest m t ≡ dispatch (rest m t)
+quiet-rest m t h e =
+    let p = rest-permit m t e in
+    p ∙ sym (still-permit m t false h) ∙ ap dispatch (sym p)

@@ -115,6 +115,7 @@ pub fn delay(
     Answer::Done
 }
 
+// No dispatch follows where the task had a permit: it runs on.
 pub fn suspend(
     head: &mut [u64; HEAD_WIDTH],
     tasks: &mut [u64],
@@ -136,11 +137,14 @@ pub fn suspend(
     if 0 < held::depth(held, t) {
         return Answer::InsideAction;
     }
-    effects::rest(head, tasks, held, ceilings, queues, t);
+    if effects::rest(head, tasks, held, ceilings, queues, t) {
+        return Answer::Done;
+    }
     moves::dispatch(head, tasks, held, ceilings, queues);
     Answer::Done
 }
 
+// No dispatch follows where t was not suspended: a permit moves nobody.
 pub fn release(
     head: &mut [u64; HEAD_WIDTH],
     tasks: &mut [u64],
@@ -159,7 +163,9 @@ pub fn release(
     if head[TASKS_CELL] <= t {
         return Answer::NoSuchTask;
     }
-    effects::release_from(head, tasks, held, ceilings, queues, t as usize);
+    if !effects::release_from(head, tasks, held, ceilings, queues, t as usize) {
+        return Answer::Done;
+    }
     moves::dispatch(head, tasks, held, ceilings, queues);
     Answer::Done
 }

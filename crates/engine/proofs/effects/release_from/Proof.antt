@@ -47,7 +47,7 @@ returns c =
     let g = counted d (entry .pre .1 .there) in
     let place = place-is d _ g ∙ sym (at-place .place .ensures) in
     let yes = ap isSuspended place ∙ (sym (at-is-suspended .is-suspended .ensures) ∙ at-if1 .if1 .taken) in
-    means-by (at-become-ready .become-ready .ensures) (sym (release-ready _ _ _ yes))
+    (means-by (at-become-ready .become-ready .ensures) (sym (release-ready _ _ _ yes)), sym yes)
 
 set-permit-requires : tie.Need-set-permit-requires
 set-permit-requires c κs =
@@ -68,7 +68,7 @@ returns-2 c =
     let g = counted d (entry .pre .1 .there) in
     let place = place-is d _ g ∙ sym (at-place .place .ensures) in
     let no = ap isSuspended place ∙ (sym (at-is-suspended .is-suspended .ensures) ∙ at-if1 .if1 .left) in
-    means-by (permit-law d _ true g (at-set-permit .set-permit .ensures)) (sym (release-permit _ _ _ no))
+    (means-by (permit-law d _ true g (at-set-permit .set-permit .ensures)) (sym (release-permit _ _ _ no)), sym no)
 
 pub release-from-spec : {M : Type 1} → statement M
 release-from-spec =

@@ -27,7 +27,7 @@ returns c =
     let entry = at-permit .before .before .before .before .before .before in
     let d = entry .pre .0 in
     let on = permit-is d _ (entry .pre .1) ∙ (sym (at-permit .permit .ensures) ∙ at-if1 .if1 .taken) in
-    means-by (permit-law d _ false (entry .pre .1) (at-set-permit .set-permit .ensures)) (sym (rest-permit _ _ on))
+    (means-by (permit-law d _ false (entry .pre .1) (at-set-permit .set-permit .ensures)) (sym (rest-permit _ _ on)), sym on)
 
 element-write-head : tie.Need-element-write-head
 element-write-head c = search needs
@@ -46,7 +46,7 @@ returns-2 c =
     let entry = at-permit .before .before .before .before .before .before in
     let d = entry .pre .0 in
     let off = permit-is d _ (entry .pre .1) ∙ (sym (at-permit .permit .ensures) ∙ at-if1 .if1 .left) in
-    means-by (away-law d _ Suspended (entry .pre .1) (at-set-place .set-place .ensures)) (sym (rest-none _ _ off))
+    (means-by (away-law d _ Suspended (entry .pre .1) (at-set-place .set-place .ensures)) (sym (rest-none _ _ off)), sym off)
 
 pub rest-spec : {M : Type 1} → statement M
 rest-spec =
