@@ -8,7 +8,6 @@ use Prim.Native.Nat.{_≤_, _-_}
 use Rattle.rules.specs.Sound.{below}
 use Rattle.roster.proofs.TestLaws.{turn-fails, turn-on, turns-end}
 use Rattle.run.specs.Inputs.{recordGood}
-use Rattle.run.proofs.InputLaws.{record-is}
 use Rattle.run.proofs.inputs.records_good.Statement.{statement}
 use Rattle.run.proofs.inputs.records_good.Tie as tie
 
@@ -22,19 +21,15 @@ loop-holds : tie.Need-loop-holds Inv-loop μ-loop
 unfolding below
 loop-holds c = (omega arith, refl)
 
-decoded-at-requires : tie.Need-decoded-at-requires Inv-loop μ-loop
-decoded-at-requires c κs = search needs
-
-is-good-requires : tie.Need-is-good-requires Inv-loop μ-loop
-is-good-requires c κs = search needs
+record-good-requires : tie.Need-record-good-requires Inv-loop μ-loop
+record-good-requires c κs = search needs
 
 returns : tie.Need-returns Inv-loop μ-loop
 returns c =
     let c2 = c .before .before in
-    let c3 = c2 .before in
-    let c6 = c3 .before .before .before in
-    turn-fails (recordGood (c6 .args .s .now)) _ _ _ _ refl (c3 .loop-test .taken)
-    (record-is _ _ _ _ (c2 .decoded-at .ensures) (c .before .is-good .ensures)) (not-true _ (c .if1 .taken))
+    let c5 = c2 .before .before .before in
+    turn-fails (recordGood (c5 .args .s .now)) _ _ _ _ refl (c2 .loop-test .taken) (c .before .record-good .ensures)
+    (not-true _ (c .if1 .taken))
 
 add-i : tie.Need-add-i Inv-loop μ-loop
 add-i c = omega arith
@@ -44,12 +39,10 @@ loop-less c = omega arith
 
 loop-again : tie.Need-loop-again Inv-loop μ-loop
 loop-again c =
-    let c2 = c .before .before in
-    let c4 = c2 .before .before in
-    let c6 = c4 .before .before in (
+    let c3 = c .before .before .before in
+    let c5 = c3 .before .before in (
       omega arith,
-      turn-on (recordGood (c6 .args .s .now)) _ _ (c4 .loop .inv .1)
-          (record-is _ _ _ _ (c2 .decoded-at .ensures) (c .before .is-good .ensures)) (not-false _ (c .if1 .left)),
+      turn-on (recordGood (c5 .args .s .now)) _ _ (c3 .loop .inv .1) (c .before .record-good .ensures) (not-false _ (c .if1 .left)),
     )
 
 returns-2 : tie.Need-returns-2 Inv-loop μ-loop
@@ -64,8 +57,7 @@ records-good-spec =
     Inv-loop
     μ-loop
     loop-holds
-    decoded-at-requires
-    is-good-requires
+    record-good-requires
     returns
     add-i
     loop-less

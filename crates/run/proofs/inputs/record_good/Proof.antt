@@ -1,0 +1,39 @@
+-- `run::inputs::record_good` meets its contract.
+use Rattle.run.specs.Inputs.{decodedAt, recordGood}
+use borrow.Author.Needs.{needs}
+use Rattle.run.proofs.inputs.record_good.Statement.{statement}
+use Rattle.run.proofs.inputs.record_good.Tie as tie
+
+mul-at : tie.Need-mul-at
+mul-at c = search needs
+
+shared-slice-read-kind : tie.Need-shared-slice-read-kind
+shared-slice-read-kind c = search needs
+
+add-a : tie.Need-add-a
+add-a c = search needs
+
+shared-slice-read-a : tie.Need-shared-slice-read-a
+shared-slice-read-a c = search needs
+
+value-at-requires : tie.Need-value-at-requires
+value-at-requires c κs = search needs
+
+fields-good-requires : tie.Need-fields-good-requires
+fields-good-requires c κs = search needs
+
+returns : tie.Need-returns
+unfolding recordGood decodedAt
+returns c = cc
+
+pub record-good-spec : {M : Type 1} → statement M
+record-good-spec =
+    tie.close
+    (tie.spec
+    mul-at
+    shared-slice-read-kind
+    add-a
+    shared-slice-read-a
+    value-at-requires
+    fields-good-requires
+    returns)
