@@ -11,7 +11,7 @@ use lib.ListN.{length}
 use Rattle.rules.specs.Limits.{taskLimit, objectLimit}
 use Rattle.rules.specs.Priorities.{inRange}
 use Rattle.rules.specs.Sound.{below}
-use Rattle.roster.specs.Limits.{firstMark, secondMark, stepSize}
+use Rattle.roster.specs.Limits.{taskRowSize, firstMark, secondMark, stepSize}
 use Rattle.roster.specs.Format.{byteAt, trailer, taskCount, objectCount, taskTable, objectTable}
 use Rattle.roster.specs.Format.{taskRow, objectRow, baseAt, ceilingAt, startAt, lengthAt, partAt}
 use Rattle.roster.specs.Steps.{aAt, bAt, stepAt, stepCount}
@@ -226,6 +226,10 @@ module _ (s : List ℕ) where
     unfolding scriptsEnd taskRow objectRow trailer
     script-inside t h =
         omega (arith, script-starts t h, ends-rise (suc t) (taskCount s) h, scripts-close, tables-laid .0, tables-laid .1)
+
+    pub task-row-inside : (t : ℕ) → t < taskCount s → taskRow s t + taskRowSize ≤ length s
+    unfolding taskRow objectRow trailer
+    task-row-inside t h = omega (arith, tables-laid .0, tables-laid .1)
 
 -- the ways of the form: each rule is kept up to the one that is not
 module _ (s : List ℕ) where

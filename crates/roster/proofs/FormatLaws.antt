@@ -1,11 +1,13 @@
 -- Laws of the layout: a listed object's ceiling, a task's base and script, and the part that is lent.
 use mathlib.Core.Path.{_≡_, ap, _∙_}
 use mathlib.Core.List.{List, []}
-use Prim.Native.Nat.{ℕ, _+_, _-_, _≤_, _<_}
+use Prim.Native.Nat.{ℕ, _+_, _*_, _-_, _≤_, _<_}
 use native.Mathlib.Omega.{arith}
 use lib.ListN.{length, take, drop}
 use Rattle.rules.specs.Model.{ceilingOf}
-use Rattle.roster.specs.Format.{taskCount, objectCount, baseAt, startAt, lengthAt, ceilingAt, partAt}
+use Rattle.roster.specs.Limits.{taskRowSize}
+use Rattle.roster.specs.Format.{wordAt, taskCount, objectCount, taskTable, taskRow}
+use Rattle.roster.specs.Format.{baseAt, startAt, lengthAt, ceilingAt, partAt}
 use Rattle.roster.specs.Steps.{stepsOf}
 use Rattle.roster.specs.Roster.{rosterOf, baseOf, scriptOf}
 use Rattle.roster.proofs.ListLaws.{length-tabulate, tabulate-at, tabulate-past}
@@ -49,3 +51,12 @@ module _ (s : List ℕ) where
   part-between t a n e f =
       let g : a + n - a ≡ lengthAt s t = omega arith in
       ap (λ (k : ℕ). take k (drop a s)) g ∙ ap (λ (k : ℕ). take (lengthAt s t) (drop k s)) e
+
+  -- a row's numbers, by where the task table starts
+  pub start-read : (t table a : ℕ) → table ≡ taskTable s → a ≡ wordAt s (table + taskRowSize * t + 2) → a ≡ startAt s t
+  unfolding startAt taskRow
+  start-read t table a e f = f ∙ ap (λ (x : ℕ). wordAt s (x + taskRowSize * t + 2)) e
+
+  pub length-read : (t table n : ℕ) → table ≡ taskTable s → n ≡ wordAt s (table + taskRowSize * t + 4) → n ≡ lengthAt s t
+  unfolding lengthAt taskRow
+  length-read t table n e f = f ∙ ap (λ (x : ℕ). wordAt s (x + taskRowSize * t + 4)) e

@@ -9,6 +9,7 @@ use lib.ListN.{length}
 use Rattle.rules.specs.Limits.{taskLimit, objectLimit}
 use Rattle.rules.specs.Priorities.{inRange}
 use Rattle.rules.specs.Sound.{below}
+use Rattle.roster.specs.Limits.{taskRowSize}
 use Rattle.roster.specs.Answers.{passed}
 use Rattle.roster.specs.Format.{byteAt, taskRow, objectRow, taskCount, objectCount, baseAt, ceilingAt, startAt, lengthAt, partAt}
 use Rattle.roster.specs.Steps.{aAt, bAt, stepAt, stepCount, stepsOf, stepIn}
@@ -17,7 +18,7 @@ use Rattle.roster.specs.Form.{unusedZero, namesListed, standsRight, step
 use Rattle.roster.specs.declared.Verdict.the-variants.{Passed, BadLength, BadMark, BadCounts, BadLayout, BadValues, BadStep}
 use Rattle.roster.proofs.TestLaws.{truth, past, by-test, and-left, and-right, below-at, first-at}
 use Rattle.roster.proofs.StepLaws.{steps-at, steps-past}
-use Rattle.roster.proofs.FormLaws.{form-6, script-inside}
+use Rattle.roster.proofs.FormLaws.{form-6, script-inside, task-row-inside}
 
 -- every rule of the form
 pub record Formed (s : List ℕ) : Type 0 where
@@ -73,6 +74,9 @@ module _ (s : List ℕ) (ok : formOf s ≡ Passed) where
   -- 14
   pub part-inside : (t : ℕ) → t < taskCount s → startAt s t + lengthAt s t ≤ length s
   part-inside t h = script-inside s (formed s ok .layout) t h
+
+  pub row-inside : (t : ℕ) → t < taskCount s → taskRow s t + taskRowSize ≤ length s
+  row-inside t h = task-row-inside s (formed s ok .layout) t h
 
   -- 15
   pub base-good : (t : ℕ) → t < taskCount s → inRange (baseAt s t) ≡ true

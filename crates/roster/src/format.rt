@@ -3,6 +3,7 @@ ghost use mathlib.Core.Path.{_≡_};
 ghost use Prim.Native.Nat.{_+_, _≤_, _<_};
 ghost use lib.ListN.{length};
 ghost use Rattle.rules.specs.Model.{ceilingOf};
+ghost use Rattle.roster.specs.Limits.{taskRowSize};
 ghost use Rattle.roster.specs.Format.{byteAt, wordAt, trailer, taskCount, objectCount, taskTable, objectTable};
 ghost use Rattle.roster.specs.Format.{taskRow, objectRow, baseAt, startAt, lengthAt, partAt};
 ghost use Rattle.roster.specs.Roster.{rosterOf, baseOf};
@@ -150,6 +151,20 @@ pub fn script_part(s: &[u8], t: u8) -> &[u8]
 {
     let start = start_at(s, t) as usize;
     let size = length_at(s, t) as usize;
+    let end = start + size;
+    &s[start..end]
+}
+
+// The same, of a listed task of a roster whose task table starts there.
+pub fn script_in(s: &[u8], table: u16, t: u8) -> &[u8]
+    requires { ⌜ table ≡ taskTable (now s) ⌝ }
+    requires { ⌜ taskRow (now s) t + taskRowSize ≤ length (now s) ⌝ }
+    requires { ⌜ startAt (now s) t + lengthAt (now s) t ≤ length (now s) ⌝ }
+    ensures { λ r. ⌜ now r ≡ partAt (now (s .entry)) t ⌝ }
+{
+    let row = (table as u32 + Limits::TASK_ROW * (t as u32)) as usize;
+    let start = word_in(s, row + 2) as usize;
+    let size = word_in(s, row + 4) as usize;
     let end = start + size;
     &s[start..end]
 }
