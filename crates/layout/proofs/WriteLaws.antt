@@ -1,17 +1,18 @@
 -- Laws of a whole state, written part by part.
 use mathlib.Core.Path.{_≡_, ap, sym, _∙_}
 use mathlib.Core.List.{List, _++_, append-assoc, map, flatMap}
-use Prim.Native.Nat.{ℕ, _+_, _≤_, _<_}
+use Prim.Native.Nat.{ℕ, _+_, _*_, _≤_, _<_}
 use native.Mathlib.Omega.{arith}
 use borrow.Author.Tests.{lt-ltb, le-ltb}
 use lib.Dec.{ltb}
 use lib.ListN.{length, drop, length-append, length-map}
 use lib.Seq.{sets}
 use Rattle.rules.proofs.Choices.{cond-true, cond-false}
+use Rattle.rules.specs.Limits.{taskLimit, objectLimit}
 use Rattle.dispatch.specs.State.{level}
 use Rattle.dispatch.specs.Loading.{Shaped}
 use Rattle.dispatch.specs.declared.State.{State}
-use Rattle.layout.specs.Sizes.{tasksStart, ceilingsStart, heldStart, queuesStart, stateSize}
+use Rattle.layout.specs.Sizes.{taskSize, tasksStart, ceilingsStart, heldStart, queuesStart, stateSize}
 use Rattle.layout.specs.Encode.{lowBytes, headTail, headBytes, taskBytes, bytesOfState, withState}
 use Rattle.layout.proofs.PutLaws.{put-behind, sets-front, low-length, tasks-length}
 
@@ -30,10 +31,10 @@ abbrev pub upToQueues : State → List ℕ
 upToQueues s = upToHeld s ++ s .held
 
 module _ (s : State) (d : Shaped s) where
-  tasks-size : length (flatMap taskBytes (s .tasks)) ≡ 512
+  tasks-size : length (flatMap taskBytes (s .tasks)) ≡ taskLimit * taskSize
   tasks-size = tasks-length (s .tasks) ∙ omega (arith, d .tasks)
 
-  ceilings-size : length (map level (s .ceilings)) ≡ 16
+  ceilings-size : length (map level (s .ceilings)) ≡ objectLimit
   ceilings-size = length-map (s .ceilings) level ∙ d .ceilings
 
   pub front-one : length (upToCeilings s) ≡ ceilingsStart

@@ -15,7 +15,7 @@ use Rattle.rules.specs.declared.Task.{Task}
 use Rattle.engine.specs.Tasks.{dueOf, bit, blankTask}
 use Rattle.dispatch.specs.State.{level}
 use Rattle.dispatch.specs.declared.State.{State}
-use Rattle.layout.specs.Sizes.{nobodyByte, runningKind, readyKind, delayedKind, suspendedKind, endedKind, stateSize}
+use Rattle.layout.specs.Sizes.{numberSize, nobodyByte, runningKind, readyKind, delayedKind, suspendedKind, endedKind, stateSize}
 
 -- the k lowest bytes of a number, the lowest first
 unfoldable pub lowBytes : ℕ → ℕ → List ℕ
@@ -48,14 +48,14 @@ taskTail k =
     kindByte (k .place) ∷ (k .base .0 ∷ (waitsByte (k .waiting) ∷ (waitingByte (k .waiting) ∷ (bit (k .permit) ∷ (0 ∷ (0 ∷ (0 ∷ [])))))))
 
 unfoldable pub taskBytes : Task → List ℕ
-taskBytes k = lowBytes 8 (dueOf (k .place)) ++ taskTail k
+taskBytes k = lowBytes numberSize (dueOf (k .place)) ++ taskTail k
 
 -- the head
 unfoldable pub headTail : State → List ℕ
 headTail s = runningByte (s .running) ∷ (s .«task_count» ∷ (s .«object_count» ∷ (0 ∷ (0 ∷ (0 ∷ (0 ∷ (0 ∷ [])))))))
 
 unfoldable pub headBytes : State → List ℕ
-headBytes s = lowBytes 8 (s .now) ++ headTail s
+headBytes s = lowBytes numberSize (s .now) ++ headTail s
 
 -- the whole
 unfoldable pub bytesOfState : State → List ℕ

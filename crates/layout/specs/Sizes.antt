@@ -3,6 +3,10 @@ use Prim.Native.Nat.{ℕ, _+_, _*_}
 use Rattle.rules.specs.Limits.{taskLimit, objectLimit, lastPriority}
 use Rattle.engine.specs.Rows.{heldWidth, queueWidth}
 
+-- a number has eight bytes, the lowest first
+abbrev pub numberSize : ℕ
+numberSize = 8
+
 -- the head, 16 bytes: now (8), running task or 255, task count, object count, then 5 zeros that nobody reads
 abbrev pub runningAt : ℕ
 runningAt = 8

@@ -3,7 +3,7 @@ ghost use mathlib.Core.Path.{_≡_};
 ghost use Prim.Native.Nat.{_+_, _≤_, _<_};
 ghost use lib.ListN.{length};
 ghost use Rattle.dispatch.specs.State.{priority};
-ghost use Rattle.layout.specs.Sizes.{ceilingsStart, stateSize};
+ghost use Rattle.layout.specs.Sizes.{permitCell, ceilingsStart, stateSize};
 ghost use Rattle.rules.specs.Limits.{objectLimit};
 ghost use Rattle.layout.specs.Decode.{tabulate, byteAt, wordAt, numberAt, runnerOf, placeOf, waitingOf, taskFrom, tasksFrom};
 ghost use Rattle.layout.specs.Decode.{cellsFrom, stateOfBytes};
@@ -103,7 +103,7 @@ fn waiting_of(waits: u8, p: u8) -> WaitingBase
 
 // The task row that starts at i.
 fn task_from(s: &[u8], i: usize) -> Task
-    requires { ⌜ i + 12 < stateSize ⌝ }
+    requires { ⌜ i + permitCell < stateSize ⌝ }
     ensures { λ r. ⌜ r ≡ taskFrom (now (s .entry)) i ⌝ }
 {
     let due = number_at(s, i);

@@ -6,13 +6,15 @@ ghost use lib.ListN.{length};
 ghost use lib.Seq.{sets};
 ghost use Rattle.engine.specs.Tasks.{dueOf, bit};
 ghost use Rattle.dispatch.specs.State.{level};
-ghost use Rattle.layout.specs.Sizes.{tasksStart, stateSize};
+ghost use Rattle.layout.specs.Sizes.{numberSize, taskSize, tasksStart, stateSize};
 ghost use Rattle.layout.specs.Encode.{lowBytes, runningByte, kindByte, waitsByte, waitingByte, taskBytes, headBytes, withState};
 use crate::sizes::CEILINGS_START;
 use crate::sizes::DELAYED;
 use crate::sizes::ENDED;
 use crate::sizes::HELD_START;
+use crate::sizes::KIND;
 use crate::sizes::NOBODY;
+use crate::sizes::NUMBER_SIZE;
 use crate::sizes::OBJECT_LIMIT;
 use crate::sizes::QUEUES_START;
 use crate::sizes::READY;
@@ -45,12 +47,12 @@ pub fn put(out: &mut [u8], at: usize, bytes: &[u8])
 
 // A number as eight bytes, the lowest first.
 fn put_number(out: &mut [u8], at: usize, n: u64)
-    requires { ⌜ at + 8 ≤ length (now out) ⌝ }
-    ensures { λ u. ⌜ now (out .exit) ≡ sets (now (out .entry)) at (lowBytes 8 n) ⌝ }
+    requires { ⌜ at + numberSize ≤ length (now out) ⌝ }
+    ensures { λ u. ⌜ now (out .exit) ≡ sets (now (out .entry)) at (lowBytes numberSize n) ⌝ }
 {
     let mut rest = n;
     let mut i: usize = 0;
-    while i < 8 {
+    while i < NUMBER_SIZE {
         out[at + i] = (rest % 256) as u8;
         rest = rest / 256;
         i += 1;
@@ -116,7 +118,7 @@ fn bit(permit: bool) -> u8
 
 // A task row.
 fn put_task(out: &mut [u8], at: usize, task: Task)
-    requires { ⌜ at + 16 ≤ length (now out) ⌝ }
+    requires { ⌜ at + taskSize ≤ length (now out) ⌝ }
     ensures { λ u. ⌜ now (out .exit) ≡ sets (now (out .entry)) at (taskBytes task) ⌝ }
 {
     let place = task.place;
@@ -134,7 +136,7 @@ fn put_task(out: &mut [u8], at: usize, task: Task)
         0,
         0,
     ];
-    put(out, at + 8, &rest);
+    put(out, at + KIND, &rest);
 }
 
 fn put_tasks(out: &mut [u8], tasks: [Task; TASK_LIMIT])

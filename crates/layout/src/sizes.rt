@@ -9,6 +9,9 @@ pub const HELD_CELLS: usize = TASK_LIMIT * (OBJECT_LIMIT + 1);
 
 pub const QUEUE_CELLS: usize = PRIORITIES * (TASK_LIMIT + 1);
 
+// The bytes of a number.
+pub const NUMBER_SIZE: usize = 8;
+
 // The head: now, who runs, the counts.
 pub const RUNNING_AT: usize = 8;
 

@@ -34,7 +34,7 @@ returns-2 c =
     let r = n .before .before in
     let a = r .before .before .before .before .args in
     let step = n .before .stepped .ensures ∙ ap (λ (x : State). appliedOf x (a .event)) (r .read .ensures) in
-    event-refused (a .bytes .now) (a .event) _ step _ (n .number2 .ensures) (omega arith) (c .if2 .taken)
+    event-refused (a .bytes .now) (a .event) _ step _ (n .number2 .ensures) (omega arith) (λ z. c .if2 .taken (omega arith))
 
 write-requires : tie.Need-write-requires
 write-requires c κs = search needs
