@@ -35,7 +35,7 @@ unfolding rowBytes
 row-put l l' at r kind e f = f ∙ rw e
 
 -- the next of the rows is put
-row-length : (r : Row) → length (rowBytes r) ≡ rowSize
+pub row-length : (r : Row) → length (rowBytes r) ≡ rowSize
 unfolding rowBytes
 row-length r = refl
 

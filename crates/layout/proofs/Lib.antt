@@ -7,3 +7,4 @@ pub mod EventLaws
 pub mod HistoryLaws
 pub mod BoardLaws
 pub mod FilledLaws
+pub mod RowLaws
