@@ -37,8 +37,8 @@ impl State {
         }
     }
 
-    // What every event does: the state is tested, loaded into the engine's slices and stored again, unless it is refused.
-    fn applied(self, event: Event) -> Stepped
+    // Any event: the state is tested, loaded into the engine's slices and stored again, unless it is refused.
+    pub fn applied(self, event: Event) -> Stepped
         ensures { λ r. ⌜ r ≡ appliedOf self event ⌝ }
     {
         if !self.fits() {

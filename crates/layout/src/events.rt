@@ -1,6 +1,5 @@
 // A fresh start and the events, on a state in lent bytes.
 ghost use mathlib.Core.Path.{_≡_};
-ghost use Rattle.dispatch.specs.Methods.{appliedOf};
 ghost use Rattle.layout.specs.Events.{eventNumber, eventBytes, freshNumber, freshBytes, soundNumber, runningNumber};
 use crate::decode::read;
 use crate::encode::running_byte;
@@ -8,26 +7,8 @@ use crate::encode::write;
 use crate::sizes::NOBODY;
 use crate::sizes::STATE_SIZE;
 use dispatch::State;
-use dispatch::Stepped;
 use rules::Answer;
 use rules::Event;
-
-// The method for an event.
-fn stepped(state: State, event: Event) -> Stepped
-    ensures { λ r. ⌜ r ≡ appliedOf state event ⌝ }
-{
-    match event {
-        Event::Enter(o) => state.enter(o),
-        Event::Leave(o) => state.leave(o),
-        Event::Delay(d) => state.delay(d),
-        Event::Suspend => state.suspend(),
-        Event::Release(t) => state.release(t),
-        Event::Clock(r) => state.clock(r),
-        Event::Set(t, p) => state.set(t, p),
-        Event::Work => state.work(),
-        Event::Finish => state.finish(),
-    }
-}
 
 // The state goes on by an event: its bytes are written anew, unless the event is refused.
 pub fn apply(bytes: &mut [u8], event: Event) -> u8
@@ -38,7 +19,7 @@ pub fn apply(bytes: &mut [u8], event: Event) -> u8
         return Answer::Unsound.number();
     }
     let state = read(bytes);
-    let next = stepped(state, event);
+    let next = state.applied(event);
     let answer = next.answer;
     let number = answer.number();
     if number != 0 {

@@ -19,8 +19,8 @@ returns c =
 read-requires : tie.Need-read-requires
 read-requires c κs = search needs
 
-stepped-requires : tie.Need-stepped-requires
-stepped-requires c κs = search needs
+applied-requires : tie.Need-applied-requires
+applied-requires c κs = search needs
 
 number-requires-2 : tie.Need-number-requires-2
 number-requires-2 c κs = search needs
@@ -33,7 +33,7 @@ returns-2 c =
     let n = c .before in
     let r = n .before .before in
     let a = r .before .before .before .before .args in
-    let step = n .before .stepped .ensures ∙ ap (λ (x : State). appliedOf x (a .event)) (r .read .ensures) in
+    let step = n .before .applied .ensures ∙ ap (λ (x : State). appliedOf x (a .event)) (r .read .ensures) in
     event-refused (a .bytes .now) (a .event) _ step _ (n .number2 .ensures) (omega arith) (λ z. c .if2 .taken (omega arith))
 
 write-requires : tie.Need-write-requires
@@ -49,7 +49,7 @@ returns-3 c =
     let n = i .before in
     let r = n .before .before in
     let a = r .before .before .before .before .args in
-    let step = n .before .stepped .ensures ∙ ap (λ (x : State). appliedOf x (a .event)) (r .read .ensures) in
+    let step = n .before .applied .ensures ∙ ap (λ (x : State). appliedOf x (a .event)) (r .read .ensures) in
     event-done (a .bytes .now) (a .event) _ step _ (n .number2 .ensures) (omega arith) _ (omega arith) (w .write .ensures)
 
 pub apply-spec : {M : Type 1} → statement M
@@ -59,7 +59,7 @@ apply-spec =
     number-requires
     returns
     read-requires
-    stepped-requires
+    applied-requires
     number-requires-2
     same-length
     returns-2
