@@ -20,8 +20,8 @@ use Rattle.rules.specs.declared.Runner.the-variants.{Nobody, Task}
 use Rattle.rules.specs.declared.Event.the-variants as Event
 use Rattle.rules.proofs.SoundLaws.{sound-is}
 use Rattle.rules.proofs.Unchanged.{count-kept}
-use Rattle.roster.specs.Limits.{smallestRoster, largestRoster}
-use Rattle.roster.specs.Format.{taskCount, startAt, lengthAt, partAt}
+use Rattle.roster.specs.Limits.{smallestRoster, largestRoster, taskRowSize}
+use Rattle.roster.specs.Format.{taskCount, taskRow, startAt, lengthAt, partAt}
 use Rattle.roster.specs.Steps.{stepCount, stepsOf, stepIn}
 use Rattle.roster.specs.Roster.{rosterOf, scriptOf}
 use Rattle.roster.specs.Form.{lengthGood, formOf}
@@ -31,7 +31,7 @@ use Rattle.roster.specs.declared.Verdict.the-variants.{Passed}
 use Rattle.roster.proofs.TestLaws.{by-test, and-right}
 use Rattle.roster.proofs.StepLaws.{steps-past}
 use Rattle.roster.proofs.FormatLaws.{script-listed}
-use Rattle.roster.proofs.FormedLaws.{formed, part-inside, tasks-few}
+use Rattle.roster.proofs.FormedLaws.{formed, part-inside, row-inside, tasks-few}
 use Rattle.engine.specs.Memory.{runningCell, modelOf}
 use Rattle.engine.proofs.MemoryLaws.{idle, busy}
 use Rattle.run.specs.declared.Input.{Input}
@@ -122,6 +122,9 @@ module _ {s h ts hd cs qs ps : List ℕ} (g : Going s h ts hd cs qs ps) where
 
     pub script-here : startAt s t + lengthAt s t ≤ length s
     script-here = part-inside s (g .form) t runner-listed
+
+    pub row-here : taskRow s t + taskRowSize ≤ length s
+    row-here = row-inside s (g .form) t runner-listed
 
     module _ {part : List ℕ} {k : ℕ} {x : Step} (script : part ≡ partAt s t) (place : k ≡ getD ps t 0)
         (next : x ≡ stepIn (stepsOf part) k) where

@@ -2,6 +2,7 @@
 ghost use mathlib.Core.Path.{_≡_};
 ghost use Prim.Native.Nat.{_<_};
 ghost use Rattle.rules.specs.Events.{setBase};
+ghost use Rattle.roster.specs.Format.{taskTable};
 ghost use Rattle.roster.specs.Roster.{rosterOf};
 ghost use Rattle.engine.specs.Memory.{modelOf, Valid};
 ghost use Rattle.run.specs.declared.Input.the-variants.{Step as Stepped};
@@ -65,9 +66,10 @@ fn position_after(k: u16, x: Step) -> u16
     }
 }
 
-// The running task takes its next step; a refused one leaves the position.
+// The running task takes its next step; a refused one leaves the position. The roster's task table starts at `table`.
 fn step(
     roster: &[u8],
+    table: u16,
     head: &mut [u64; HEAD_WIDTH],
     tasks: &mut [u64],
     held: &mut [u8],
@@ -76,6 +78,7 @@ fn step(
     positions: &mut [u16],
 ) -> Answer
     requires { ⌜ Going (now roster) (now head) (now tasks) (now held) (now ceilings) (now queues) (now positions) ⌝ }
+    requires { ⌜ table ≡ taskTable (now roster) ⌝ }
     ensures { λ a.
         ⌜ Happened (now (roster .entry)) (now (head .exit)) (now (tasks .exit)) (now (held .exit)) (now (ceilings .entry))
         (now (queues .exit)) (now (positions .exit)) a
@@ -89,7 +92,7 @@ fn step(
         return Answer::NobodyRuns;
     }
     let t = (running - 1) as usize;
-    let part = format::script_part(roster, t as u8);
+    let part = format::script_in(roster, table, t as u8);
     let k = positions[t];
     let x = steps::step_at(part, k as usize);
     let answer = perform(head, tasks, held, ceilings, queues, x);
@@ -134,6 +137,7 @@ fn set_from(
 // One event.
 pub fn happen(
     roster: &[u8],
+    table: u16,
     head: &mut [u64; HEAD_WIDTH],
     tasks: &mut [u64],
     held: &mut [u8],
@@ -143,6 +147,7 @@ pub fn happen(
     x: Input,
 ) -> Answer
     requires { ⌜ Going (now roster) (now head) (now tasks) (now held) (now ceilings) (now queues) (now positions) ⌝ }
+    requires { ⌜ table ≡ taskTable (now roster) ⌝ }
     ensures { λ a.
         ⌜ Happened (now (roster .entry)) (now (head .exit)) (now (tasks .exit)) (now (held .exit)) (now (ceilings .entry))
         (now (queues .exit)) (now (positions .exit)) a
@@ -154,7 +159,16 @@ pub fn happen(
     match x {
         Input::Clock(r) => events::clock(head, tasks, held, ceilings, queues, r),
         Input::Release(t) => events::release(head, tasks, held, ceilings, queues, t as u64),
-        Input::Step => step(roster, head, tasks, held, ceilings, queues, positions),
+        Input::Step => step(
+            roster,
+            table,
+            head,
+            tasks,
+            held,
+            ceilings,
+            queues,
+            positions,
+        ),
         Input::Set(t, value) => set_from(head, tasks, held, ceilings, queues, t, value),
     }
 }

@@ -4,6 +4,7 @@ ghost use Prim.Native.Nat.{_*_, _≤_};
 ghost use lib.ListN.{length, getD};
 ghost use lib.Seq.{sets};
 ghost use Rattle.rules.specs.Limits.{taskLimit};
+ghost use Rattle.roster.specs.Format.{taskTable};
 ghost use Rattle.roster.specs.Roster.{rosterOf};
 ghost use Rattle.roster.specs.Check.{checkOf};
 ghost use Rattle.roster.specs.declared.Verdict.the-variants.{Passed};
@@ -28,6 +29,7 @@ use crate::sizes::TASK_CELLS;
 use crate::sizes::TASK_LIMIT;
 use crate::start::start;
 use roster::check;
+use roster::format::task_table;
 
 // The running task, or NOBODY.
 fn running_byte(head: &[u64; HEAD_WIDTH]) -> u8
@@ -41,9 +43,10 @@ fn running_byte(head: &[u64; HEAD_WIDTH]) -> u8
     (running - 1) as u8
 }
 
-// Each event in order, and its pair.
+// Each event in order, and its pair. The roster's task table starts at `table`.
 fn pass(
     roster: &[u8],
+    table: u16,
     events: &[u8],
     buffer: &mut [u8],
     head: &mut [u64; HEAD_WIDTH],
@@ -53,8 +56,9 @@ fn pass(
     queues: &mut [u8],
     positions: &mut [u16],
 )
-    requires { ⌜ Going (now roster) (now head) (now tasks) (now held) (now ceilings) (now queues) (now positions) ⌝ }
     requires { ⌜ pairSize * eventCount (now events) ≤ length (now buffer) ⌝ }
+    requires { ⌜ Going (now roster) (now head) (now tasks) (now held) (now ceilings) (now queues) (now positions) ⌝ }
+    requires { ⌜ table ≡ taskTable (now roster) ⌝ }
     ensures { λ u.
         ⌜ now (buffer .exit) ≡
         sets (now (buffer .entry)) 0
@@ -67,7 +71,17 @@ fn pass(
     let mut i: usize = 0;
     while i < n {
         let x = input_at(events, i);
-        let answer = happen(roster, head, tasks, held, ceilings, queues, positions, x);
+        let answer = happen(
+            roster,
+            table,
+            head,
+            tasks,
+            held,
+            ceilings,
+            queues,
+            positions,
+            x,
+        );
         let at = PAIR_SIZE * i;
         buffer[at] = answer.number();
         buffer[at + 1] = running_byte(head);
@@ -81,6 +95,7 @@ fn run_through(roster: &[u8], events: &[u8], buffer: &mut [u8])
     requires { ⌜ pairSize * eventCount (now events) ≤ length (now buffer) ⌝ }
     ensures { λ u. ⌜ now (buffer .exit) ≡ sets (now (buffer .entry)) 0 (pairsOf (now (roster .entry)) (now (events .entry))) ⌝ }
 {
+    let table = task_table(roster);
     let mut head = [0u64; HEAD_WIDTH];
     let mut tasks = [0u64; TASK_CELLS];
     let mut held = [0u8; HELD_CELLS];
@@ -97,6 +112,7 @@ fn run_through(roster: &[u8], events: &[u8], buffer: &mut [u8])
     );
     pass(
         roster,
+        table,
         events,
         buffer,
         &mut head,

@@ -5,7 +5,7 @@ use Rattle.engine.specs.Memory.{runningCell}
 use native.Mathlib.Omega.{arith}
 use mathlib.Core.Path.{refl}
 use Rattle.roster.proofs.FormedLaws.{tasks-few}
-use Rattle.run.proofs.StepLaws.{position-fits, idle-happened, runner-listed, runner-placed, script-here}
+use Rattle.run.proofs.StepLaws.{position-fits, idle-happened, runner-listed, runner-placed, script-here, row-here}
 use Rattle.run.proofs.StepLaws.{step-refused, step-accepted}
 use borrow.Author.Needs.{needs}
 use Rattle.run.proofs.events.step.Statement.{statement}
@@ -16,30 +16,31 @@ element-copy-out-running c = search needs
 
 returns : tie.Need-returns
 returns c =
-    idle-happened (c .before .before .before .before .before .before .before .before .pre) (c .if1 .taken)
+    idle-happened (c .before .before .before .before .before .before .before .before .pre .0) (c .if1 .taken)
 
 sub-t : tie.Need-sub-t
 sub-t c = search needs
 
-cast-script-part : tie.Need-cast-script-part
-cast-script-part c =
+cast-script-in : tie.Need-cast-script-in
+cast-script-in c =
     let c8 = c .before .before .before .before .before .before .before .before in
-    omega (arith, runner-listed (c8 .pre) _ (c .if1 .left) refl, tasks-few (c8 .args .roster .now) (c8 .pre .form))
+    omega (arith, runner-listed (c8 .pre .0) _ (c .if1 .left) refl, tasks-few (c8 .args .roster .now) (c8 .pre .0 .form))
 
-script-part-requires : tie.Need-script-part-requires
-script-part-requires c κs =
-    script-here (c .before .before .before .before .before .before .before .before .pre) _ (c .if1 .left) refl
+script-in-requires : tie.Need-script-in-requires
+script-in-requires c κs =
+    let pre = c .before .before .before .before .before .before .before .before .pre in
+    (pre .1, (row-here (pre .0) _ (c .if1 .left) refl, script-here (pre .0) _ (c .if1 .left) refl))
 
 mul-k : tie.Need-mul-k
 mul-k c =
     let c9 = c .before .before .before .before .before .before .before .before .before in
-    omega (arith, runner-placed (c9 .pre) _ (c .before .if1 .left) refl)
+    omega (arith, runner-placed (c9 .pre .0) _ (c .before .if1 .left) refl)
 
 slice-read-k : tie.Need-slice-read-k
 slice-read-k c =
     let c2 = c .before .before in
     let c10 = c2 .before .before .before .before .before .before .before .before in
-    runner-placed (c10 .pre) _ (c2 .if1 .left) refl
+    runner-placed (c10 .pre .0) _ (c2 .if1 .left) refl
 
 cast-step-at : tie.Need-cast-step-at
 cast-step-at c =
@@ -71,7 +72,7 @@ returns-2 c =
     let c15 = c13 .before .before in
     let c16 = c15 .before in
     let c24 = c16 .before .before .before .before .before .before .before .before in
-    step-refused (c24 .pre) _ (c16 .if1 .left) refl (c15 .script-part .ensures) refl (c13 .step-at .ensures) _
+    step-refused (c24 .pre .0) _ (c16 .if1 .left) refl (c15 .script-in .ensures) refl (c13 .step-at .ensures) _
     (c .before .number .ensures)
     (c .if2 .taken) (c8 .perform .ensures)
 
@@ -84,21 +85,21 @@ position-after-requires c κs =
     let a = c24 .args in
     let t = getD (a .head .now) runningCell 0 - 1 in
     let small : getD (a .positions .now) t 0 < 65536 = omega (arith, c14 .slice-known5 .given t) in
-    position-fits (a .roster .now) _ t _ _ (c24 .pre .form) (c15 .script-part .ensures) small (c13 .step-at .ensures)
+    position-fits (a .roster .now) _ t _ _ (c24 .pre .0 .form) (c15 .script-in .ensures) small (c13 .step-at .ensures)
 
 mul-positions : tie.Need-mul-positions
 mul-positions c =
     let c12 = c .before .before .before .before .before .before .before .before .before .before .before .before in
     let c17 = c12 .before .before .before .before .before in
     let c25 = c17 .before .before .before .before .before .before .before .before in
-    omega (arith, runner-placed (c25 .pre) _ (c17 .if1 .left) refl)
+    omega (arith, runner-placed (c25 .pre .0) _ (c17 .if1 .left) refl)
 
 slice-write-positions : tie.Need-slice-write-positions
 slice-write-positions c =
     let c12 = c .before .before .before .before .before .before .before .before .before .before .before .before in
     let c17 = c12 .before .before .before .before .before in
     let c25 = c17 .before .before .before .before .before .before .before .before in
-    runner-placed (c25 .pre) _ (c17 .if1 .left) refl
+    runner-placed (c25 .pre .0) _ (c17 .if1 .left) refl
 
 same-length-4 : tie.Need-same-length-4
 same-length-4 c = search needs
@@ -120,7 +121,7 @@ returns-3 c =
     let c16 = c14 .before .before in
     let c17 = c16 .before in
     let c25 = c17 .before .before .before .before .before .before .before .before in
-    step-accepted (c25 .pre) _ (c17 .if1 .left) refl (c16 .script-part .ensures) refl (c14 .step-at .ensures) _ _ (c2 .number .ensures)
+    step-accepted (c25 .pre .0) _ (c17 .if1 .left) refl (c16 .script-in .ensures) refl (c14 .step-at .ensures) _ _ (c2 .number .ensures)
     (c .before .if2 .left) (c .position-after .ensures) (c9 .perform .ensures)
 
 pub step-spec : {M : Type 1} → statement M
@@ -130,8 +131,8 @@ step-spec =
     element-copy-out-running
     returns
     sub-t
-    cast-script-part
-    script-part-requires
+    cast-script-in
+    script-in-requires
     mul-k
     slice-read-k
     cast-step-at

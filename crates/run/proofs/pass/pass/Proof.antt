@@ -15,27 +15,32 @@ use Rattle.run.proofs.pass.pass.Statement.{statement}
 use Rattle.run.proofs.pass.pass.Tie as tie
 
 abbrev Inv-loop : tie.InvT-loop
-Inv-loop roster events buffer₀ head₀ tasks₀ held₀ ceilings queues₀ positions₀ n i₀ buffer head tasks held queues positions i =
+Inv-loop roster table events buffer₀ head₀ tasks₀ held₀ ceilings queues₀ positions₀ n i₀ buffer head tasks held queues positions i =
     (i ≤ n) × (length buffer ≡ length buffer₀) × Going roster head tasks held ceilings queues positions ×
     (sets buffer₀ 0 (pairsFrom (rosterOf roster) (configOf roster head₀ tasks₀ held₀ ceilings queues₀ positions₀) (inputsOf events)) ≡
     sets buffer (pairSize * i)
     (pairsFrom (rosterOf roster) (configOf roster head tasks held ceilings queues positions) (drop i (inputsOf events))))
 
 abbrev μ-loop : tie.MeasureT-loop
-μ-loop roster events buffer₀ head₀ tasks₀ held₀ ceilings queues₀ positions₀ n i₀ buffer head tasks held queues positions i = n - i
+μ-loop roster table events buffer₀ head₀ tasks₀ held₀ ceilings queues₀ positions₀ n i₀ buffer head tasks held queues positions i = n - i
 
 loop-holds : tie.Need-loop-holds Inv-loop μ-loop
 loop-holds c =
-    (omega arith, refl, c .before .before .before .before .before .before .before .before .pre .0, refl)
+    (omega arith, refl, c .before .before .before .before .before .before .before .before .pre .1 .0, refl)
 
 input-at-requires : tie.Need-input-at-requires Inv-loop μ-loop
 input-at-requires c κs = search needs
 
 happen-requires : tie.Need-happen-requires Inv-loop μ-loop
-happen-requires c κs = c .before .before .before .before .before .before .before .loop .inv .2
+happen-requires c κs =
+    let c7 = c .before .before .before .before .before .before .before in
+    (c7 .loop .inv .2, c7 .before .before .before .before .before .before .before .before .before .pre .1 .1)
 
 mul-at : tie.Need-mul-at Inv-loop μ-loop
-mul-at c = omega arith
+mul-at c =
+    let c15 = c .before .before .before .before .before .before .before .before .before .before .before .before .before .before .before in
+    let c25 = c15 .before .before .before .before .before .before .before .before .before .before in
+    omega (arith, c25 .good .1 .1 .0 .0, c15 .loop-test .taken)
 
 number-requires : tie.Need-number-requires Inv-loop μ-loop
 number-requires c κs = search needs
@@ -52,7 +57,7 @@ add-buffer c =
     let c12 = c .before .before .before .before .before .before .before .before .before .before .before .before in
     let c18 = c12 .before .before .before .before .before .before in
     let c28 = c18 .before .before .before .before .before .before .before .before .before .before in
-    omega (arith, c28 .good .1 .0 .0, c18 .loop-test .taken)
+    omega (arith, c28 .good .1 .1 .0 .0, c18 .loop-test .taken)
 
 slice-write-buffer-2 : tie.Need-slice-write-buffer-2 Inv-loop μ-loop
 slice-write-buffer-2 c = simp length-set (omega arith)
@@ -62,7 +67,7 @@ add-i c =
     let c12 = c .before .before .before .before .before .before .before .before .before .before .before .before in
     let c18 = c12 .before .before .before .before .before .before in
     let c28 = c18 .before .before .before .before .before .before .before .before .before .before in
-    omega (arith, c28 .good .1 .0 .0, c18 .loop-test .taken)
+    omega (arith, c28 .good .1 .1 .0 .0, c18 .loop-test .taken)
 
 loop-less : tie.Need-loop-less Inv-loop μ-loop
 loop-less c = omega arith

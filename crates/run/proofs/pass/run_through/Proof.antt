@@ -8,6 +8,9 @@ use borrow.Author.Needs.{needs}
 use Rattle.run.proofs.pass.run_through.Statement.{statement}
 use Rattle.run.proofs.pass.run_through.Tie as tie
 
+task-table-requires : tie.Need-task-table-requires
+task-table-requires c κs = search needs
+
 slice-aggregate-start : tie.Need-slice-aggregate-start
 slice-aggregate-start c = search needs
 
@@ -41,8 +44,9 @@ slice-aggregate-pass-5 c = search needs
 pass-requires : tie.Need-pass-requires
 pass-requires c κs =
     let c11 = c .before .before .before .before .before .before .before .before .before .before .before in
-    let c20 = c11 .before .before .before .before .before .before .before .before .before in
-    (started _ (c20 .pre .0) (c11 .start .ensures), c20 .pre .1)
+    let c17 = c11 .before .before .before .before .before .before in
+    let c21 = c17 .before .before .before .before in
+    (c21 .pre .1, (started _ (c21 .pre .0) (c11 .start .ensures), c17 .task-table .ensures))
 
 same-length : tie.Need-same-length
 same-length c = search needs
@@ -51,15 +55,16 @@ returns : tie.Need-returns
 returns c =
     let c6 = c .before .before .before .before .before .before in
     let c18 = c6 .before .before .before .before .before .before .before .before .before .before .before .before in
-    let c27 = c18 .before .before .before .before .before .before .before .before .before in
-    let a = c27 .args in
+    let c28 = c18 .before .before .before .before .before .before .before .before .before .before in
+    let a = c28 .args in
     c6 .pass .ensures ∙
-    ap (λ (l : List ℕ). sets (a .buffer .now) 0 l) (pairs-are (a .roster .now) (c27 .pre .0) (c18 .start .ensures) (a .events .now))
+    ap (λ (l : List ℕ). sets (a .buffer .now) 0 l) (pairs-are (a .roster .now) (c28 .pre .0) (c18 .start .ensures) (a .events .now))
 
 pub run-through-spec : {M : Type 1} → statement M
 run-through-spec =
     tie.close
     (tie.spec
+    task-table-requires
     slice-aggregate-start
     slice-aggregate-start-2
     slice-aggregate-start-3
