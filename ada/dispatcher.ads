@@ -8,7 +8,7 @@ package Dispatcher is
 
    type Bytes is array (Natural range <>) of aliased Unsigned_8;
 
-   --  A state as bytes; README.md has the layout.
+   --  A state as bytes; docs/LAYOUT.md has the layout.
    State_Size : constant := 2144;
    subtype State is Bytes (0 .. State_Size - 1);
 

@@ -13,7 +13,7 @@
 extern "C" {
 #endif
 
-/* A state as bytes, little-endian; README.md has the layout. Any bytes are a state, though few are sound. */
+/* A state as bytes; docs/LAYOUT.md has the layout. Any bytes are a state, though few are sound. */
 #define DISPATCH_STATE_SIZE 2144
 /* A row of a board: place kind (0 running, 1 ready, 2 delayed, 3 suspended, 4 ended), active priority, position. */
 #define DISPATCH_ROW_SIZE 3

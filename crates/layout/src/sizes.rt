@@ -1,13 +1,8 @@
 // Where a state's bytes have each part; specs/ has the same.
-pub const TASK_LIMIT: usize = 32;
-
-pub const OBJECT_LIMIT: usize = 16;
-
-pub const PRIORITIES: usize = 32;
-
-pub const HELD_CELLS: usize = TASK_LIMIT * (OBJECT_LIMIT + 1);
-
-pub const QUEUE_CELLS: usize = PRIORITIES * (TASK_LIMIT + 1);
+use engine::sizes::HELD_CELLS;
+use engine::sizes::OBJECT_LIMIT;
+use engine::sizes::QUEUE_CELLS;
+use engine::sizes::TASK_LIMIT;
 
 // The bytes of a number.
 pub const NUMBER_SIZE: usize = 8;

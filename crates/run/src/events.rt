@@ -9,9 +9,9 @@ ghost use Rattle.run.specs.declared.Input.the-variants.{Step as Stepped}
 ghost use Rattle.run.specs.Config.{perform, positionAfter, happen};
 ghost use Rattle.run.specs.Slices.{configOf, Going, Moves, Happened};
 use crate::Input;
-use crate::sizes::HEAD_WIDTH;
-use crate::sizes::RUNNING_CELL;
 use engine::events;
+use engine::sizes::HEAD_WIDTH;
+use engine::sizes::RUNNING_CELL;
 use roster::Step;
 use roster::format;
 use roster::steps;

@@ -9,10 +9,10 @@ ghost use Rattle.roster.specs.Check.{checkOf};
 ghost use Rattle.roster.specs.declared.Verdict.the-variants.{Passed};
 ghost use Rattle.engine.specs.Memory.{Means};
 ghost use Rattle.engine.specs.Fresh.{Sized};
-use crate::sizes::HEAD_WIDTH;
-use crate::sizes::OBJECT_LIMIT;
-use crate::sizes::TASK_LIMIT;
 use engine::fresh;
+use engine::sizes::HEAD_WIDTH;
+use engine::sizes::OBJECT_LIMIT;
+use engine::sizes::TASK_LIMIT;
 use roster::format;
 
 // The bases, in the first cells.

@@ -83,6 +83,7 @@ pub fn accepted(name: &str, edits: &[Edit], case: &Case) -> (bool, String) {
         .expect("rt is installed");
     let mut text = String::from_utf8_lossy(&output.stdout).into_owned();
     text.push_str(&String::from_utf8_lossy(&output.stderr));
+    let _ = fs::remove_dir_all(&copy);
     (output.status.success(), text)
 }
 
@@ -90,9 +91,11 @@ fn root() -> PathBuf {
     Path::new(env!("CARGO_MANIFEST_DIR")).join("../..")
 }
 
-/// A repository under target/ with the definitions alone: no functions, no laws.
+/// A repository of its own with the definitions alone: no functions, no laws. Not under target/, which rt ci removes.
 fn copy_of_definitions(name: &str) -> PathBuf {
-    let copy = root().join("target/slips").join(name);
+    let copy = std::env::temp_dir()
+        .join(format!("slips-{}", std::process::id()))
+        .join(name);
     let _ = fs::remove_dir_all(&copy);
     let mut listed = String::new();
     let mut below = String::new();
