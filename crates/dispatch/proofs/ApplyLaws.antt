@@ -14,7 +14,7 @@ use Rattle.rules.specs.declared.Runner.the-variants.{Nobody, Task as Runs}
 use Rattle.rules.proofs.Kept.{delayFits}
 use Rattle.rules.proofs.SoundLaws.{sound-is}
 use Rattle.rules.proofs.Soundness.{sound-kept}
-use Rattle.engine.specs.Memory.{runningCell, runnerOf, modelOf, Valid, Did}
+use Rattle.memory.specs.Memory.{runningCell, runnerOf, modelOf, Valid, Did}
 
 -- who runs, from its code
 pub runner-none : (code : ℕ) → code ≡ 0 → Nobody ≡ runnerOf code

@@ -16,13 +16,13 @@ use Rattle.rules.specs.declared.WaitingBase.the-variants.{Nothing, Base}
 use Rattle.rules.proofs.Choices.{compare}
 use Rattle.rules.proofs.SoundLaws.{Numbers, sound-is}
 use Rattle.rules.proofs.Soundness.{ready-room, held-room-of}
-use Rattle.engine.specs.Rows.{rowFor, heldWidth, heldIn, queueWidth, queuesIn}
-use Rattle.engine.specs.Tasks.{blankTask, tasksIn}
-use Rattle.engine.specs.Memory.{nowCell, runningCell, taskCount, objectCount, runnerOf, waitingIn, recordOf, together, allRecords}
-use Rattle.engine.specs.Memory.{modelOf, Laid}
-use Rattle.engine.proofs.GridLaws.{list-count}
-use Rattle.engine.proofs.TaskLaws.{tasks-count}
-use Rattle.engine.proofs.MemoryLaws.{records-count, count-is, objects-is}
+use Rattle.memory.specs.Rows.{rowFor, heldWidth, heldIn, queueWidth, queuesIn}
+use Rattle.memory.specs.Tasks.{blankTask, tasksIn}
+use Rattle.memory.specs.Memory.{nowCell, runningCell, taskCount, objectCount, runnerOf, waitingIn, recordOf, together, allRecords}
+use Rattle.memory.specs.Memory.{modelOf, Laid}
+use Rattle.memory.proofs.GridLaws.{list-count}
+use Rattle.memory.proofs.TaskLaws.{tasks-count}
+use Rattle.memory.proofs.MemoryLaws.{records-count, count-is, objects-is}
 use Rattle.dispatch.specs.declared.State.{State}
 use Rattle.dispatch.specs.State.{level, priority, view, waitingFor, taskFor, holding, padded, encode}
 use Rattle.dispatch.proofs.ListLaws.{padded-length, padded-at, padded-back, map-padded}

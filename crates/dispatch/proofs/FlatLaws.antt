@@ -12,9 +12,9 @@ use lib.ListN.{take-append-drop, replicate-append-replicate, List·getD-eq-defau
 use lib.Seq.{take-at, drop-at, take-suc}
 use Rattle.rules.proofs.Choices.{compare}
 use Rattle.rules.proofs.SoundLaws.{below-at}
-use Rattle.engine.specs.Rows.{rows, inRow, rowFor, Tidy, lists, Lists}
-use Rattle.engine.proofs.RowLaws.{row-length, in-row, tidy-row}
-use Rattle.engine.proofs.GridLaws.{row-at, row-count, row-fits, cell-at, list-at, list-count}
+use Rattle.memory.specs.Rows.{rows, inRow, rowFor, Tidy, lists, Lists}
+use Rattle.memory.proofs.RowLaws.{row-length, in-row, tidy-row}
+use Rattle.memory.proofs.GridLaws.{row-at, row-count, row-fits, cell-at, list-at, list-count}
 use Rattle.dispatch.specs.State.{padded}
 use Rattle.dispatch.specs.Sound.{lengthsGood}
 use Rattle.dispatch.proofs.ListLaws.{map-at, map-take, padded-at}

@@ -17,7 +17,7 @@ use Rattle.rules.proofs.Choices.{and-make}
 use Rattle.rules.proofs.Soundness.{good-sound}
 use Rattle.rules.proofs.FreshLaws.{fresh-good, fresh-13, fresh-15, fresh-0}
 use Rattle.engine.specs.Fresh.{Startable}
-use Rattle.engine.specs.Memory.{Means, Valid}
+use Rattle.memory.specs.Memory.{Means, Valid}
 use Rattle.dispatch.specs.State.{encode}
 use Rattle.dispatch.specs.Methods.{beside, freshOf}
 use Rattle.dispatch.proofs.TestLaws.{and-false}

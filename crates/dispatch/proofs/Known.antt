@@ -9,7 +9,7 @@ use denote.Laws.{Is}
 use denote.Struct.Declared.{row}
 use borrow.Author.Needs.{length-unmapped}
 use Rattle.rules.specs.Limits.{taskLimit, objectLimit, lastPriority}
-use Rattle.engine.specs.Rows.{heldWidth, queueWidth}
+use Rattle.memory.specs.Rows.{heldWidth, queueWidth}
 use Rattle.rules.proofs.Task.{the-type as task-type}
 use Rattle.rules.proofs.Priority.{the-type as priority-type}
 use Rattle.dispatch.specs.declared.State.{State}

@@ -8,7 +8,7 @@ use native.Mathlib.Omega.{arith}
 use lib.ListN.{length, take, drop, getD, set, replicate, length-append, length-replicate, take-append-drop, length-take, length-drop}
 use lib.ListN.{List·getD-map, length-map, drop-of-length-le}
 use lib.Seq.{set-at, drop-cons, take-suc, take-suc-set, append-snoc, length-take-le, take-all, take-at, drop-at}
-use Rattle.engine.proofs.GridLaws.{getD-any}
+use Rattle.memory.proofs.GridLaws.{getD-any}
 use Rattle.dispatch.specs.State.{padded}
 
 module _ {A : Type 0} where

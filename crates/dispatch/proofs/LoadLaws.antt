@@ -18,10 +18,10 @@ use Rattle.rules.specs.declared.Task.{Task}
 use Rattle.rules.specs.Fresh.{countsGood}
 use Rattle.rules.proofs.Choices.{and-left, and-right}
 use Rattle.rules.proofs.SoundLaws.{below-at}
-use Rattle.engine.specs.Rows.{rows, inRow, rowFor, lists, heldWidth, heldIn, queueWidth, queuesIn}
-use Rattle.engine.specs.Tasks.{taskWidth, blankTask, taskOf, placeOf, waitingOf, taskRow, tasksIn, Neat, Tasks, TaskBecame}
-use Rattle.engine.specs.Memory.{runnerOf, together, allRecords, Means}
-use Rattle.engine.proofs.GridLaws.{part, withPart, row-fits, row-at, list-at, list-count, cell-at}
+use Rattle.memory.specs.Rows.{rows, inRow, rowFor, lists, heldWidth, heldIn, queueWidth, queuesIn}
+use Rattle.memory.specs.Tasks.{taskWidth, blankTask, taskOf, placeOf, waitingOf, taskRow, tasksIn, Neat, Tasks, TaskBecame}
+use Rattle.memory.specs.Memory.{runnerOf, together, allRecords, Means}
+use Rattle.memory.proofs.GridLaws.{part, withPart, row-fits, row-at, list-at, list-count, cell-at}
 use Rattle.dispatch.specs.declared.State.{State}
 use Rattle.dispatch.specs.State.{level, view, padded}
 use Rattle.dispatch.specs.Sound.{lengthsGood, sizesFit}

@@ -11,7 +11,7 @@ use Rattle.rules.specs.Events.{apply}
 use Rattle.rules.specs.Sound.{sound}
 use Rattle.rules.specs.declared.Event.{Event}
 use Rattle.rules.specs.declared.Answer.{Answer}
-use Rattle.engine.specs.Memory.{modelOf, Means, Valid, Did}
+use Rattle.memory.specs.Memory.{modelOf, Means, Valid, Did}
 use Rattle.dispatch.specs.declared.State.{State}
 use Rattle.dispatch.specs.declared.Stepped.{Stepped}
 use Rattle.dispatch.specs.State.{view, encode}

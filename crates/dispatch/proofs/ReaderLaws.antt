@@ -17,10 +17,10 @@ use Rattle.rules.specs.declared.Priority.{Priority}
 use Rattle.rules.specs.declared.Task.{Task}
 use Rattle.rules.proofs.Choices.{compare}
 use Rattle.rules.proofs.PriorityLaws.{in-bounds}
-use Rattle.engine.specs.Rows.{rows, inRow, lists, heldWidth, heldIn, queueWidth, queuesIn}
-use Rattle.engine.specs.Tasks.{blankTask}
-use Rattle.engine.specs.Memory.{together}
-use Rattle.engine.proofs.GridLaws.{row-at, list-at, list-count}
+use Rattle.memory.specs.Rows.{rows, inRow, lists, heldWidth, heldIn, queueWidth, queuesIn}
+use Rattle.memory.specs.Tasks.{blankTask}
+use Rattle.memory.specs.Memory.{together}
+use Rattle.memory.proofs.GridLaws.{row-at, list-at, list-count}
 use Rattle.dispatch.specs.declared.State.{State}
 use Rattle.dispatch.specs.declared.Listed.the-variants.{Number, Nothing}
 use Rattle.dispatch.specs.State.{level, priority, view, waitingFor, taskFor, holding}

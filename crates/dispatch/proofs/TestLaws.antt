@@ -11,7 +11,7 @@ use lib.ListN.{getD}
 use Rattle.rules.specs.Limits.{taskLimit, objectLimit, lastPriority}
 use Rattle.rules.specs.Fresh.{countsGood}
 use Rattle.rules.specs.Sound.{below}
-use Rattle.engine.specs.Rows.{heldWidth, queueWidth}
+use Rattle.memory.specs.Rows.{heldWidth, queueWidth}
 use Rattle.dispatch.specs.declared.State.{State}
 use Rattle.dispatch.specs.Sound.{lengthsGood, sizesFit}
 

@@ -7,8 +7,8 @@ use Rattle.rules.specs.Limits.{taskLimit, objectLimit, lastPriority}
 use Rattle.rules.specs.declared.Runner.{Runner}
 use Rattle.rules.specs.declared.Runner.the-variants.{Nobody, Task as Runs}
 use Rattle.rules.specs.declared.Task.{Task}
-use Rattle.engine.specs.Rows.{heldWidth, queueWidth}
-use Rattle.engine.specs.Tasks.{blankTask, tasksIn, Tasks}
+use Rattle.memory.specs.Rows.{heldWidth, queueWidth}
+use Rattle.memory.specs.Tasks.{blankTask, tasksIn, Tasks}
 use Rattle.dispatch.specs.declared.State.{State}
 use Rattle.dispatch.specs.State.{padded}
 

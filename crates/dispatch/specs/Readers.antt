@@ -8,7 +8,7 @@ use Rattle.rules.specs.Priorities.{inRange}
 use Rattle.rules.specs.Model.{taskAt, queue, active}
 use Rattle.rules.specs.declared.Priority.{Priority}
 use Rattle.rules.specs.declared.Task.{Task}
-use Rattle.engine.specs.Rows.{inRow}
+use Rattle.memory.specs.Rows.{inRow}
 use Rattle.dispatch.specs.declared.State.{State}
 use Rattle.dispatch.specs.declared.Listed.{Listed}
 use Rattle.dispatch.specs.declared.Listed.the-variants.{Number, Nothing}

@@ -7,7 +7,7 @@ use lib.ListN.{getD}
 use Rattle.rules.specs.Limits.{lastPriority}
 use Rattle.rules.specs.Fresh.{countsGood}
 use Rattle.rules.specs.Sound.{below, sound}
-use Rattle.engine.specs.Rows.{heldWidth, queueWidth}
+use Rattle.memory.specs.Rows.{heldWidth, queueWidth}
 use Rattle.dispatch.specs.declared.State.{State}
 use Rattle.dispatch.specs.State.{view}
 

@@ -8,9 +8,9 @@ use Rattle.rules.specs.declared.Priority.{Priority}
 use Rattle.rules.specs.declared.Task.{Task}
 use Rattle.rules.specs.declared.WaitingBase.{WaitingBase}
 use Rattle.rules.specs.declared.WaitingBase.the-variants.{Nothing, Base}
-use Rattle.engine.specs.Rows.{rowFor, heldWidth, heldIn, queueWidth, queuesIn}
-use Rattle.engine.specs.Tasks.{blankTask}
-use Rattle.engine.specs.Memory.{together}
+use Rattle.memory.specs.Rows.{rowFor, heldWidth, heldIn, queueWidth, queuesIn}
+use Rattle.memory.specs.Tasks.{blankTask}
+use Rattle.memory.specs.Memory.{together}
 use Rattle.dispatch.specs.declared.State.{State}
 
 -- "Priority values are a kind of their own": the number of one, and the one of a number

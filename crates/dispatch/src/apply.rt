@@ -1,7 +1,7 @@
 // What the engine does for an event.
 ghost use Rattle.rules.specs.Events.{apply};
-ghost use Rattle.engine.specs.Memory.{modelOf, Valid, Did};
-use engine::sizes::HEAD_WIDTH;
+ghost use Rattle.memory.specs.Memory.{modelOf, Valid, Did};
+use memory::sizes::HEAD_WIDTH;
 use rules::Answer;
 use rules::Event;
 

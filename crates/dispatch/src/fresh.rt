@@ -8,12 +8,12 @@ use crate::State;
 use crate::Stepped;
 use crate::store::store;
 use crate::test::all_in_range;
-use engine::sizes::HEAD_WIDTH;
-use engine::sizes::HELD_CELLS;
-use engine::sizes::OBJECT_LIMIT;
-use engine::sizes::QUEUE_CELLS;
-use engine::sizes::TASK_CELLS;
-use engine::sizes::TASK_LIMIT;
+use memory::sizes::HEAD_WIDTH;
+use memory::sizes::HELD_CELLS;
+use memory::sizes::OBJECT_LIMIT;
+use memory::sizes::QUEUE_CELLS;
+use memory::sizes::TASK_CELLS;
+use memory::sizes::TASK_LIMIT;
 use rules::Answer;
 
 // The fresh state of these bases and ceilings.

@@ -7,10 +7,10 @@ mod readers;
 mod store;
 mod test;
 
-use engine::sizes::HELD_CELLS;
-use engine::sizes::OBJECT_LIMIT;
-use engine::sizes::QUEUE_CELLS;
-use engine::sizes::TASK_LIMIT;
+use memory::sizes::HELD_CELLS;
+use memory::sizes::OBJECT_LIMIT;
+use memory::sizes::QUEUE_CELLS;
+use memory::sizes::TASK_LIMIT;
 use rules::Answer;
 use rules::Priority;
 use rules::Runner;

@@ -5,22 +5,22 @@ ghost use mathlib.Core.List.{_++_, map, flatMap};
 ghost use Prim.Native.Nat.{_*_, _-_, _≤_, _<_};
 ghost use lib.ListN.{length, take, getD, replicate};
 ghost use Rattle.rules.specs.Limits.{taskLimit, objectLimit};
-ghost use Rattle.engine.specs.Rows.{inRow, rowFor, lists};
-ghost use Rattle.engine.specs.Tasks.{taskWidth};
-ghost use Rattle.engine.specs.Memory.{Means};
+ghost use Rattle.memory.specs.Rows.{inRow, rowFor, lists};
+ghost use Rattle.memory.specs.Tasks.{taskWidth};
+ghost use Rattle.memory.specs.Memory.{Means};
 ghost use Rattle.dispatch.specs.State.{level, padded, view};
 ghost use Rattle.dispatch.specs.Sound.{lengthsGood, sizesFit};
 ghost use Rattle.dispatch.specs.Loading.{codeOf, TasksLoaded};
 use crate::State;
-use engine::sizes::HEAD_WIDTH;
-use engine::sizes::HELD_CELLS;
-use engine::sizes::HELD_WIDTH;
-use engine::sizes::OBJECT_LIMIT;
-use engine::sizes::PRIORITIES;
-use engine::sizes::QUEUE_CELLS;
-use engine::sizes::QUEUE_WIDTH;
-use engine::sizes::TASK_CELLS;
-use engine::sizes::TASK_LIMIT;
+use memory::sizes::HEAD_WIDTH;
+use memory::sizes::HELD_CELLS;
+use memory::sizes::HELD_WIDTH;
+use memory::sizes::OBJECT_LIMIT;
+use memory::sizes::PRIORITIES;
+use memory::sizes::QUEUE_CELLS;
+use memory::sizes::QUEUE_WIDTH;
+use memory::sizes::TASK_CELLS;
+use memory::sizes::TASK_LIMIT;
 use rules::Priority;
 use rules::Runner;
 use rules::Task;
@@ -66,7 +66,7 @@ pub fn load_tasks(tasks: [Task; TASK_LIMIT], n: usize, to: &mut [u64])
     let mut i: usize = 0;
     while i < n {
         let k = tasks[i];
-        engine::tasks::put(to, i, k);
+        memory::tasks::put(to, i, k);
         i += 1;
     }
 }

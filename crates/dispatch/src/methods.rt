@@ -25,7 +25,7 @@ impl State {
         let held = m.held;
         let ceilings = m.ceilings;
         let queues = m.queues;
-        engine::soundness::sound(&head, &tasks, &held, &ceilings, &queues)
+        soundness::sound(&head, &tasks, &held, &ceilings, &queues)
     }
 
     fn unsound(self) -> Stepped
@@ -50,7 +50,7 @@ impl State {
         let mut held = m.held;
         let ceilings = m.ceilings;
         let mut queues = m.queues;
-        if !engine::soundness::sound(&head, &tasks, &held, &ceilings, &queues) {
+        if !soundness::sound(&head, &tasks, &held, &ceilings, &queues) {
             return self.unsound();
         }
         let answer = apply(

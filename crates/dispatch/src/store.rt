@@ -3,20 +3,20 @@ ghost use mathlib.Core.Path.{_≡_};
 ghost use mathlib.Core.List.{map};
 ghost use Prim.Native.Nat.{_≤_};
 ghost use Rattle.rules.specs.Limits.{taskLimit};
-ghost use Rattle.engine.specs.Tasks.{tasksIn, Tasks};
-ghost use Rattle.engine.specs.Memory.{runnerOf, modelOf, Valid};
+ghost use Rattle.memory.specs.Tasks.{tasksIn, Tasks};
+ghost use Rattle.memory.specs.Memory.{runnerOf, modelOf, Valid};
 ghost use Rattle.dispatch.specs.State.{priority, encode};
 use crate::State;
-use engine::sizes::HEAD_WIDTH;
-use engine::sizes::HELD_CELLS;
-use engine::sizes::NOW_CELL;
-use engine::sizes::OBJECT_LIMIT;
-use engine::sizes::OBJECTS_CELL;
-use engine::sizes::QUEUE_CELLS;
-use engine::sizes::RUNNING_CELL;
-use engine::sizes::TASK_CELLS;
-use engine::sizes::TASK_LIMIT;
-use engine::sizes::TASKS_CELL;
+use memory::sizes::HEAD_WIDTH;
+use memory::sizes::HELD_CELLS;
+use memory::sizes::NOW_CELL;
+use memory::sizes::OBJECT_LIMIT;
+use memory::sizes::OBJECTS_CELL;
+use memory::sizes::QUEUE_CELLS;
+use memory::sizes::RUNNING_CELL;
+use memory::sizes::TASK_CELLS;
+use memory::sizes::TASK_LIMIT;
+use memory::sizes::TASKS_CELL;
 use rules::Priority;
 use rules::Runner;
 use rules::Task;
@@ -25,11 +25,11 @@ fn stored_tasks(tasks: &[u64]) -> [Task; TASK_LIMIT]
     requires { ⌜ Tasks (now tasks) ⌝ }
     ensures { λ r. ⌜ r ≡ tasksIn (now (tasks .entry)) ⌝ }
 {
-    let first = engine::tasks::get(tasks, 0);
+    let first = memory::tasks::get(tasks, 0);
     let mut records = [first; TASK_LIMIT];
     let mut i: usize = 0;
     while i < TASK_LIMIT {
-        let k = engine::tasks::get(tasks, i);
+        let k = memory::tasks::get(tasks, i);
         records[i] = k;
         i += 1;
     }

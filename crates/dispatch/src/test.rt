@@ -6,11 +6,11 @@ ghost use Rattle.rules.specs.Priorities.{inRange};
 ghost use Rattle.rules.specs.Fresh.{allOf};
 ghost use Rattle.dispatch.specs.Sound.{lengthsGood, sizesFit};
 use crate::State;
-use engine::sizes::HELD_WIDTH;
-use engine::sizes::OBJECT_LIMIT;
-use engine::sizes::PRIORITIES;
-use engine::sizes::QUEUE_WIDTH;
-use engine::sizes::TASK_LIMIT;
+use memory::sizes::HELD_WIDTH;
+use memory::sizes::OBJECT_LIMIT;
+use memory::sizes::PRIORITIES;
+use memory::sizes::QUEUE_WIDTH;
+use memory::sizes::TASK_LIMIT;
 use rules::Priority;
 
 // The lengths in the first n rows leave room for themselves.

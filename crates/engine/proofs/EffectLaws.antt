@@ -21,13 +21,13 @@ use Rattle.rules.specs.declared.WaitingBase.the-variants.{Nothing, Base}
 use Rattle.rules.specs.declared.Runner.the-variants.{Nobody}
 use Rattle.rules.specs.declared.Task.{Task}
 use Rattle.engine.specs.declared.effects.Due.{Due as Found}
-use Rattle.engine.specs.Rows.{heldBy, Held, QueueBecame, HeldBecame, queueIn}
-use Rattle.engine.specs.Tasks.{taskIn, Tasks, TaskBecame, placed, based, waited}
-use Rattle.engine.specs.Memory.{nowCell, runningCell, tasksCell, taskCount, runnerOf, waitingIn, recordOf, modelOf, Laid, Means}
+use Rattle.memory.specs.Rows.{heldBy, Held, QueueBecame, HeldBecame, queueIn}
+use Rattle.memory.specs.Tasks.{taskIn, Tasks, TaskBecame, placed, based, waited}
+use Rattle.memory.specs.Memory.{nowCell, runningCell, tasksCell, taskCount, runnerOf, waitingIn, recordOf, modelOf, Laid, Means}
 use Rattle.engine.specs.Room.{Joins, settled, Requeues, dueOf, someDue}
-use Rattle.engine.proofs.TaskLaws.{then-became}
-use Rattle.engine.proofs.MemoryLaws.{then-means, means-by, count-is, task-is, held-is, waiting-is, run-law, now-law, queue-law}
-use Rattle.engine.proofs.MemoryLaws.{task-law, place-law, base-law, waiting-law, held-law}
+use Rattle.memory.proofs.TaskLaws.{then-became}
+use Rattle.memory.proofs.MemoryLaws.{then-means, means-by, count-is, task-is, held-is, waiting-is, run-law, now-law, queue-law}
+use Rattle.memory.proofs.MemoryLaws.{task-law, place-law, base-law, waiting-law, held-law}
 
 -- the head's counts stay where the running task changes
 pub still-counted : (h : List ℕ) (v : ℕ) → taskCount (set h runningCell v) ≡ taskCount h

@@ -21,7 +21,7 @@ use Rattle.rules.proofs.Pending.{Good}
 use Rattle.rules.proofs.StillLaws.{still-now, still-permit}
 use Rattle.engine.specs.declared.effects.Due.{Due}
 use Rattle.engine.specs.Room.{isSuspended, dueOf, someDue}
-use Rattle.engine.specs.Memory.{modelOf, Laid, Means, Did}
+use Rattle.memory.specs.Memory.{modelOf, Laid, Means, Did}
 
 -- refused; or accepted with the Model n before the dispatch
 pub did-not : {h ts hd cs qs : List ℕ} {r : Moved} (a : Answer) → Laid h ts hd cs qs → r ≡ refused (modelOf h ts hd cs qs) a →

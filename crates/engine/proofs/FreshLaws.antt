@@ -13,15 +13,15 @@ use Rattle.rules.specs.Fresh.{newTask, newTasks, unstarted, joinFrom}
 use Rattle.rules.proofs.FreshLaws.{Joined, join-core, join-one, joined-none}
 use Rattle.rules.specs.declared.Runner.the-variants.{Nobody}
 use Rattle.rules.specs.declared.Task.{Task}
-use Rattle.engine.specs.Rows.{rows, inRow, rowFor, Tidy, lists, Lists, queueWidth, queuesIn, Queues, heldWidth, heldIn, Held}
-use Rattle.engine.specs.Tasks.{taskWidth, placeOf, waitingOf, taskOf, taskRow, blankTask, tasksIn, Neat, Tasks}
-use Rattle.engine.specs.Memory.{nowCell, runningCell, tasksCell, objectsCell, headWidth, runnerOf, waitingIn, recordOf, together}
-use Rattle.engine.specs.Memory.{taskCount, allRecords, modelOf, Laid, Means}
+use Rattle.memory.specs.Rows.{rows, inRow, rowFor, Tidy, lists, Lists, queueWidth, queuesIn, Queues, heldWidth, heldIn, Held}
+use Rattle.memory.specs.Tasks.{taskWidth, placeOf, waitingOf, taskOf, taskRow, blankTask, tasksIn, Neat, Tasks}
+use Rattle.memory.specs.Memory.{nowCell, runningCell, tasksCell, objectsCell, headWidth, runnerOf, waitingIn, recordOf, together}
+use Rattle.memory.specs.Memory.{taskCount, allRecords, modelOf, Laid, Means}
 use Rattle.engine.specs.Fresh.{newcomer, Startable, Enrolled, JoinAll}
 use Rattle.engine.specs.Room.{Dispatches}
-use Rattle.engine.proofs.RowLaws.{in-row, tidy-row}
-use Rattle.engine.proofs.TaskLaws.{task-back}
-use Rattle.engine.proofs.MemoryLaws.{then-means, means-by, count-is}
+use Rattle.memory.proofs.RowLaws.{in-row, tidy-row}
+use Rattle.memory.proofs.TaskLaws.{task-back}
+use Rattle.memory.proofs.MemoryLaws.{then-means, means-by, count-is}
 use Rattle.engine.proofs.RoomLaws.{core-joins, core-dispatches}
 
 take-same : {A : Type 0} (n m : ℕ) (x : A) → take n (replicate (n + m) x) ≡ replicate n x

@@ -1,13 +1,6 @@
-pub mod ShiftLaws
-pub mod RowLaws
-pub mod GridLaws
-pub mod TaskLaws
-pub mod MemoryLaws
 pub mod MoveLaws
 pub mod RoomLaws
 pub mod EventLaws
 pub mod EffectLaws
 pub mod ValidLaws
 pub mod FreshLaws
-pub mod TestLaws
-pub mod ClauseLaws

@@ -1,58 +1,24 @@
 -- Laws of the moves: what they may do to the slices, and what they have done.
-use mathlib.Core.Path.{_≡_, refl, ap, _∙_, sym, subst}
-use mathlib.Core.Bool.{Bool, true, false, cond}
+use mathlib.Core.Path.{_≡_, ap, _∙_, sym, subst}
 use mathlib.Core.List.{List, [], _∷_, _++_}
-use Prim.Native.Nat.{ℕ, zero, suc, _+_, _-_, _≤_, _<_, max}
-use native.Mathlib.Nat.{not-suc-le-zero}
-use native.Mathlib.Numerals.{add-one, sub-one}
+use Prim.Native.Nat.{ℕ, _+_, _-_, _≤_, _<_}
+use native.Mathlib.Numerals.{add-one}
 use native.Mathlib.Omega.{arith}
 use borrow.Author.Tests.{eq-eqb, ne-eqb, le-leb, lt-leb}
-use lib.ListN.{length, take, drop, getD, set, length-set, length-take, drop-of-length-le, List·getD-eq-default}
-use lib.Seq.{drop-cons, getD-take, getD-set-other}
+use lib.ListN.{length, drop, getD, set, length-set}
+use lib.Seq.{getD-set-other}
 use Rattle.rules.specs.Limits.{taskLimit, lastPriority}
-use Rattle.rules.specs.Model.{Model, ceilingOf, highestOf, active, taskAt, queue, withPlace, withTask, withQueue, withRunning}
+use Rattle.rules.specs.Model.{Model, active, taskAt, queue, withPlace, withTask, withRunning}
 use Rattle.rules.specs.Moves.{highestTo, highest, headOf, becomeReady, stopped, preempt, start, dispatch}
 use Rattle.rules.specs.declared.Place.the-variants.{Running, Ready}
 use Rattle.rules.specs.declared.Runner.the-variants.{Nobody, Task as Runs}
 use Rattle.rules.proofs.Levels.{highest-top, highest-full}
 use Rattle.rules.proofs.MoveLaws.{dispatch-idle, dispatch-start, dispatch-stay, dispatch-switch}
-use Rattle.engine.specs.Rows.{HasQueue, queueIn, Queues, QueueBecame, heldBy}
-use Rattle.engine.specs.Tasks.{taskIn, Tasks, TaskBecame, placed}
-use Rattle.engine.specs.Memory.{runningCell, taskCount, objectCount, runnerOf, modelOf, Laid, Means}
+use Rattle.memory.specs.Rows.{HasQueue, queueIn, Queues, QueueBecame}
+use Rattle.memory.specs.Tasks.{taskIn, Tasks, TaskBecame, placed}
+use Rattle.memory.specs.Memory.{runningCell, taskCount, runnerOf, modelOf, Laid, Means}
 use Rattle.engine.specs.Room.{Joins, Starts, Dispatches}
-use Rattle.engine.proofs.MemoryLaws.{then-means, means-by, count-is, task-is, busy, run-law, queue-law, place-law}
-
--- the highest queue, in a loop from the last priority down
-pub highest-skip : (qs : List (List ℕ)) (p : ℕ) → 0 < p → length (getD qs (p - 1) []) ≤ 0 → highestTo qs p ≡ highestTo qs (p - 1)
-unfolding highestTo
-highest-skip qs zero h e = absurd (not-suc-le-zero h)
-highest-skip qs (suc n) h e = rw (sub-one, eq-eqb (length (getD qs n [])) 0 (omega (arith, rw sub-one at e)))
-
-pub highest-hit : (qs : List (List ℕ)) (p : ℕ) → 0 < p → 0 < length (getD qs (p - 1) []) → p ≡ highestTo qs p
-unfolding highestTo
-highest-hit qs zero h e = absurd (not-suc-le-zero h)
-highest-hit qs (suc n) h e = rw (ne-eqb (length (getD qs n [])) 0 (λ z. omega (arith, z, rw sub-one at e)))
-
-pub highest-none : (qs : List (List ℕ)) (p : ℕ) → p ≤ 0 → 0 ≡ highestTo qs p
-unfolding highestTo
-highest-none qs zero h = refl
-highest-none qs (suc n) h = absurd (not-suc-le-zero h)
-
--- the highest ceiling, in a loop over a held list
-pub ceiling-none : (cs : List ℕ) (n o : ℕ) → n ≤ o → ceilingOf (take n cs) o ≡ 0
-ceiling-none cs n o h = List·getD-eq-default (take n cs) 0 {n = o} (simp length-take (omega arith))
-
-pub ceiling-at : (cs : List ℕ) (n o : ℕ) → o < n → ceilingOf (take n cs) o ≡ getD cs o 0
-ceiling-at cs n o h = getD-take n cs o 0 h
-
-pub raise-more : (cs l : List ℕ) (p a a' i : ℕ) → i < length l → a' ≡ max a (ceilingOf cs (getD l i 0)) →
-    highestOf cs p l ≡ highestOf cs a (drop i l) → highestOf cs p l ≡ highestOf cs a' (drop (i + 1) l)
-unfolding highestOf
-raise-more cs l p a a' i h e f = f ∙ rw (e, add-one, drop-cons l i 0 h)
-
-pub raise-end : (cs l : List ℕ) (p a i : ℕ) → length l ≤ i → highestOf cs p l ≡ highestOf cs a (drop i l) → a ≡ highestOf cs p l
-unfolding highestOf
-raise-end cs l p a i h f = sym (f ∙ rw (drop-of-length-le l {i = i} h))
+use Rattle.memory.proofs.MemoryLaws.{then-means, means-by, count-is, run-law, queue-law, place-law}
 
 -- the tasks' slice is good for a task that is there
 module _ {h ts hd cs qs : List ℕ} (d : Laid h ts hd cs qs) where
@@ -61,10 +27,6 @@ module _ {h ts hd cs qs : List ℕ} (d : Laid h ts hd cs qs) where
 
   pub writable : {t : ℕ} → t < length (modelOf h ts hd cs qs .tasks) → (t < taskLimit) × Tasks ts
   writable g = (omega (arith, count-is d, d .count), d .tasks)
-
-  pub active-is : (t a b n : ℕ) → t < taskCount h → n ≡ objectCount h → b ≡ taskIn ts t .base .0 →
-      a ≡ highestOf (take n cs) b (heldBy hd t) → a ≡ active (modelOf h ts hd cs qs) t
-  active-is t a b n g k e f = f ∙ rw (task-is d t g, k, e)
 
   pub open-queue : {t : ℕ} (p : ℕ) → Joins (modelOf h ts hd cs qs) t → p ≡ active (modelOf h ts hd cs qs) t →
       HasQueue p × (Queues qs × (length (queueIn qs p) < taskLimit))

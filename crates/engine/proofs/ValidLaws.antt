@@ -17,10 +17,10 @@ use Rattle.rules.proofs.Choices.{or-first, or-second}
 use Rattle.rules.proofs.Core.{Core}
 use Rattle.rules.proofs.Pending.{Good, Pending, t-in}
 use Rattle.rules.proofs.Soundness.{sound-good}
-use Rattle.engine.specs.Rows.{heldBy, Held}
-use Rattle.engine.specs.Memory.{nowCell, runningCell, taskCount, objectCount, modelOf, Laid, Means, Valid}
+use Rattle.memory.specs.Rows.{heldBy, Held}
+use Rattle.memory.specs.Memory.{nowCell, runningCell, taskCount, objectCount, modelOf, Laid, Means, Valid}
 use Rattle.engine.specs.Room.{Dispatches}
-use Rattle.engine.proofs.MemoryLaws.{count-is, objects-is, held-is, busy}
+use Rattle.memory.proofs.MemoryLaws.{count-is, objects-is, held-is, busy}
 use Rattle.engine.proofs.MoveLaws.{counted}
 use Rattle.engine.proofs.RoomLaws.{core-dispatches, enter-room}
 

@@ -11,9 +11,9 @@ use Rattle.rules.specs.Fresh.{allOf, joinFrom}
 use Rattle.rules.specs.declared.Place.the-variants.{Suspended}
 use Rattle.rules.specs.declared.WaitingBase.the-variants.{Nothing}
 use Rattle.rules.specs.declared.Task.{Task}
-use Rattle.engine.specs.Rows.{queueWidth, heldWidth}
-use Rattle.engine.specs.Tasks.{taskWidth, tasksIn, Tasks}
-use Rattle.engine.specs.Memory.{headWidth}
+use Rattle.memory.specs.Rows.{queueWidth, heldWidth}
+use Rattle.memory.specs.Tasks.{taskWidth, tasksIn, Tasks}
+use Rattle.memory.specs.Memory.{headWidth}
 use Rattle.engine.specs.Room.{Joins}
 
 -- the sizes of the slices, whatever they hold

@@ -12,7 +12,7 @@ use Rattle.rules.specs.declared.Place.the-variants.{Running, Ready, Delayed, Su
 use Rattle.rules.specs.declared.Runner.the-variants.{Task as Runs}
 use Rattle.engine.specs.declared.effects.Due.{Due}
 use Rattle.engine.specs.declared.effects.Due.the-variants.{Nobody, Task}
-use Rattle.engine.specs.Rows.{HasQueue}
+use Rattle.memory.specs.Rows.{HasQueue}
 
 -- the task t can join the queue for its active priority
 pub record Joins (m : Model) (t : ℕ) : Type 0 where

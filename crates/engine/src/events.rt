@@ -1,16 +1,17 @@
 // The nine events, as in specs/Events.antt of crate rules. Each may assume that the slices are laid out and mean a sound Model.
 ghost use Rattle.rules.specs.Events.{enter, leave, delay, suspend, release, clock, setBase, work, finish};
-ghost use Rattle.engine.specs.Memory.{modelOf, Valid, Did};
+ghost use Rattle.memory.specs.Memory.{modelOf, Valid, Did};
 use crate::effects;
-use crate::held;
 use crate::moves;
-use crate::sizes::HEAD_WIDTH;
-use crate::sizes::LAST_READING;
-use crate::sizes::NOW_CELL;
-use crate::sizes::OBJECTS_CELL;
-use crate::sizes::RUNNING_CELL;
-use crate::sizes::TASKS_CELL;
-use crate::tasks;
+use memory::held;
+use memory::priorities;
+use memory::sizes::HEAD_WIDTH;
+use memory::sizes::LAST_READING;
+use memory::sizes::NOW_CELL;
+use memory::sizes::OBJECTS_CELL;
+use memory::sizes::RUNNING_CELL;
+use memory::sizes::TASKS_CELL;
+use memory::tasks;
 use rules::Answer;
 use rules::Place;
 use rules::Priority;
@@ -43,7 +44,7 @@ pub fn enter(
     if held::holds(held, t, object) {
         return Answer::InsideAction;
     }
-    let a = moves::active(head, tasks, held, ceilings, queues, t);
+    let a = priorities::active(head, tasks, held, ceilings, queues, t);
     if ceilings[o as usize] < a.0 {
         return Answer::AboveCeiling;
     }

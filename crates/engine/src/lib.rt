@@ -1,11 +1,5 @@
-// Internal: pub only for our own crates. The rules of crate rules, in place on a few lent slices of numbers.
+// Internal: pub only for our own crates. The rules of crate rules, in place on the slices of crate memory.
 mod effects;
 pub mod events;
 pub mod fresh;
-mod held;
 mod moves;
-mod queues;
-mod rows;
-pub mod sizes;
-pub mod soundness;
-pub mod tasks;

@@ -17,8 +17,8 @@ use Rattle.rules.specs.declared.WaitingBase.the-variants.{Nothing, Base}
 use Rattle.rules.specs.declared.Runner.{Runner}
 use Rattle.rules.specs.declared.Runner.the-variants.{Nobody, Task as Runs}
 use Rattle.rules.specs.declared.Task.{Task}
-use Rattle.engine.specs.Rows.{heldWidth, queueWidth}
-use Rattle.engine.specs.Tasks.{dueOf, bit, blankTask}
+use Rattle.memory.specs.Rows.{heldWidth, queueWidth}
+use Rattle.memory.specs.Tasks.{dueOf, bit, blankTask}
 use Rattle.dispatch.specs.State.{level, priority}
 use Rattle.dispatch.specs.Loading.{Shaped}
 use Rattle.dispatch.specs.declared.State.{State}

@@ -22,8 +22,8 @@ use Rattle.rules.proofs.Kept.{delayFits}
 use Rattle.rules.proofs.SoundLaws.{Numbers, sound-is}
 use Rattle.rules.proofs.Soundness.{sound-kept, ready-room, held-room-of}
 use Rattle.rules.proofs.FreshLaws.{fresh-sound}
-use Rattle.engine.specs.Rows.{heldWidth, queueWidth}
-use Rattle.engine.specs.Tasks.{dueOf, blankTask}
+use Rattle.memory.specs.Rows.{heldWidth, queueWidth}
+use Rattle.memory.specs.Tasks.{dueOf, blankTask}
 use Rattle.dispatch.specs.State.{priority, view, waitingFor, taskFor, holding, padded, encode}
 use Rattle.dispatch.specs.Sound.{sizesFit, soundOf}
 use Rattle.dispatch.specs.Loading.{Shaped}

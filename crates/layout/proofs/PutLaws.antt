@@ -8,7 +8,7 @@ use lib.ListN.{length, getD, set, drop, drop-of-length-le, length-append}
 use lib.Seq.{sets, sets-eq, drop-cons}
 use Rattle.rules.specs.declared.Task.{Task}
 use Rattle.layout.specs.Sizes.{taskSize, tasksStart}
-use Rattle.engine.specs.Tasks.{dueOf, bit}
+use Rattle.memory.specs.Tasks.{dueOf, bit}
 use Rattle.dispatch.specs.declared.State.{State}
 use Rattle.layout.specs.Encode.{lowBytes, runningByte, kindByte, waitsByte, waitingByte, taskTail, taskBytes, headTail, headBytes}
 

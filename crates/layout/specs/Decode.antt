@@ -12,7 +12,7 @@ use Rattle.rules.specs.declared.WaitingBase.the-variants.{Nothing, Base}
 use Rattle.rules.specs.declared.Runner.{Runner}
 use Rattle.rules.specs.declared.Runner.the-variants.{Nobody, Task as Runs}
 use Rattle.rules.specs.declared.Task.{Task}
-use Rattle.engine.specs.Rows.{heldWidth, queueWidth}
+use Rattle.memory.specs.Rows.{heldWidth, queueWidth}
 use Rattle.dispatch.specs.State.{priority}
 use Rattle.dispatch.specs.declared.State.{State}
 use Rattle.layout.specs.Sizes.{runningAt, taskCountAt, objectCountAt, nobodyByte, taskSize}

@@ -12,7 +12,7 @@ use Rattle.rules.specs.declared.WaitingBase.the-variants.{Nothing, Base}
 use Rattle.rules.specs.declared.Runner.{Runner}
 use Rattle.rules.specs.declared.Runner.the-variants.{Nobody, Task as Runs}
 use Rattle.rules.specs.declared.Task.{Task}
-use Rattle.engine.specs.Tasks.{dueOf, bit, blankTask}
+use Rattle.memory.specs.Tasks.{dueOf, bit, blankTask}
 use Rattle.dispatch.specs.State.{level}
 use Rattle.dispatch.specs.declared.State.{State}
 use Rattle.layout.specs.Sizes.{numberSize, nobodyByte, runningKind, readyKind, delayedKind, suspendedKind, endedKind, stateSize}

@@ -1,7 +1,7 @@
 -- Where a state's bytes have each part: a head, the task rows, the ceilings, the held lists, the ready queues.
 use Prim.Native.Nat.{ℕ, _+_, _*_}
 use Rattle.rules.specs.Limits.{taskLimit, objectLimit, lastPriority}
-use Rattle.engine.specs.Rows.{heldWidth, queueWidth}
+use Rattle.memory.specs.Rows.{heldWidth, queueWidth}
 
 -- a number has eight bytes, the lowest first
 abbrev pub numberSize : ℕ

@@ -1,8 +1,8 @@
 // Where a state's bytes have each part; specs/ has the same.
-use engine::sizes::HELD_CELLS;
-use engine::sizes::OBJECT_LIMIT;
-use engine::sizes::QUEUE_CELLS;
-use engine::sizes::TASK_LIMIT;
+use memory::sizes::HELD_CELLS;
+use memory::sizes::OBJECT_LIMIT;
+use memory::sizes::QUEUE_CELLS;
+use memory::sizes::TASK_LIMIT;
 
 // The bytes of a number.
 pub const NUMBER_SIZE: usize = 8;

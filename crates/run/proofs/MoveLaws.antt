@@ -20,7 +20,7 @@ use Rattle.rules.proofs.Soundness.{sound-kept}
 use Rattle.roster.specs.declared.Step.{Step}
 use Rattle.roster.specs.declared.Step.the-variants.{Again}
 use Rattle.roster.proofs.TestLaws.{good-in, bad-out}
-use Rattle.engine.specs.Memory.{modelOf, Valid, Did}
+use Rattle.memory.specs.Memory.{modelOf, Valid, Did}
 use Rattle.run.specs.Config.{perform}
 use Rattle.run.specs.Slices.{Moves}
 

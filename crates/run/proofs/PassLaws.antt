@@ -17,7 +17,7 @@ use Rattle.roster.specs.Steps.{tabulate}
 use Rattle.roster.proofs.HeldLaws.{split}
 use Rattle.roster.proofs.ListLaws.{length-tabulate, tabulate-at}
 use Rattle.roster.proofs.FormedLaws.{tasks-few}
-use Rattle.engine.specs.Memory.{runningCell, runnerOf}
+use Rattle.memory.specs.Memory.{runningCell, runnerOf}
 use Rattle.run.specs.declared.Input.{Input}
 use Rattle.run.specs.declared.Input.the-variants.{Step}
 use Rattle.run.specs.Limits.{pairSize, nobodyByte}

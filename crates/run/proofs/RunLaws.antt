@@ -25,9 +25,9 @@ use Rattle.roster.proofs.ListLaws.{length-tabulate}
 use Rattle.roster.proofs.FormatLaws.{base-count}
 use Rattle.roster.proofs.FormedLaws.{tasks-few}
 use Rattle.roster.proofs.PassedLaws.{passes-form, passes-tasks, passes-objects, passes-bases, passes-ceilings}
-use Rattle.engine.specs.Memory.{modelOf, Means}
+use Rattle.memory.specs.Memory.{modelOf, Means}
 use Rattle.engine.specs.Fresh.{Startable}
-use Rattle.engine.proofs.MemoryLaws.{means-by}
+use Rattle.memory.proofs.MemoryLaws.{means-by}
 use Rattle.run.specs.declared.Input.{Input}
 use Rattle.run.specs.declared.RunAnswer.{RunAnswer}
 use Rattle.run.specs.declared.RunAnswer.the-variants.{Done, BadRoster, BadEvents, ShortBuffer}

@@ -32,8 +32,8 @@ use Rattle.roster.proofs.TestLaws.{by-test, and-right}
 use Rattle.roster.proofs.StepLaws.{steps-past}
 use Rattle.roster.proofs.FormatLaws.{script-listed}
 use Rattle.roster.proofs.FormedLaws.{formed, part-inside, row-inside, tasks-few}
-use Rattle.engine.specs.Memory.{runningCell, modelOf}
-use Rattle.engine.proofs.MemoryLaws.{idle, busy}
+use Rattle.memory.specs.Memory.{runningCell, modelOf}
+use Rattle.memory.proofs.MemoryLaws.{idle, busy}
 use Rattle.run.specs.declared.Input.{Input}
 use Rattle.run.specs.declared.Input.the-variants.{Step as Stepped}
 use Rattle.run.specs.Config.{Config, Outcome, perform, positionAfter, isDone}

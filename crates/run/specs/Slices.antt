@@ -9,7 +9,7 @@ use Rattle.rules.specs.declared.Answer.{Answer}
 use Rattle.roster.specs.Format.{taskCount}
 use Rattle.roster.specs.Form.{formOf}
 use Rattle.roster.specs.declared.Verdict.the-variants.{Passed}
-use Rattle.engine.specs.Memory.{modelOf, Valid}
+use Rattle.memory.specs.Memory.{modelOf, Valid}
 use Rattle.run.specs.Config.{Config, Outcome}
 
 -- behind the last task's position there may be anything

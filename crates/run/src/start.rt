@@ -7,12 +7,12 @@ ghost use Rattle.roster.specs.Format.{taskCount, objectCount};
 ghost use Rattle.roster.specs.Roster.{rosterOf};
 ghost use Rattle.roster.specs.Check.{checkOf};
 ghost use Rattle.roster.specs.declared.Verdict.the-variants.{Passed};
-ghost use Rattle.engine.specs.Memory.{Means};
+ghost use Rattle.memory.specs.Memory.{Means};
 ghost use Rattle.engine.specs.Fresh.{Sized};
 use engine::fresh;
-use engine::sizes::HEAD_WIDTH;
-use engine::sizes::OBJECT_LIMIT;
-use engine::sizes::TASK_LIMIT;
+use memory::sizes::HEAD_WIDTH;
+use memory::sizes::OBJECT_LIMIT;
+use memory::sizes::TASK_LIMIT;
 use roster::format;
 
 // The bases, in the first cells.

@@ -26,8 +26,8 @@ use Rattle.rules.proofs.Refusals.{table, appliesAt, exactly-when, refused-same}
 use Rattle.roster.specs.Roster.{Roster, rosterOf}
 use Rattle.roster.specs.declared.Step.{Step}
 use Rattle.roster.specs.declared.Step.the-variants.{Enter, Leave, Delay, Work, Suspend, Release, Set, Again, Finish}
-use Rattle.engine.specs.Rows.{rowFor, heldWidth, queueWidth, Lists}
-use Rattle.engine.proofs.GridLaws.{list-room, count-at}
+use Rattle.memory.specs.Rows.{rowFor, heldWidth, queueWidth, Lists}
+use Rattle.memory.proofs.GridLaws.{list-room, count-at}
 use Rattle.run.specs.Config.{Config, Outcome, startOf, perform, positionOf, nextStep, advance, outside, stepBy, happen}
 use Rattle.dispatch.specs.declared.Stepped.{Stepped}
 use Rattle.dispatch.specs.State.{view, holding, padded, encode}

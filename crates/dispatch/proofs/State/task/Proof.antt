@@ -4,8 +4,8 @@ use Prim.Native.Nat.{_<_}
 use native.Mathlib.Omega.{arith}
 use borrow.Author.Needs.{needs}
 use Rattle.rules.specs.Limits.{taskLimit}
-use Rattle.engine.specs.Tasks.{blankTask}
-use Rattle.engine.proofs.GridLaws.{getD-any}
+use Rattle.memory.specs.Tasks.{blankTask}
+use Rattle.memory.proofs.GridLaws.{getD-any}
 use Rattle.dispatch.proofs.Known.{known}
 use Rattle.dispatch.proofs.ReaderLaws.{in-view, past-view, there, task-is, task-none}
 use Rattle.dispatch.proofs.State.task.Statement.{statement}

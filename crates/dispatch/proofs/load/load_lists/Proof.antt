@@ -5,7 +5,7 @@ use native.Mathlib.Omega.{arith}
 use native.Mathlib.Nat.{zero-mul}
 use borrow.Author.Needs.{needs}
 use lib.ListN.{length}
-use Rattle.engine.proofs.GridLaws.{row-fits}
+use Rattle.memory.proofs.GridLaws.{row-fits}
 use Rattle.dispatch.proofs.LoadLaws.{listsOver, lists-none, from-room, to-zeros, lists-more}
 use Rattle.dispatch.proofs.load.load_lists.Statement.{statement}
 use Rattle.dispatch.proofs.load.load_lists.Tie as tie

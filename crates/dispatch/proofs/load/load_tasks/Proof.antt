@@ -5,8 +5,8 @@ use native.Mathlib.Omega.{arith}
 use borrow.Author.Needs.{needs}
 use lib.ListN.{length, replicate}
 use Rattle.rules.specs.Limits.{taskLimit}
-use Rattle.engine.specs.Tasks.{blankTask, tasksIn, Tasks}
-use Rattle.engine.proofs.GridLaws.{getD-any}
+use Rattle.memory.specs.Tasks.{blankTask, tasksIn, Tasks}
+use Rattle.memory.proofs.GridLaws.{getD-any}
 use Rattle.dispatch.proofs.ListLaws.{over, over-blank}
 use Rattle.dispatch.proofs.LoadLaws.{zero-tasks, zero-good, task-more}
 use Rattle.dispatch.proofs.load.load_tasks.Statement.{statement}

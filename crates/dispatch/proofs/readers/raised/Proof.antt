@@ -7,8 +7,8 @@ use borrow.Author.Needs.{needs}
 use lib.ListN.{length, take, drop}
 use Rattle.rules.specs.Limits.{objectLimit}
 use Rattle.rules.specs.Model.{highestOf}
-use Rattle.engine.specs.Rows.{heldWidth}
-use Rattle.engine.proofs.MoveLaws.{raise-more, raise-end}
+use Rattle.memory.specs.Rows.{heldWidth}
+use Rattle.memory.proofs.PriorityLaws.{raise-more, raise-end}
 use Rattle.dispatch.specs.State.{level}
 use Rattle.dispatch.specs.Readers.{listAt}
 use Rattle.dispatch.proofs.ReaderLaws.{list-room, list-entry}

@@ -5,8 +5,8 @@ use native.Mathlib.Omega.{arith}
 use borrow.Author.Needs.{needs}
 use lib.ListN.{length, take, length-set}
 use Rattle.rules.specs.Limits.{taskLimit}
-use Rattle.engine.specs.Tasks.{blankTask, tasksIn}
-use Rattle.engine.proofs.TaskLaws.{tasks-count}
+use Rattle.memory.specs.Tasks.{blankTask, tasksIn}
+use Rattle.memory.proofs.TaskLaws.{tasks-count}
 use Rattle.dispatch.proofs.ListLaws.{fill-more, fill-end}
 use Rattle.dispatch.proofs.store.stored_tasks.Statement.{statement}
 use Rattle.dispatch.proofs.store.stored_tasks.Tie as tie

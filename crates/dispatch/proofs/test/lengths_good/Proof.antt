@@ -3,7 +3,7 @@ use mathlib.Core.Path.{_≡_, refl, _∙_, sym}
 use Prim.Native.Nat.{_-_, _*_, _≤_}
 use native.Mathlib.Omega.{arith}
 use borrow.Author.Needs.{needs}
-use Rattle.engine.proofs.GridLaws.{row-fits}
+use Rattle.memory.proofs.GridLaws.{row-fits}
 use Rattle.dispatch.specs.Sound.{lengthsGood}
 use Rattle.dispatch.proofs.TestLaws.{lengths-next, lengths-fail, lengths-none}
 use Rattle.dispatch.proofs.test.lengths_good.Statement.{statement}

@@ -5,10 +5,10 @@ use native.Mathlib.Omega.{arith}
 use borrow.Author.Needs.{needs}
 use lib.ListN.{drop}
 use Rattle.rules.specs.Events.{nobody, firstDue, Due as RuleDue, earlier, dueAt}
-use Rattle.engine.specs.Memory.{modelOf}
+use Rattle.memory.specs.Memory.{modelOf}
 use Rattle.engine.specs.Room.{dueOf}
 use Rattle.engine.proofs.EffectLaws.{readable, search-more, search-end}
-use Rattle.engine.proofs.MemoryLaws.{count-is, place-is}
+use Rattle.memory.proofs.MemoryLaws.{count-is, place-is}
 use Rattle.engine.proofs.effects.first_due.Statement.{statement}
 use Rattle.engine.proofs.effects.first_due.Tie as tie
 

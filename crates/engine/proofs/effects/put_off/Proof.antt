@@ -4,7 +4,7 @@ use Prim.Native.Nat.{_-_}
 use borrow.Author.Needs.{needs}
 use borrow.Author.Tests.{eq-eqb, ne-eqb}
 use Rattle.rules.proofs.EventLaws.{put-tail, put-until}
-use Rattle.engine.proofs.MemoryLaws.{means-by, place-law}
+use Rattle.memory.proofs.MemoryLaws.{means-by, place-law}
 use Rattle.engine.proofs.MoveLaws.{counted, writable}
 use Rattle.engine.proofs.effects.put_off.Statement.{statement}
 use Rattle.engine.proofs.effects.put_off.Tie as tie

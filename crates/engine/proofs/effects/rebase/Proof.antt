@@ -8,7 +8,7 @@ use Rattle.rules.specs.Model.{Model}
 use Rattle.rules.specs.declared.Priority.{Priority}
 use Rattle.rules.proofs.EventLaws.{rebase-inside, rebase-same, rebase-other}
 use Rattle.engine.proofs.EffectLaws.{readable, holdable, wait-law, inside-is, outside-is}
-use Rattle.engine.proofs.MemoryLaws.{as-laid, means-by, then-means, place-is, base-is, base-law}
+use Rattle.memory.proofs.MemoryLaws.{as-laid, means-by, then-means, place-is, base-is, base-law}
 use Rattle.engine.proofs.MoveLaws.{counted}
 use Rattle.engine.proofs.effects.rebase.Statement.{statement}
 use Rattle.engine.proofs.effects.rebase.Tie as tie

@@ -5,7 +5,7 @@ use Prim.Native.Nat.{_-_}
 use borrow.Author.Needs.{needs}
 use Rattle.engine.specs.Room.{isSuspended}
 use Rattle.engine.proofs.EventLaws.{release-ready, release-permit}
-use Rattle.engine.proofs.MemoryLaws.{means-by, place-is, permit-law}
+use Rattle.memory.proofs.MemoryLaws.{means-by, place-is, permit-law}
 use Rattle.engine.proofs.MoveLaws.{counted, writable}
 use Rattle.engine.proofs.effects.release_from.Statement.{statement}
 use Rattle.engine.proofs.effects.release_from.Tie as tie

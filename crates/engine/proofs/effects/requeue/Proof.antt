@@ -7,7 +7,7 @@ use Rattle.rules.specs.Model.{Model}
 use Rattle.rules.specs.Moves.{becomeReady}
 use Rattle.engine.proofs.EffectLaws.{stop-law, requeue-running, requeue-ready, requeue-delayed, requeue-suspended}
 use Rattle.engine.proofs.EffectLaws.{requeue-ended}
-use Rattle.engine.proofs.MemoryLaws.{as-laid, means-by, then-means, queue-law}
+use Rattle.memory.proofs.MemoryLaws.{as-laid, means-by, then-means, queue-law}
 use Rattle.engine.proofs.MoveLaws.{writable}
 use Rattle.engine.proofs.effects.requeue.Statement.{statement}
 use Rattle.engine.proofs.effects.requeue.Tie as tie

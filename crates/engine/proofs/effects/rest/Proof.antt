@@ -6,7 +6,7 @@ use borrow.Author.Needs.{needs}
 use Rattle.rules.specs.declared.Place.the-variants.{Suspended}
 use Rattle.rules.proofs.EventLaws.{rest-permit, rest-none}
 use Rattle.engine.proofs.EffectLaws.{away-law}
-use Rattle.engine.proofs.MemoryLaws.{means-by, permit-is, permit-law}
+use Rattle.memory.proofs.MemoryLaws.{means-by, permit-is, permit-law}
 use Rattle.engine.proofs.effects.rest.Statement.{statement}
 use Rattle.engine.proofs.effects.rest.Tie as tie
 

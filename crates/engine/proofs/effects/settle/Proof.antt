@@ -5,7 +5,7 @@ use borrow.Author.Needs.{needs}
 use Rattle.rules.specs.Events.{settle}
 use Rattle.rules.proofs.EventLaws.{settle-inside, settle-none, settle-due}
 use Rattle.engine.proofs.EffectLaws.{readable, holdable, waits-none, waits-base, inside-is, outside-is}
-use Rattle.engine.proofs.MemoryLaws.{as-laid, means-by}
+use Rattle.memory.proofs.MemoryLaws.{as-laid, means-by}
 use Rattle.engine.proofs.MoveLaws.{counted}
 use Rattle.engine.proofs.effects.settle.Statement.{statement}
 use Rattle.engine.proofs.effects.settle.Tie as tie

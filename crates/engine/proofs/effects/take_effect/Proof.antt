@@ -4,7 +4,7 @@ use borrow.Author.Needs.{needs}
 use Rattle.rules.specs.Model.{Model}
 use Rattle.rules.specs.Moves.{becomeReady}
 use Rattle.engine.proofs.EffectLaws.{effect-law}
-use Rattle.engine.proofs.MemoryLaws.{then-means}
+use Rattle.memory.proofs.MemoryLaws.{then-means}
 use Rattle.engine.proofs.effects.take_effect.Statement.{statement}
 use Rattle.engine.proofs.effects.take_effect.Tie as tie
 

@@ -9,7 +9,7 @@ use Rattle.rules.proofs.EventLaws.{clock-4, clock-0}
 use Rattle.rules.proofs.Pending.{pending-clock}
 use Rattle.engine.proofs.EffectLaws.{clock-law, due-now}
 use Rattle.engine.proofs.EventLaws.{did-not, did, quiet-clock}
-use Rattle.engine.proofs.MemoryLaws.{then-means, means-by, now-law}
+use Rattle.memory.proofs.MemoryLaws.{then-means, means-by, now-law}
 use Rattle.engine.proofs.RoomLaws.{clock-wakes}
 use Rattle.engine.proofs.ValidLaws.{dispatchable, reading-past, reading-far, reading-good, good}
 use Rattle.engine.proofs.events.clock.Statement.{statement}

@@ -7,7 +7,7 @@ use Rattle.rules.proofs.EventLaws.{enter-2, enter-5, enter-7, enter-8, enter-0}
 use Rattle.rules.proofs.StillLaws.{still-enter}
 use Rattle.engine.proofs.EffectLaws.{holdable, hold-law}
 use Rattle.engine.proofs.EventLaws.{did-not, did}
-use Rattle.engine.proofs.MemoryLaws.{means-by, idle}
+use Rattle.memory.proofs.MemoryLaws.{means-by, idle}
 use Rattle.engine.proofs.ValidLaws.{runner, runner-counted, holds-is, hold-room, good, known-object}
 use Rattle.engine.proofs.ValidLaws.{unknown-object, above-ceiling, within-ceiling}
 use Rattle.engine.proofs.events.enter.Statement.{statement}

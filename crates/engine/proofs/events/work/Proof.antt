@@ -6,7 +6,7 @@ use Rattle.rules.specs.declared.Answer.the-variants.{NobodyRuns}
 use Rattle.rules.proofs.EventLaws.{work-5, work-0}
 use Rattle.rules.proofs.StillLaws.{still}
 use Rattle.engine.proofs.EventLaws.{did-not, did}
-use Rattle.engine.proofs.MemoryLaws.{as-laid, means-by, idle}
+use Rattle.memory.proofs.MemoryLaws.{as-laid, means-by, idle}
 use Rattle.engine.proofs.ValidLaws.{runner, good}
 use Rattle.engine.proofs.events.work.Statement.{statement}
 use Rattle.engine.proofs.events.work.Tie as tie

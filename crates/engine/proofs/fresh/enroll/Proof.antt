@@ -6,10 +6,10 @@ use native.Mathlib.Omega.{arith}
 use borrow.Author.Needs.{needs}
 use lib.ListN.{length, length-map}
 use Rattle.engine.specs.Fresh.{newcomer}
-use Rattle.engine.specs.Tasks.{blankTask, tasksIn, Tasks}
+use Rattle.memory.specs.Tasks.{blankTask, tasksIn, Tasks}
 use Rattle.engine.proofs.FreshLaws.{newcomer-at}
-use Rattle.engine.proofs.ShiftLaws.{over, over-step, over-end}
-use Rattle.engine.proofs.TaskLaws.{tasks-count}
+use Rattle.memory.proofs.ShiftLaws.{over, over-step, over-end}
+use Rattle.memory.proofs.TaskLaws.{tasks-count}
 use Rattle.engine.proofs.fresh.enroll.Statement.{statement}
 use Rattle.engine.proofs.fresh.enroll.Tie as tie
 

@@ -4,7 +4,7 @@ use borrow.Author.Needs.{needs}
 use Rattle.rules.specs.Fresh.{freshModel}
 use Rattle.rules.specs.Moves.{dispatch}
 use Rattle.engine.proofs.FreshLaws.{fresh-joins, fresh-dispatches, joined-law}
-use Rattle.engine.proofs.MemoryLaws.{then-means}
+use Rattle.memory.proofs.MemoryLaws.{then-means}
 use Rattle.engine.proofs.fresh.fresh.Statement.{statement}
 use Rattle.engine.proofs.fresh.fresh.Tie as tie
 

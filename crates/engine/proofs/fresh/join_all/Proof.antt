@@ -8,9 +8,9 @@ use lib.ListN.{length}
 use Rattle.rules.specs.Fresh.{joinFrom}
 use Rattle.rules.specs.Model.{Model}
 use Rattle.rules.specs.Moves.{becomeReady}
-use Rattle.engine.specs.Memory.{modelOf, taskCount, Means}
+use Rattle.memory.specs.Memory.{modelOf, taskCount, Means}
 use Rattle.engine.proofs.FreshLaws.{join-next}
-use Rattle.engine.proofs.MemoryLaws.{as-laid, means-by, then-means, count-is}
+use Rattle.memory.proofs.MemoryLaws.{as-laid, means-by, then-means, count-is}
 use Rattle.engine.proofs.fresh.join_all.Statement.{statement}
 use Rattle.engine.proofs.fresh.join_all.Tie as tie
 

@@ -4,7 +4,7 @@ use native.Mathlib.Omega.{arith}
 use borrow.Author.Needs.{needs}
 use Rattle.rules.specs.Model.{Model}
 use Rattle.rules.specs.Moves.{start}
-use Rattle.engine.proofs.MemoryLaws.{as-laid, means-by, then-means, idle, busy}
+use Rattle.memory.proofs.MemoryLaws.{as-laid, means-by, then-means, idle, busy}
 use Rattle.engine.proofs.MoveLaws.{counted, highest-starts, preempted-starts, idle-way, start-way, stay-way}
 use Rattle.engine.proofs.MoveLaws.{switch-way}
 use Rattle.engine.proofs.moves.dispatch.Statement.{statement}

@@ -6,7 +6,7 @@ use lib.ListN.{length, take, length-set}
 use Rattle.rules.specs.Limits.{taskLimit}
 use mathlib.Core.List.{List}
 use Rattle.rules.specs.declared.Task.{Task}
-use Rattle.engine.specs.Tasks.{blankTask}
+use Rattle.memory.specs.Tasks.{blankTask}
 use Rattle.dispatch.proofs.ListLaws.{fill-more, fill-end}
 use Rattle.layout.specs.Sizes.{tasksStart, taskSize}
 use Rattle.layout.specs.Decode.{taskFrom, tasksFrom}

@@ -6,8 +6,8 @@ use native.Mathlib.Omega.{arith}
 use lib.ListN.{length, drop}
 use lib.Seq.{sets}
 use Rattle.rules.specs.Limits.{taskLimit}
-use Rattle.engine.specs.Tasks.{blankTask}
-use Rattle.engine.proofs.GridLaws.{getD-any}
+use Rattle.memory.specs.Tasks.{blankTask}
+use Rattle.memory.proofs.GridLaws.{getD-any}
 use Rattle.layout.specs.Sizes.{tasksStart, taskSize}
 use Rattle.layout.specs.Encode.{taskBytes}
 use Rattle.layout.proofs.PutLaws.{task-turn, tasks-end}

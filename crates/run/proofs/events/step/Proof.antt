@@ -1,7 +1,7 @@
 -- `run::events::step` meets its contract.
 use Prim.Native.Nat.{_-_, _<_}
 use lib.ListN.{getD}
-use Rattle.engine.specs.Memory.{runningCell}
+use Rattle.memory.specs.Memory.{runningCell}
 use native.Mathlib.Omega.{arith}
 use mathlib.Core.Path.{refl}
 use Rattle.roster.proofs.FormedLaws.{tasks-few}

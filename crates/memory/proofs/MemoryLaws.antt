@@ -1,0 +1,231 @@
+-- Laws of what the slices mean: what is read of them, and what each change of one slice means.
+use mathlib.Core.Path.{_≡_, refl, ap, _∙_, sym}
+use mathlib.Core.Bool.{Bool}
+use mathlib.Core.List.{List, [], _∷_}
+use Prim.Native.Nat.{ℕ, zero, suc, _+_, _-_, _≤_, _<_}
+use native.Mathlib.Nat.{not-suc-le-zero, le-of-suc-le-suc}
+use native.Mathlib.Numerals.{add-one}
+use native.Mathlib.Omega.{arith}
+use lib.ListN.{length, take, drop, getD, set, length-set}
+use lib.Seq.{take-set-lt, drop-set-lt, getD-take, getD-set-same, getD-set-other, length-take-le}
+use Rattle.rules.specs.Limits.{taskLimit, objectLimit}
+use Rattle.rules.specs.Model.{Model, TaskRecord, Waiting, blank, withPlace, withBase, withWaiting, withPermit, withHeld}
+use Rattle.rules.specs.Model.{withNow, withRunning, taskAt, withTask, withQueue}
+use Rattle.rules.specs.declared.Priority.{Priority}
+use Rattle.rules.specs.declared.Place.{Place}
+use Rattle.rules.specs.declared.WaitingBase.{WaitingBase}
+use Rattle.rules.specs.declared.Runner.the-variants.{Nobody, Task as Runs}
+use Rattle.rules.specs.declared.Task.{Task}
+use Rattle.memory.specs.Rows.{heldWidth, heldIn, heldBy, QueueBecame, HeldBecame}
+use Rattle.memory.specs.Tasks.{blankTask, tasksIn, taskIn, TaskBecame, placed, based, waited, permitted}
+use Rattle.memory.specs.Memory.{nowCell, runningCell, tasksCell, objectsCell, taskCount, objectCount, runnerOf, waitingIn}
+use Rattle.memory.specs.Memory.{recordOf, together, allRecords, modelOf, Laid, Means}
+use Rattle.memory.proofs.GridLaws.{list-count}
+use Rattle.memory.proofs.TaskLaws.{tasks-count}
+
+-- records and held lists, one beside the other
+together-count : (ks : List Task) (ls : List (List ℕ)) → length ks ≡ length ls → length (together ks ls) ≡ length ks
+unfolding together
+together-count [] ls e = refl
+together-count (k ∷ ks) [] e = absurd (omega arith)
+together-count (k ∷ ks) (l ∷ ls) e = ap suc (together-count ks ls (omega arith))
+
+together-at : (ks : List Task) (ls : List (List ℕ)) (t : ℕ) → t < length ks → t < length ls →
+    getD (together ks ls) t blank ≡ recordOf (getD ks t blankTask) (getD ls t [])
+unfolding together
+together-at [] ls t h g = absurd (not-suc-le-zero h)
+together-at (k ∷ ks) [] t h g = absurd (not-suc-le-zero g)
+together-at (k ∷ ks) (l ∷ ls) zero h g = refl
+together-at (k ∷ ks) (l ∷ ls) (suc t) h g = together-at ks ls t (le-of-suc-le-suc h) (le-of-suc-le-suc g)
+
+together-left : (ks : List Task) (ls : List (List ℕ)) (t : ℕ) (k : Task) →
+    together (set ks t k) ls ≡ set (together ks ls) t (recordOf k (getD ls t []))
+unfolding together
+together-left [] ls t k = refl
+together-left (x ∷ ks) [] zero k = refl
+together-left (x ∷ ks) [] (suc t) k = refl
+together-left (x ∷ ks) (l ∷ ls) zero k = refl
+together-left (x ∷ ks) (l ∷ ls) (suc t) k = ap (λ (v : List TaskRecord). recordOf x l ∷ v) (together-left ks ls t k)
+
+together-right : (ks : List Task) (ls : List (List ℕ)) (t : ℕ) (l : List ℕ) →
+    together ks (set ls t l) ≡ set (together ks ls) t (recordOf (getD ks t blankTask) l)
+unfolding together
+together-right [] ls t l = refl
+together-right (k ∷ ks) [] t l = refl
+together-right (k ∷ ks) (x ∷ ls) zero l = refl
+together-right (k ∷ ks) (x ∷ ls) (suc t) l = ap (λ (v : List TaskRecord). recordOf k x ∷ v) (together-right ks ls t l)
+
+held-count : (hd : List ℕ) → length (heldIn hd) ≡ taskLimit
+held-count hd = list-count heldWidth taskLimit hd
+
+pub record-at : (ts hd : List ℕ) (t : ℕ) → t < taskLimit → getD (allRecords ts hd) t blank ≡ recordOf (taskIn ts t) (heldBy hd t)
+record-at ts hd t h =
+    together-at (tasksIn ts) (heldIn hd) t (omega (arith, tasks-count ts)) (omega (arith, held-count hd))
+
+pub records-count : (ts hd : List ℕ) → length (allRecords ts hd) ≡ taskLimit
+records-count ts hd = together-count (tasksIn ts) (heldIn hd) (tasks-count ts ∙ sym (held-count hd)) ∙ tasks-count ts
+
+-- one thing after another
+pub then-means : {h ts hd cs qs h' ts' hd' cs' qs' : List ℕ} {m : Model} (f : Model → Model) → Means h ts hd cs qs m →
+    Means h' ts' hd' cs' qs' (f (modelOf h ts hd cs qs)) → Means h' ts' hd' cs' qs' (f m)
+then-means f x y = record { same = y .same ∙ ap f (x .same); laid = y .laid }
+
+pub means-by : {h ts hd cs qs : List ℕ} {m n : Model} → Means h ts hd cs qs m → m ≡ n → Means h ts hd cs qs n
+means-by x e = record { same = x .same ∙ e; laid = x .laid }
+
+pub as-laid : {h ts hd cs qs : List ℕ} → Laid h ts hd cs qs → Means h ts hd cs qs (modelOf h ts hd cs qs)
+as-laid d = record { same = refl; laid = d }
+
+module _ {h ts hd cs qs : List ℕ} (d : Laid h ts hd cs qs) where
+  -- what is read
+  pub count-is : length (modelOf h ts hd cs qs .tasks) ≡ taskCount h
+  count-is = length-take-le (taskCount h) (allRecords ts hd) (omega (arith, records-count ts hd, d .count))
+
+  pub objects-is : length (modelOf h ts hd cs qs .ceilings) ≡ objectCount h
+  objects-is = length-take-le (objectCount h) cs (omega (arith, d .objects, d .ceilings))
+
+  pub task-is : (t : ℕ) → t < taskCount h → taskAt (modelOf h ts hd cs qs) t ≡ recordOf (taskIn ts t) (heldBy hd t)
+  task-is t g = getD-take (taskCount h) (allRecords ts hd) t blank g ∙ record-at ts hd t (omega (arith, d .count))
+
+  pub held-is : (t : ℕ) → t < taskCount h → taskAt (modelOf h ts hd cs qs) t .held ≡ heldBy hd t
+  held-is t g = ap (λ (k : TaskRecord). k .held) (task-is t g)
+
+  pub place-is : (t : ℕ) → t < taskCount h → taskAt (modelOf h ts hd cs qs) t .place ≡ taskIn ts t .place
+  place-is t g = ap (λ (k : TaskRecord). k .place) (task-is t g)
+
+  pub waiting-is : (t : ℕ) → t < taskCount h → taskAt (modelOf h ts hd cs qs) t .waiting ≡ waitingIn (taskIn ts t .waiting)
+  waiting-is t g = ap (λ (k : TaskRecord). k .waiting) (task-is t g)
+
+  pub base-is : (t : ℕ) → t < taskCount h → taskAt (modelOf h ts hd cs qs) t .base ≡ taskIn ts t .base .0
+  base-is t g = ap (λ (k : TaskRecord). k .base) (task-is t g)
+
+  pub permit-is : (t : ℕ) → t < taskCount h → taskAt (modelOf h ts hd cs qs) t .permit ≡ taskIn ts t .permit
+  permit-is t g = ap (λ (k : TaskRecord). k .permit) (task-is t g)
+
+  pub idle : getD h runningCell 0 ≡ 0 → modelOf h ts hd cs qs .running ≡ Nobody
+  unfolding runnerOf
+  idle e = ap runnerOf e
+
+  pub busy : (getD h runningCell 0 ≡ 0 → ⊥) → modelOf h ts hd cs qs .running ≡ Runs (getD h runningCell 0 - 1)
+  unfolding runnerOf
+  busy n = let e : getD h runningCell 0 ≡ suc (getD h runningCell 0 - 1) = omega arith in ap runnerOf e
+
+  -- what a change of one slice means
+  pub run-law : (v : ℕ) → Means (set h runningCell v) ts hd cs qs (withRunning (modelOf h ts hd cs qs) (runnerOf v))
+  run-law v =
+      let n = d .head in
+      let a : getD (set h runningCell v) nowCell 0 ≡ getD h nowCell 0 = getD-set-other h runningCell nowCell v 0 (omega arith) in
+      let b : getD (set h runningCell v) runningCell 0 ≡ v = getD-set-same h runningCell v 0 (omega arith) in
+      let c : taskCount (set h runningCell v) ≡ taskCount h = getD-set-other h runningCell tasksCell v 0 (omega arith) in
+      let e : objectCount (set h runningCell v) ≡ objectCount h = getD-set-other h runningCell objectsCell v 0 (omega arith) in
+      record {
+        same = rw (a, b, c, e);
+        laid = record {
+          head = simp length-set (d .head);
+          count = rw c (d .count);
+          objects = rw e (d .objects);
+          tasks = d .tasks;
+          held = d .held;
+          ceilings = d .ceilings;
+          queues = d .queues;
+          unused = rw c (d .unused);
+          zeros = rw e (d .zeros);
+        };
+      }
+
+  pub now-law : (v : ℕ) → Means (set h nowCell v) ts hd cs qs (withNow (modelOf h ts hd cs qs) v)
+  now-law v =
+      let n = d .head in
+      let a : getD (set h nowCell v) nowCell 0 ≡ v = getD-set-same h nowCell v 0 (omega arith) in
+      let b : getD (set h nowCell v) runningCell 0 ≡ getD h runningCell 0 = getD-set-other h nowCell runningCell v 0 (omega arith) in
+      let c : taskCount (set h nowCell v) ≡ taskCount h = getD-set-other h nowCell tasksCell v 0 (omega arith) in
+      let e : objectCount (set h nowCell v) ≡ objectCount h = getD-set-other h nowCell objectsCell v 0 (omega arith) in
+      record {
+        same = rw (a, b, c, e);
+        laid = record {
+          head = simp length-set (d .head);
+          count = rw c (d .count);
+          objects = rw e (d .objects);
+          tasks = d .tasks;
+          held = d .held;
+          ceilings = d .ceilings;
+          queues = d .queues;
+          unused = rw c (d .unused);
+          zeros = rw e (d .zeros);
+        };
+      }
+
+  pub queue-law : {qs' : List ℕ} (p : ℕ) (l : List ℕ) → QueueBecame qs qs' p l →
+      Means h ts hd cs qs' (withQueue (modelOf h ts hd cs qs) p l)
+  queue-law p l b =
+      record {
+        same = rw (b .same);
+        laid = record {
+          head = d .head;
+          count = d .count;
+          objects = d .objects;
+          tasks = d .tasks;
+          held = d .held;
+          ceilings = d .ceilings;
+          queues = b .good;
+          unused = d .unused;
+          zeros = d .zeros;
+        };
+      }
+
+  pub held-law : {hd' : List ℕ} (t : ℕ) (l : List ℕ) → t < taskCount h → HeldBecame hd hd' t l →
+      Means h ts hd' cs qs (withTask (modelOf h ts hd cs qs) t (withHeld (taskAt (modelOf h ts hd cs qs) t) l))
+  held-law {hd'} t l g b =
+      let all : allRecords ts hd' ≡ set (allRecords ts hd) t (recordOf (taskIn ts t) l) =
+      ap (together (tasksIn ts)) (b .same) ∙ together-right (tasksIn ts) (heldIn hd) t l in
+      record {
+        same = rw (all, take-set-lt (taskCount h) (allRecords ts hd) t (recordOf (taskIn ts t) l) g, task-is t g);
+        laid = record {
+          head = d .head;
+          count = d .count;
+          objects = d .objects;
+          tasks = d .tasks;
+          held = b .good;
+          ceilings = d .ceilings;
+          queues = d .queues;
+          unused = rw all (drop-set-lt (taskCount h) (allRecords ts hd) t (recordOf (taskIn ts t) l) g ∙ d .unused);
+          zeros = d .zeros;
+        };
+      }
+
+  pub task-law : {ts' : List ℕ} (t : ℕ) (k : Task) → t < taskCount h → TaskBecame ts ts' t k →
+      Means h ts' hd cs qs (withTask (modelOf h ts hd cs qs) t (recordOf k (taskAt (modelOf h ts hd cs qs) t .held)))
+  task-law {ts'} t k g b =
+      let all : allRecords ts' hd ≡ set (allRecords ts hd) t (recordOf k (heldBy hd t)) =
+      ap (λ (ks : List Task). together ks (heldIn hd)) (b .same) ∙ together-left (tasksIn ts) (heldIn hd) t k in
+      record {
+        same = rw (all, take-set-lt (taskCount h) (allRecords ts hd) t (recordOf k (heldBy hd t)) g, task-is t g);
+        laid = record {
+          head = d .head;
+          count = d .count;
+          objects = d .objects;
+          tasks = b .good;
+          held = d .held;
+          ceilings = d .ceilings;
+          queues = d .queues;
+          unused = rw all (drop-set-lt (taskCount h) (allRecords ts hd) t (recordOf k (heldBy hd t)) g ∙ d .unused);
+          zeros = d .zeros;
+        };
+      }
+
+  -- the four parts of a task's record
+  pub place-law : {ts' : List ℕ} (t : ℕ) (x : Place) → t < taskCount h → TaskBecame ts ts' t (placed (taskIn ts t) x) →
+      Means h ts' hd cs qs (withTask (modelOf h ts hd cs qs) t (withPlace (taskAt (modelOf h ts hd cs qs) t) x))
+  place-law t x g b = means-by (task-law t _ g b) (rw (task-is t g))
+
+  pub base-law : {ts' : List ℕ} (t : ℕ) (p : Priority) → t < taskCount h → TaskBecame ts ts' t (based (taskIn ts t) p) →
+      Means h ts' hd cs qs (withTask (modelOf h ts hd cs qs) t (withBase (taskAt (modelOf h ts hd cs qs) t) (p .0)))
+  base-law t p g b = means-by (task-law t _ g b) (rw (task-is t g))
+
+  pub waiting-law : {ts' : List ℕ} (t : ℕ) (w : WaitingBase) → t < taskCount h → TaskBecame ts ts' t (waited (taskIn ts t) w) →
+      Means h ts' hd cs qs (withTask (modelOf h ts hd cs qs) t (withWaiting (taskAt (modelOf h ts hd cs qs) t) (waitingIn w)))
+  waiting-law t w g b = means-by (task-law t _ g b) (rw (task-is t g))
+
+  pub permit-law : {ts' : List ℕ} (t : ℕ) (x : Bool) → t < taskCount h → TaskBecame ts ts' t (permitted (taskIn ts t) x) →
+      Means h ts' hd cs qs (withTask (modelOf h ts hd cs qs) t (withPermit (taskAt (modelOf h ts hd cs qs) t) x))
+  permit-law t x g b = means-by (task-law t _ g b) (rw (task-is t g))

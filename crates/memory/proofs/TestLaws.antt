@@ -1,0 +1,73 @@
+-- Laws of tests: "and" that fails or holds at its first, and loops that stop at the first element that fails.
+use mathlib.Core.Path.{_≡_, refl, _∙_, sym}
+use mathlib.Core.Bool.{Bool, true, false, _&&_}
+use mathlib.Core.List.{List}
+use Prim.Native.Nat.{ℕ, suc, _+_, _-_, _≤_, _<_}
+use native.Mathlib.Numerals.{add-one}
+use native.Mathlib.Omega.{arith}
+use borrow.Author.Tests.{eqb-true, eq-eqb}
+use lib.Dec.{eqb}
+use lib.ListN.{length, drop, getD, drop-of-length-le}
+use lib.Seq.{drop-cons}
+use Rattle.rules.specs.Fresh.{allOf}
+use Rattle.rules.specs.Events.{timesIn}
+use Rattle.rules.specs.Sound.{distinct}
+use Rattle.rules.specs.Sound.{below}
+use Rattle.rules.proofs.Choices.{compare, clash, and-make}
+use Rattle.rules.proofs.HeldLaws.{all-at, all-make, distinct-once, once-distinct}
+use Rattle.rules.proofs.SoundLaws.{below-at}
+
+-- two tests that hold together are equal
+pub same-test : (a b : Bool) → (a ≡ true → b ≡ true) → (b ≡ true → a ≡ true) → a ≡ b
+same-test true b f g = sym (f refl)
+same-test false true f g = g refl
+same-test false false f g = refl
+
+-- an "and" that fails
+pub fails-first : (a b : Bool) → a ≡ false → (a && b) ≡ false
+fails-first true b e = clash e
+fails-first false b e = refl
+
+pub holds-first : (a b : Bool) → a ≡ true → (a && b) ≡ b
+holds-first true b e = refl
+holds-first false b e = clash (sym e)
+
+-- a test of every number below n
+pub below-more : (n : ℕ) (f : ℕ → Bool) → below n f ≡ true → f n ≡ true → below (n + 1) f ≡ true
+unfolding below
+below-more n f e g = rw add-one (and-make (below n f) (f n) e g)
+
+pub below-fails : (n i : ℕ) (f : ℕ → Bool) → i < n → f i ≡ false → below n f ≡ false
+unfolding below
+below-fails n i f h e = go (below n f) refl
+  where
+    go : (b : Bool) → below n f ≡ b → b ≡ false
+    go true g = clash (sym (below-at n f g i h) ∙ e)
+    go false g = refl
+
+-- a test of every element from i on
+module _ (f : ℕ → Bool) (l : List ℕ) (i : ℕ) (e : allOf f l ≡ allOf f (drop i l)) where
+  pub all-more : i < length l → f (getD l i 0) ≡ true → allOf f l ≡ allOf f (drop (i + 1) l)
+  unfolding allOf
+  all-more h g = e ∙ rw (add-one, drop-cons l i 0 h) (holds-first (f (getD l i 0)) (allOf f (drop (suc i) l)) g)
+
+  pub all-fails : i < length l → f (getD l i 0) ≡ false → allOf f l ≡ false
+  unfolding allOf
+  all-fails h g = e ∙ rw (drop-cons l i 0 h) (fails-first (f (getD l i 0)) (allOf f (drop (suc i) l)) g)
+
+  pub all-end : length l ≤ i → allOf f l ≡ true
+  unfolding allOf
+  all-end h = e ∙ rw (drop-of-length-le l {i = i} h)
+
+-- no element twice: each stands once in the list
+pub distinct-all : (l : List ℕ) → allOf (λ x. eqb (timesIn x l) 1) l ≡ distinct l
+distinct-all l = same-test (allOf (λ x. eqb (timesIn x l) 1) l) (distinct l) once each
+  where
+    once : allOf (λ x. eqb (timesIn x l) 1) l ≡ true → distinct l ≡ true
+    once e =
+        once-distinct l (λ u.
+        compare (timesIn u l) 0 (λ h. omega arith)
+        (λ h. omega (arith, eqb-true (timesIn u l) 1 (all-at (λ x. eqb (timesIn x l) 1) l e u h))))
+
+    each : distinct l ≡ true → allOf (λ x. eqb (timesIn x l) 1) l ≡ true
+    each e = all-make (λ x. eqb (timesIn x l) 1) l (λ u h. eq-eqb (timesIn u l) 1 (omega (arith, distinct-once l e u)))

@@ -1,0 +1,101 @@
+-- What the five slices mean together: a Model of the rules. The head is now, the running task's number + 1 or 0, and the two counts.
+use mathlib.Core.Path.{_≡_}
+use mathlib.Core.Bool.{true}
+use mathlib.Core.List.{List, [], _∷_}
+use Prim.Native.Nat.{ℕ, zero, suc, _-_, _≤_}
+use lib.ListN.{length, take, drop, getD, replicate}
+use Rattle.rules.specs.Limits.{taskLimit, objectLimit}
+use Rattle.rules.specs.Model.{Model, TaskRecord, Waiting, none, waits, blank}
+use Rattle.rules.specs.Moved.{Moved}
+use Rattle.rules.specs.Sound.{sound}
+use Rattle.rules.specs.declared.Answer.{Answer}
+use Rattle.rules.specs.declared.Runner.{Runner}
+use Rattle.rules.specs.declared.Runner.the-variants.{Nobody, Task as Runs}
+use Rattle.rules.specs.declared.WaitingBase.{WaitingBase}
+use Rattle.rules.specs.declared.WaitingBase.the-variants.{Nothing, Base}
+use Rattle.rules.specs.declared.Task.{Task}
+use Rattle.memory.specs.Rows.{queuesIn, Queues, heldIn, Held}
+use Rattle.memory.specs.Tasks.{tasksIn, Tasks}
+
+-- the cells of the head
+abbrev pub headWidth : ℕ
+headWidth = 4
+
+abbrev pub nowCell : ℕ
+nowCell = 0
+
+abbrev pub runningCell : ℕ
+runningCell = 1
+
+abbrev pub tasksCell : ℕ
+tasksCell = 2
+
+abbrev pub objectsCell : ℕ
+objectsCell = 3
+
+abbrev pub taskCount : List ℕ → ℕ
+taskCount h = getD h tasksCell 0
+
+abbrev pub objectCount : List ℕ → ℕ
+objectCount h = getD h objectsCell 0
+
+-- who runs
+unfoldable pub runnerOf : ℕ → Runner
+runnerOf zero = Nobody
+runnerOf (suc t) = Runs t
+
+-- a task's record, with the list of what it holds, as the Model has it
+unfoldable pub waitingIn : WaitingBase → Waiting
+waitingIn Nothing = none
+waitingIn (Base p) = waits (p .0)
+
+abbrev pub recordOf : Task → List ℕ → TaskRecord
+recordOf k l = record { place = k .place; base = k .base .0; waiting = waitingIn (k .waiting); permit = k .permit; held = l }
+
+unfoldable pub together : List Task → List (List ℕ) → List TaskRecord
+together [] ls = []
+together (k ∷ ks) [] = []
+together (k ∷ ks) (l ∷ ls) = recordOf k l ∷ together ks ls
+
+-- the records of all rows, those behind the task count too
+abbrev pub allRecords : List ℕ → List ℕ → List TaskRecord
+allRecords ts hd = together (tasksIn ts) (heldIn hd)
+
+-- the Model that the slices mean: head, tasks, held lists, ceilings, ready queues
+abbrev pub modelOf : List ℕ → List ℕ → List ℕ → List ℕ → List ℕ → Model
+modelOf h ts hd cs qs =
+    record {
+      now = getD h nowCell 0;
+      running = runnerOf (getD h runningCell 0);
+      tasks = take (taskCount h) (allRecords ts hd);
+      ceilings = take (objectCount h) cs;
+      ready = queuesIn qs;
+    }
+
+-- the slices are laid out: their sizes, tidy rows, counts within the rows, and nothing behind the counts
+pub record Laid (h ts hd cs qs : List ℕ) : Type 0 where
+  pub head : length h ≡ headWidth
+  pub count : taskCount h ≤ taskLimit
+  pub objects : objectCount h ≤ objectLimit
+  pub tasks : Tasks ts
+  pub held : Held hd
+  pub ceilings : length cs ≡ objectLimit
+  pub queues : Queues qs
+  pub unused : drop (taskCount h) (allRecords ts hd) ≡ replicate (taskLimit - taskCount h) blank
+  pub zeros : drop (objectCount h) cs ≡ replicate (objectLimit - objectCount h) 0
+
+-- the slices are laid out and mean m
+pub record Means (h ts hd cs qs : List ℕ) (m : Model) : Type 0 where
+  pub same : modelOf h ts hd cs qs ≡ m
+  pub laid : Laid h ts hd cs qs
+
+-- the slices are laid out and mean a sound Model
+pub record Valid (h ts hd cs qs : List ℕ) : Type 0 where
+  pub laid : Laid h ts hd cs qs
+  pub sound : sound (modelOf h ts hd cs qs) ≡ true
+
+-- after an event: its answer too
+pub record Did (h ts hd cs qs : List ℕ) (a : Answer) (r : Moved) : Type 0 where
+  pub same : modelOf h ts hd cs qs ≡ r .model
+  pub laid : Laid h ts hd cs qs
+  pub answer : a ≡ r .answer

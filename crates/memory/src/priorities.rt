@@ -1,0 +1,90 @@
+// The highest ready queue, the ceilings of objects and the active priority of a task.
+ghost use mathlib.Core.Path.{_≡_};
+ghost use Prim.Native.Nat.{_≤_, _<_, max};
+ghost use lib.ListN.{length, take};
+ghost use Rattle.rules.specs.Limits.{taskLimit, lastPriority};
+ghost use Rattle.rules.specs.Model.{ceilingOf, highestOf, active};
+ghost use Rattle.rules.specs.Moves.{highestTo};
+ghost use Rattle.memory.specs.Rows.{heldBy, Held, queuesIn, Queues};
+ghost use Rattle.memory.specs.Memory.{taskCount, modelOf, Laid};
+use crate::queues;
+use crate::sizes::HEAD_WIDTH;
+use crate::sizes::HELD_WIDTH;
+use crate::sizes::OBJECTS_CELL;
+use crate::tasks;
+use rules::Priority;
+
+// The highest priority whose queue holds a task, or 0.
+pub fn highest(queues: &[u8]) -> Priority
+    requires { ⌜ Queues (now queues) ⌝ }
+    ensures { λ r. ⌜ r .0 ≡ highestTo (queuesIn (now (queues .entry))) lastPriority ⌝ }
+{
+    let last = Priority::LAST;
+    let mut p = last.0;
+    while 0 < p {
+        if 0 < queues::size(queues, Priority(p)) {
+            return Priority(p);
+        }
+        p -= 1;
+    }
+    Priority(0)
+}
+
+// The ceiling of the object o, of which there are n; 0 for one that is not listed.
+pub fn ceiling(ceilings: &[u8], n: usize, o: u8) -> u8
+    requires { ⌜ n ≤ length (now ceilings) ⌝ }
+    ensures { λ r. ⌜ r ≡ ceilingOf (take n (now (ceilings .entry))) o ⌝ }
+{
+    let i = o as usize;
+    if i < n {
+        return ceilings[i];
+    }
+    0
+}
+
+fn higher(a: u8, b: u8) -> u8
+    ensures { λ r. ⌜ r ≡ max a b ⌝ }
+{
+    if a < b { b } else { a }
+}
+
+// The highest of p and the ceilings of what the task t holds.
+fn raised(held: &[u8], ceilings: &[u8], n: usize, t: usize, p: u8) -> u8
+    requires { ⌜ t < taskLimit ⌝ }
+    requires { ⌜ n ≤ length (now ceilings) ⌝ }
+    requires { ⌜ Held (now held) ⌝ }
+    ensures { λ r. ⌜ r ≡ highestOf (take n (now (ceilings .entry))) p (heldBy (now (held .entry)) t) ⌝ }
+{
+    let row = t * HELD_WIDTH;
+    let size = held[row] as usize;
+    let mut a = p;
+    let mut i: usize = 0;
+    while i < size {
+        let o = held[row + (i + 1)];
+        a = higher(a, ceiling(ceilings, n, o));
+        i += 1;
+    }
+    a
+}
+
+// The active priority of the task t.
+pub fn active(
+    head: &[u64; HEAD_WIDTH],
+    tasks: &[u64],
+    held: &[u8],
+    ceilings: &[u8],
+    queues: &[u8],
+    t: usize,
+) -> Priority
+    requires { ⌜ Laid (now head) (now tasks) (now held) (now ceilings) (now queues) ⌝ }
+    requires { ⌜ t < taskCount (now head) ⌝ }
+    ensures { λ r.
+        ⌜ r .0 ≡
+        active
+        (modelOf (now (head .entry)) (now (tasks .entry)) (now (held .entry)) (now (ceilings .entry)) (now (queues .entry)))
+        t ⌝ }
+{
+    let n = head[OBJECTS_CELL] as usize;
+    let base = tasks::base(tasks, t);
+    Priority(raised(held, ceilings, n, t, base.0))
+}

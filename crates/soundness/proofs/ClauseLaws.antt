@@ -1,0 +1,165 @@
+-- Laws of the clauses of soundness, read off slices that are laid out.
+use mathlib.Core.Path.{_≡_, refl, ap, _∙_, sym}
+use mathlib.Core.Bool.{Bool, true, false, not, _&&_, _||_}
+use mathlib.Core.List.{List, []}
+use Prim.Native.Nat.{ℕ, zero, suc, _+_, _-_, _≤_, _<_}
+use native.Mathlib.Omega.{arith}
+use borrow.Author.Tests.{le-leb, lt-leb, eq-eqb, leb-true, leb-false}
+use lib.Dec.{eqb, leb, ltb, leb·zero}
+use lib.ListN.{length, take, getD, List·getD-eq-default}
+use Rattle.rules.specs.Limits.{taskLimit, objectLimit, lastPriority, lastReading}
+use Rattle.rules.specs.Priorities.{inRange}
+use Rattle.rules.specs.Model.{Model, TaskRecord, blank, highestOf, active, taskAt, queue}
+use Rattle.rules.specs.Moves.{highestTo, highest}
+use Rattle.rules.specs.Fresh.{allOf, countsGood}
+use Rattle.rules.specs.Events.{noTask, inside}
+use Rattle.rules.specs.Sound.{sizesGood, recordGood, waitingGood, runnerGood, runs, isRunning, queued, isReady, dueGood, distinct}
+use Rattle.rules.specs.Sound.{rising, highestRuns, isNone, below, eachPriority}
+use Rattle.rules.specs.declared.Place.{Place}
+use Rattle.rules.specs.declared.WaitingBase.{WaitingBase}
+use Rattle.memory.specs.Rows.{queueWidth, queuesIn, queueIn, heldBy}
+use Rattle.memory.specs.Tasks.{taskIn}
+use Rattle.memory.specs.Memory.{nowCell, runningCell, taskCount, objectCount, runnerOf, waitingIn, modelOf, Laid}
+use Rattle.soundness.specs.Tested.{onePlaceAt, heldGoodAt, holderHere, waitsInside, taskSound, queueSound, tested}
+use Rattle.memory.proofs.GridLaws.{list-count}
+use Rattle.memory.proofs.MemoryLaws.{count-is, objects-is, task-is, held-is, place-is, waiting-is}
+use Rattle.memory.proofs.TestLaws.{same-test, fails-first, holds-first}
+
+-- not at or above n: below it
+below-is : (n t : ℕ) → not (leb n t) ≡ leb (suc t) n
+below-is n t = go (leb n t) refl
+  where
+    go : (b : Bool) → leb n t ≡ b → not b ≡ leb (suc t) n
+    go true e = sym (lt-leb (suc t) n (omega (arith, leb-true n t e)))
+    go false e = sym (le-leb (suc t) n (omega (arith, leb-false n t e)))
+
+and-true : (b : Bool) → (b && true) ≡ b
+and-true true = refl
+and-true false = refl
+
+module _ {h ts hd cs qs : List ℕ} (d : Laid h ts hd cs qs) where
+  -- counts, now and ceilings
+  sizes-is : sizesGood (modelOf h ts hd cs qs) ≡
+      (leb 1 (taskCount h) && leb (getD h nowCell 0) lastReading && allOf inRange (take (objectCount h) cs))
+  sizes-is =
+      let few = le-leb (taskCount h) taskLimit (d .count) in
+      let objects = le-leb (objectCount h) objectLimit (d .objects) in
+      let lines = eq-eqb (length (queuesIn qs)) lastPriority (list-count queueWidth lastPriority qs) in
+      simp (count-is d, objects-is d, few, objects, lines, and-true)
+
+  pub no-tasks : (b : Bool) → taskCount h ≡ 0 → (sizesGood (modelOf h ts hd cs qs) && b) ≡ false
+  no-tasks b e = rw (sizes-is, e)
+
+  pub too-late : (b : Bool) → (taskCount h ≡ 0 → ⊥) → lastReading < getD h nowCell 0 → (sizesGood (modelOf h ts hd cs qs) && b) ≡ false
+  too-late b n e = rw (sizes-is, le-leb 1 (taskCount h) (omega (arith, n)), lt-leb (getD h nowCell 0) lastReading e)
+
+  module _ (n : taskCount h ≡ 0 → ⊥) (e : getD h nowCell 0 ≤ lastReading) (b : Bool)
+      (f : b ≡ allOf inRange (take (objectCount h) cs)) where
+    ceilings-left : sizesGood (modelOf h ts hd cs qs) ≡ b
+    ceilings-left = rw (sizes-is, le-leb 1 (taskCount h) (omega (arith, n)), le-leb (getD h nowCell 0) lastReading e) (sym f)
+
+    pub bad-ceilings : (c : Bool) → b ≡ false → (sizesGood (modelOf h ts hd cs qs) && c) ≡ false
+    bad-ceilings c g = fails-first (sizesGood (modelOf h ts hd cs qs)) c (ceilings-left ∙ g)
+
+    -- .. and the running task
+    pub head-left : (v : ℕ) → b ≡ true →
+        (sizesGood (modelOf h ts hd cs qs) && runnerGood (modelOf h ts hd cs qs) (runnerOf v)) ≡ leb v (taskCount h)
+    unfolding runnerGood runnerOf
+    head-left v g = holds-first (sizesGood (modelOf h ts hd cs qs)) _ (ceilings-left ∙ g) ∙ runner v
+      where
+        runner : (v : ℕ) → runnerGood (modelOf h ts hd cs qs) (runnerOf v) ≡ leb v (taskCount h)
+        runner zero = sym (leb·zero (taskCount h))
+        runner (suc t) = below-is (length (modelOf h ts hd cs qs .tasks)) t ∙ ap (leb (suc t)) (count-is d)
+
+  -- active priorities; that of no task is 0
+  pub active-out : (t : ℕ) → taskCount h ≤ t → 0 ≡ active (modelOf h ts hd cs qs) t
+  unfolding highestOf
+  active-out t g =
+      let none : taskAt (modelOf h ts hd cs qs) t ≡ blank =
+      List·getD-eq-default (modelOf h ts hd cs qs .tasks) blank {n = t} (omega (arith, count-is d)) in
+      sym (ap (λ (k : TaskRecord). highestOf (modelOf h ts hd cs qs .ceilings) (k .base) (k .held)) none)
+
+  -- a task's record
+  pub record-is : (t : ℕ) → t < taskCount h → recordGood (modelOf h ts hd cs qs) (taskAt (modelOf h ts hd cs qs) t) ≡
+      (inRange (taskIn ts t .base .0) && waitingGood (waitingIn (taskIn ts t .waiting)) &&
+      allOf (λ o. not (leb (objectCount h) o)) (heldBy hd t))
+  record-is t g = rw (task-is d t g, objects-is d)
+
+  pub place-one : (t a b n c : ℕ) (x : Place) → t < taskCount h → x ≡ taskIn ts t .place → a ≡ runs (runnerOf (getD h runningCell 0)) t →
+      b ≡ isRunning x → n ≡ queued (queuesIn qs) t → c ≡ isReady x → onePlaceAt (modelOf h ts hd cs qs) t ≡ (eqb a b && eqb n c)
+  place-one t a b n c x g e p q r s =
+      let place : taskAt (modelOf h ts hd cs qs) t .place ≡ x = place-is d t g ∙ sym e in
+      rw (place, p, q, r, s)
+
+  pub held-one : (t : ℕ) → t < taskCount h → heldGoodAt (modelOf h ts hd cs qs) (taskAt (modelOf h ts hd cs qs) t) ≡
+      (distinct (heldBy hd t) && rising (take (objectCount h) cs) (taskIn ts t .base .0) (heldBy hd t))
+  held-one t g = rw (task-is d t g)
+
+  pub due-one : (t : ℕ) (x : Place) → t < taskCount h → x ≡ taskIn ts t .place →
+      dueGood (getD h nowCell 0) x ≡ dueGood (modelOf h ts hd cs qs .now) (taskAt (modelOf h ts hd cs qs) t .place)
+  due-one t x g e = ap (dueGood (getD h nowCell 0)) (e ∙ sym (place-is d t g))
+
+  pub holder-one : (t n : ℕ) (x : Place) → t < taskCount h → n ≡ length (heldBy hd t) → x ≡ taskIn ts t .place →
+      (not (ltb 0 n) || eqb (isReady x + isRunning x) 1) ≡ holderHere (taskAt (modelOf h ts hd cs qs) t)
+  holder-one t n x g e f = rw (e, f, task-is d t g)
+
+  pub waits-one : (t n : ℕ) (w : WaitingBase) → t < taskCount h → n ≡ length (heldBy hd t) → w ≡ taskIn ts t .waiting →
+      (ltb 0 n || isNone (waitingIn w)) ≡ waitsInside (taskAt (modelOf h ts hd cs qs) t)
+  waits-one t n w g e f = rw (e, f, task-is d t g)
+
+  -- a queue's tasks
+  pub queue-one : (p : ℕ) → queueSound (modelOf h ts hd cs qs) p ≡
+      (allOf (λ t. not (leb (taskCount h) t)) (queueIn qs p) &&
+      allOf (λ t. eqb (active (modelOf h ts hd cs qs) t) p) (queue (modelOf h ts hd cs qs) p))
+  unfolding queueSound
+  queue-one p = rw (count-is d)
+
+-- who runs is not below a ready task
+pub idle-top : (m : Model) (v p : ℕ) → v ≡ 0 → p ≡ highestTo (m .ready) lastPriority → eqb p 0 ≡ highestRuns m (runnerOf v)
+unfolding highestRuns highest runnerOf
+idle-top m v p e f = sym (ap (λ (n : ℕ). highestRuns m (runnerOf n)) e ∙ rw f)
+
+pub busy-top : (m : Model) (v p a : ℕ) → (v ≡ 0 → ⊥) → p ≡ highestTo (m .ready) lastPriority → a ≡ active m (v - 1) →
+    leb p a ≡ highestRuns m (runnerOf v)
+unfolding highestRuns highest runnerOf
+busy-top m v p a n f g =
+    let e : v ≡ suc (v - 1) = omega (arith, n) in
+    sym (ap (λ (x : ℕ). highestRuns m (runnerOf x)) e ∙ rw (f, g))
+
+-- all clauses
+pub tested-all : {h ts hd cs qs : List ℕ} (d : Laid h ts hd cs qs) → tested (modelOf h ts hd cs qs) ≡
+    (sizesGood (modelOf h ts hd cs qs) && runnerGood (modelOf h ts hd cs qs) (runnerOf (getD h runningCell 0)) &&
+    highestRuns (modelOf h ts hd cs qs) (runnerOf (getD h runningCell 0)) && below (taskCount h) (taskSound (modelOf h ts hd cs qs)) &&
+    eachPriority (queueSound (modelOf h ts hd cs qs)))
+unfolding tested
+tested-all d = rw (count-is d)
+
+-- the clauses about one task, tested one after the other
+module _ (m : Model) (t : ℕ) where
+  pub task-1 : recordGood m (taskAt m t) ≡ false → taskSound m t ≡ false
+  unfolding taskSound
+  task-1 a = rw a
+
+  module _ (a : recordGood m (taskAt m t) ≡ true) where
+    pub task-2 : onePlaceAt m t ≡ false → taskSound m t ≡ false
+    unfolding taskSound
+    task-2 b = rw (a, b)
+
+    module _ (b : onePlaceAt m t ≡ true) where
+      pub task-3 : dueGood (m .now) (taskAt m t .place) ≡ false → taskSound m t ≡ false
+      unfolding taskSound
+      task-3 c = rw (a, b, c)
+
+      module _ (c : dueGood (m .now) (taskAt m t .place) ≡ true) where
+        pub task-4 : heldGoodAt m (taskAt m t) ≡ false → taskSound m t ≡ false
+        unfolding taskSound
+        task-4 e = rw (a, b, c, e)
+
+        module _ (e : heldGoodAt m (taskAt m t) ≡ true) where
+          pub task-5 : holderHere (taskAt m t) ≡ false → taskSound m t ≡ false
+          unfolding taskSound
+          task-5 f = rw (a, b, c, e, f)
+
+          pub task-6 : holderHere (taskAt m t) ≡ true → taskSound m t ≡ waitsInside (taskAt m t)
+          unfolding taskSound
+          task-6 f = rw (a, b, c, e, f)

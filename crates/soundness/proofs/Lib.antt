@@ -1,0 +1,2 @@
+pub mod TestedLaws
+pub mod ClauseLaws

@@ -1,0 +1,178 @@
+-- Laws of the test of soundness: its clauses regrouped, and the loops of each clause.
+use mathlib.Core.Path.{_≡_, ap, _∙_, sym}
+use mathlib.Core.Bool.{Bool, true, false, not, _&&_}
+use mathlib.Core.List.{List, []}
+use Prim.Native.Nat.{ℕ, suc, _+_, _-_, _≤_, _<_}
+use native.Mathlib.Numerals.{add-one}
+use native.Mathlib.Omega.{arith}
+use borrow.Author.Tests.{le-leb, lt-leb, lt-ltb, le-ltb, leb-true}
+use lib.Dec.{eqb, leb, ltb}
+use lib.ListN.{length, drop, getD, drop-of-length-le}
+use lib.Seq.{drop-cons}
+use Rattle.rules.specs.Limits.{lastPriority, lastDelay}
+use Rattle.rules.specs.Model.{Model, taskAt, queue, ceilingOf, active}
+use Rattle.rules.specs.Fresh.{allOf}
+use Rattle.rules.specs.Events.{noTask, timesIn}
+use Rattle.rules.specs.Sound.{sizesGood, recordGood, runnerGood, runs, queued}
+use Rattle.rules.specs.Sound.{highestRuns, dueGood, rising, eachTask, eachPriority}
+use Rattle.rules.specs.Sound.{below, numbersGood, onePlace, ownQueue, dueAhead, heldGood, holdersHere, waitingInside, sound}
+use Rattle.rules.specs.declared.Place.{Place}
+use Rattle.rules.specs.declared.Place.the-variants.{Delayed}
+use Rattle.rules.specs.declared.Runner.{Runner}
+use Rattle.rules.specs.declared.Runner.the-variants.{Task}
+use Rattle.rules.proofs.Choices.{and-left, and-right, and-make}
+use Rattle.rules.proofs.TaskLaws.{runs-self, runs-apart}
+use Rattle.rules.proofs.SoundLaws.{below-at, below-make}
+use Rattle.memory.specs.Memory.{runnerOf}
+use Rattle.soundness.specs.Tested.{onePlaceAt, heldGoodAt, holderHere, waitsInside, taskSound, queueSound, tested}
+use Rattle.memory.proofs.TestLaws.{same-test, fails-first, holds-first}
+
+-- ceilings that do not fall, in a loop from the front
+module _ (cs : List ℕ) (b low i : ℕ) (l : List ℕ) (e : rising cs b l ≡ rising cs low (drop i l)) where
+  pub rising-more : (c : ℕ) → i < length l → c ≡ ceilingOf cs (getD l i 0) → low ≤ c → rising cs b l ≡ rising cs c (drop (i + 1) l)
+  unfolding rising
+  rising-more c h f g = e ∙ rw (add-one, drop-cons l i 0 h, ← f) (holds-first (leb low c) (rising cs c (drop (suc i) l)) (le-leb low c g))
+
+  pub rising-fails : (c : ℕ) → i < length l → c ≡ ceilingOf cs (getD l i 0) → c < low → rising cs b l ≡ false
+  unfolding rising
+  rising-fails c h f g = e ∙ rw (drop-cons l i 0 h, ← f) (fails-first (leb low c) (rising cs c (drop (suc i) l)) (lt-leb low c g))
+
+  pub rising-end : length l ≤ i → rising cs b l ≡ true
+  unfolding rising
+  rising-end h = e ∙ rw (drop-of-length-le l {i = i} h)
+
+-- a due time after now, and not too far
+pub due-passed : (now d : ℕ) (x : Place) → x ≡ Delayed d → d ≤ now → dueGood now x ≡ false
+unfolding dueGood
+due-passed now d x e h = ap (dueGood now) e ∙ fails-first (ltb now d) _ (le-ltb now d h)
+
+pub due-ahead : (now d : ℕ) (x : Place) → x ≡ Delayed d → now < d → dueGood now x ≡ leb (d - now) lastDelay
+unfolding dueGood
+due-ahead now d x e h =
+    ap (dueGood now) e ∙
+    (holds-first (ltb now d) (leb d (now + lastDelay)) (lt-ltb now d h) ∙
+    same-test (leb d (now + lastDelay)) (leb (d - now) lastDelay)
+    (λ f. le-leb (d - now) lastDelay (omega (arith, leb-true d (now + lastDelay) f)))
+    (λ f. le-leb d (now + lastDelay) (omega (arith, leb-true (d - now) lastDelay f))))
+
+-- who is named as running
+pub named-none : (v t : ℕ) → v ≡ 0 → runs (runnerOf v) t ≡ 0
+unfolding runs runnerOf
+named-none v t e = ap (λ (n : ℕ). runs (runnerOf n) t) e
+
+module _ (v t : ℕ) (n : v ≡ 0 → ⊥) where
+  is-task : runnerOf v ≡ Task (v - 1)
+  unfolding runnerOf
+  is-task = let e : v ≡ suc (v - 1) = omega (arith, n) in ap runnerOf e
+
+  pub named-is : v - 1 ≡ t → runs (runnerOf v) t ≡ 1
+  named-is e = ap (λ (w : Runner). runs w t) (is-task ∙ ap Task e) ∙ runs-self t
+
+  pub named-other : (v - 1 ≡ t → ⊥) → runs (runnerOf v) t ≡ 0
+  named-other k = ap (λ (w : Runner). runs w t) is-task ∙ runs-apart (v - 1) t (λ e. k (sym e))
+
+-- how often t stands in the queues, in a loop from the first on: n times before i
+module _ (t n i : ℕ) (qs : List (List ℕ)) (e : n + queued (drop i qs) t ≡ queued qs t) where
+  pub queued-more : (c : ℕ) → i < length qs → c ≡ timesIn t (getD qs i []) → (n + c) + queued (drop (i + 1) qs) t ≡ queued qs t
+  unfolding queued
+  queued-more c h f =
+      let step : queued (drop i qs) t ≡ timesIn t (getD qs i []) + queued (drop (suc i) qs) t = rw (drop-cons qs i [] h) in
+      rw (add-one i) (omega (arith, e, step, f))
+
+  pub queued-end : length qs ≤ i → n ≡ queued qs t
+  unfolding queued
+  queued-end h =
+      let none : queued (drop i qs) t ≡ 0 = rw (drop-of-length-le qs {i = i} h) in
+      omega (arith, e, none)
+
+-- "and" of several, taken apart and made
+four-each : (a b c d : Bool) → (a && b && c && d) ≡ true → (a ≡ true) × (b ≡ true) × (c ≡ true) × (d ≡ true)
+four-each a b c d e =
+    let abc = and-left (a && b && c) d e in
+    let ab = and-left (a && b) c abc in
+    (and-left a b ab, and-right a b ab, and-right (a && b) c abc, and-right (a && b && c) d e)
+
+four-all : (a b c d : Bool) → a ≡ true → b ≡ true → c ≡ true → d ≡ true → (a && b && c && d) ≡ true
+four-all a b c d e f g h = and-make (a && b && c) d (and-make (a && b) c (and-make a b e f) g) h
+
+five-each : (a b c d e : Bool) → (a && b && c && d && e) ≡ true → (a ≡ true) × (b ≡ true) × (c ≡ true) × (d ≡ true) × (e ≡ true)
+five-each a b c d e h =
+    let x = four-each a b c d (and-left (a && b && c && d) e h) in
+    (x .0, x .1, x .2, x .3, and-right (a && b && c && d) e h)
+
+six-each : (a b c d e f : Bool) → (a && b && c && d && e && f) ≡ true →
+    (a ≡ true) × (b ≡ true) × (c ≡ true) × (d ≡ true) × (e ≡ true) × (f ≡ true)
+six-each a b c d e f h =
+    let x = five-each a b c d e (and-left (a && b && c && d && e) f h) in
+    (x .0, x .1, x .2, x .3, x .4, and-right (a && b && c && d && e) f h)
+
+eight-each : (a b c d e f g h : Bool) → (a && b && c && d && e && f && g && h) ≡ true →
+    (a ≡ true) × (b ≡ true) × (c ≡ true) × (d ≡ true) × (e ≡ true) × (f ≡ true) × (g ≡ true) × (h ≡ true)
+eight-each a b c d e f g h i =
+    let seven = and-left (a && b && c && d && e && f && g) h i in
+    let x = six-each a b c d e f (and-left (a && b && c && d && e && f) g seven) in
+    (x .0, x .1, x .2, x .3, x .4, x .5, and-right (a && b && c && d && e && f) g seven, and-right (a && b && c && d && e && f && g) h i)
+
+-- the clauses of a Model that passes the one test, and the other
+module _ (m : Model) where
+  at-task : (below (length (m .tasks)) (taskSound m) ≡ true) → (t : ℕ) → t < length (m .tasks) →
+      (recordGood m (taskAt m t) ≡ true) × (onePlaceAt m t ≡ true) × (dueGood (m .now) (taskAt m t .place) ≡ true) ×
+      (heldGoodAt m (taskAt m t) ≡ true) × (holderHere (taskAt m t) ≡ true) × (waitsInside (taskAt m t) ≡ true)
+  unfolding taskSound
+  at-task e t h =
+      six-each (recordGood m (taskAt m t)) (onePlaceAt m t) (dueGood (m .now) (taskAt m t .place)) (heldGoodAt m (taskAt m t))
+      (holderHere (taskAt m t)) (waitsInside (taskAt m t)) (below-at (length (m .tasks)) (taskSound m) e t h)
+
+  at-queue : (eachPriority (queueSound m) ≡ true) → (p : ℕ) → p < lastPriority →
+      (allOf (λ t. not (noTask m t)) (queue m (suc p)) ≡ true) × (allOf (λ t. eqb (active m t) (suc p)) (queue m (suc p)) ≡ true)
+  unfolding queueSound
+  at-queue e p h =
+      let both = below-at lastPriority (λ q. queueSound m (suc q)) e p h in
+      let known = allOf (λ t. not (noTask m t)) (queue m (suc p)) in
+      let own = allOf (λ t. eqb (active m t) (suc p)) (queue m (suc p)) in
+      (and-left known own both, and-right known own both)
+
+  tested-sound : tested m ≡ true → sound m ≡ true
+  unfolding tested sound numbersGood onePlace ownQueue dueAhead heldGood holdersHere waitingInside
+  tested-sound e =
+      let x = five-each (sizesGood m) (runnerGood m (m .running)) (highestRuns m (m .running))
+      (below (length (m .tasks)) (taskSound m)) (eachPriority (queueSound m)) e in
+      let task = at-task (x .3) in
+      let line = at-queue (x .4) in
+      let count = length (m .tasks) in
+      let records = below-make count (λ t. recordGood m (taskAt m t)) (λ t h. task t h .0) in
+      let known = below-make lastPriority (λ p. allOf (λ t. not (noTask m t)) (queue m (suc p))) (λ p h. line p h .0) in
+      let own = below-make lastPriority (λ p. allOf (λ t. eqb (active m t) (suc p)) (queue m (suc p))) (λ p h. line p h .1) in
+      let places = below-make count (onePlaceAt m) (λ t h. task t h .1) in
+      let dues = below-make count (λ t. dueGood (m .now) (taskAt m t .place)) (λ t h. task t h .2) in
+      let lists = below-make count (λ t. heldGoodAt m (taskAt m t)) (λ t h. task t h .3) in
+      let holders = below-make count (λ t. holderHere (taskAt m t)) (λ t h. task t h .4) in
+      let waits = below-make count (λ t. waitsInside (taskAt m t)) (λ t h. task t h .5) in
+      rw (x .0, records, x .1, known, places, own, dues, x .2, lists, holders, waits)
+
+  sound-tested : sound m ≡ true → tested m ≡ true
+  unfolding tested sound numbersGood onePlace ownQueue dueAhead heldGood holdersHere waitingInside taskSound queueSound
+  sound-tested e =
+      let x = eight-each (numbersGood m) (onePlace m) (ownQueue m) (dueAhead m) (highestRuns m (m .running)) (heldGood m)
+      (holdersHere m) (waitingInside m) e in
+      let count = length (m .tasks) in
+      let known = eachPriority (λ p. allOf (λ t. not (noTask m t)) (queue m p)) in
+      let y = four-each (sizesGood m) (eachTask m (recordGood m)) (runnerGood m (m .running)) known (x .0) in
+      let tasks = below-make count (taskSound m) (λ t h.
+      rw (
+        below-at count (λ t. recordGood m (taskAt m t)) (y .1) t h,
+        below-at count (onePlaceAt m) (x .1) t h,
+        below-at count (λ t. dueGood (m .now) (taskAt m t .place)) (x .3) t h,
+        below-at count (λ t. heldGoodAt m (taskAt m t)) (x .5) t h,
+        below-at count (λ t. holderHere (taskAt m t)) (x .6) t h,
+        below-at count (λ t. waitsInside (taskAt m t)) (x .7) t h,
+      )) in
+      let lines = below-make lastPriority (λ p. queueSound m (suc p)) (λ p h.
+      rw (
+        below-at lastPriority (λ p. allOf (λ t. not (noTask m t)) (queue m (suc p))) (y .3) p h,
+        below-at lastPriority (λ p. allOf (λ t. eqb (active m t) (suc p)) (queue m (suc p))) (x .2) p h,
+      )) in
+      rw (y .0, y .2, x .4, tasks, lines)
+
+pub tested-is : (m : Model) → tested m ≡ sound m
+tested-is m = same-test (tested m) (sound m) (tested-sound m) (sound-tested m)

@@ -1,0 +1,83 @@
+-- `soundness::sound` meets its contract.
+use mathlib.Core.Path.{_∙_, sym}
+use Prim.Native.Nat.{_-_}
+use borrow.Author.Needs.{needs}
+use borrow.Author.Tests.{not-true, not-false}
+use Rattle.soundness.proofs.ClauseLaws.{tested-all}
+use Rattle.memory.proofs.TestLaws.{fails-first, holds-first}
+use Rattle.soundness.proofs.TestedLaws.{tested-is}
+use Rattle.soundness.proofs.sound.Statement.{statement}
+use Rattle.soundness.proofs.sound.Tie as tie
+
+head-good-requires : tie.Need-head-good-requires
+head-good-requires c κs = search needs
+
+returns : tie.Need-returns
+returns c =
+    let at-head-good = c .before in
+    let entry = at-head-good .before .before .before .before .before in
+    let all = sym (tested-is _) ∙ tested-all (entry .pre) in
+    let a = sym (at-head-good .head-good .ensures) ∙ not-true _ (c .if1 .taken) in
+    sym (all ∙ fails-first _ _ (fails-first _ _ (fails-first _ _ a)))
+
+highest-runs-requires : tie.Need-highest-runs-requires
+highest-runs-requires c κs = search needs
+
+returns-2 : tie.Need-returns-2
+returns-2 c =
+    let at-highest-runs = c .before in
+    let at-if1 = at-highest-runs .before in
+    let at-head-good = at-if1 .before in
+    let entry = at-head-good .before .before .before .before .before in
+    let all = sym (tested-is _) ∙ tested-all (entry .pre) in
+    let a = sym (at-head-good .head-good .ensures) ∙ not-false _ (at-if1 .if1 .left) in
+    let b = holds-first _ _ a ∙ (sym (at-highest-runs .highest-runs .ensures) ∙ not-true _ (c .if2 .taken)) in
+    sym (all ∙ fails-first _ _ (fails-first _ _ b))
+
+tasks-good-requires : tie.Need-tasks-good-requires
+tasks-good-requires c κs = search needs
+
+returns-3 : tie.Need-returns-3
+returns-3 c =
+    let at-tasks-good = c .before in
+    let at-if2 = at-tasks-good .before in
+    let at-highest-runs = at-if2 .before in
+    let at-if1 = at-highest-runs .before in
+    let at-head-good = at-if1 .before in
+    let entry = at-head-good .before .before .before .before .before in
+    let all = sym (tested-is _) ∙ tested-all (entry .pre) in
+    let a = sym (at-head-good .head-good .ensures) ∙ not-false _ (at-if1 .if1 .left) in
+    let b = holds-first _ _ a ∙ (sym (at-highest-runs .highest-runs .ensures) ∙ not-false _ (at-if2 .if2 .left)) in
+    let f = holds-first _ _ b ∙ (sym (at-tasks-good .tasks-good .ensures) ∙ not-true _ (c .if3 .taken)) in
+    sym (all ∙ fails-first _ _ f)
+
+queues-good-requires : tie.Need-queues-good-requires
+queues-good-requires c κs = search needs
+
+returns-4 : tie.Need-returns-4
+returns-4 c =
+    let at-if3 = c .before in
+    let at-tasks-good = at-if3 .before in
+    let at-if2 = at-tasks-good .before in
+    let at-highest-runs = at-if2 .before in
+    let at-if1 = at-highest-runs .before in
+    let at-head-good = at-if1 .before in
+    let entry = at-head-good .before .before .before .before .before in
+    let all = sym (tested-is _) ∙ tested-all (entry .pre) in
+    let a = sym (at-head-good .head-good .ensures) ∙ not-false _ (at-if1 .if1 .left) in
+    let b = holds-first _ _ a ∙ (sym (at-highest-runs .highest-runs .ensures) ∙ not-false _ (at-if2 .if2 .left)) in
+    let f = holds-first _ _ b ∙ (sym (at-tasks-good .tasks-good .ensures) ∙ not-false _ (at-if3 .if3 .left)) in
+    c .queues-good .ensures ∙ sym (all ∙ holds-first _ _ f)
+
+pub sound-spec : {M : Type 1} → statement M
+sound-spec =
+    tie.close
+    (tie.spec
+    head-good-requires
+    returns
+    highest-runs-requires
+    returns-2
+    tasks-good-requires
+    returns-3
+    queues-good-requires
+    returns-4)

@@ -1,0 +1,515 @@
+// Internal: pub only for our own crates. The test of soundness, clause by clause as in specs/Sound.antt of crate rules, of slices
+// that are laid out.
+ghost use mathlib.Core.Path.{_≡_};
+ghost use mathlib.Core.Bool.{not, _&&_, _||_};
+ghost use Prim.Native.Nat.{_+_, _≤_, _<_};
+ghost use lib.Dec.{eqb, leb, ltb};
+ghost use lib.ListN.{length, take, getD};
+ghost use Rattle.rules.specs.Limits.{taskLimit, lastReading};
+ghost use Rattle.rules.specs.Priorities.{inRange};
+ghost use Rattle.rules.specs.Model.{taskAt, queue, active};
+ghost use Rattle.rules.specs.Fresh.{allOf};
+ghost use Rattle.rules.specs.Sound.{below, eachPriority, waitingGood, recordGood, runs, isRunning, isReady, queued, dueGood, isNone};
+ghost use Rattle.rules.specs.Sound.{rising, sizesGood, runnerGood, highestRuns, sound};
+ghost use Rattle.memory.specs.Rows.{HasQueue, queuesIn, Queues, heldBy, Held};
+ghost use Rattle.memory.specs.Memory.{nowCell, runningCell, taskCount, objectCount, runnerOf, waitingIn, modelOf, Laid};
+ghost use Rattle.soundness.specs.Tested.{onePlaceAt, heldGoodAt, taskSound, queueSound};
+use memory::held;
+use memory::priorities;
+use memory::queues;
+use memory::sizes::HEAD_WIDTH;
+use memory::sizes::HELD_WIDTH;
+use memory::sizes::LAST_DELAY;
+use memory::sizes::LAST_READING;
+use memory::sizes::NOW_CELL;
+use memory::sizes::OBJECTS_CELL;
+use memory::sizes::QUEUE_WIDTH;
+use memory::sizes::RUNNING_CELL;
+use memory::sizes::TASKS_CELL;
+use memory::tasks;
+use rules::Place;
+use rules::Priority;
+use rules::WaitingBase;
+
+fn in_range(p: u8) -> bool
+    ensures { λ r. ⌜ r ≡ inRange p ⌝ }
+{
+    let first = Priority::FIRST;
+    let last = Priority::LAST;
+    if p < first.0 {
+        return false;
+    }
+    p <= last.0
+}
+
+fn waiting_good(waiting: WaitingBase) -> bool
+    ensures { λ r. ⌜ r ≡ waitingGood (waitingIn waiting) ⌝ }
+{
+    match waiting {
+        WaitingBase::Nothing => true,
+        WaitingBase::Base(p) => in_range(p.0),
+    }
+}
+
+fn is_none(waiting: WaitingBase) -> bool
+    ensures { λ r. ⌜ r ≡ isNone (waitingIn waiting) ⌝ }
+{
+    match waiting {
+        WaitingBase::Nothing => true,
+        WaitingBase::Base(_) => false,
+    }
+}
+
+// 1 where the place is Running; where it is Ready.
+fn is_running(place: Place) -> usize
+    ensures { λ r. ⌜ r ≡ isRunning place ⌝ }
+{
+    match place {
+        Place::Running => 1,
+        Place::Ready => 0,
+        Place::Delayed(_) => 0,
+        Place::Suspended => 0,
+        Place::Ended => 0,
+    }
+}
+
+fn is_ready(place: Place) -> usize
+    ensures { λ r. ⌜ r ≡ isReady place ⌝ }
+{
+    match place {
+        Place::Running => 0,
+        Place::Ready => 1,
+        Place::Delayed(_) => 0,
+        Place::Suspended => 0,
+        Place::Ended => 0,
+    }
+}
+
+// A due time not after now, or too far past it, is not good.
+fn due_good(now: u64, place: Place) -> bool
+    ensures { λ r. ⌜ r ≡ dueGood now place ⌝ }
+{
+    match place {
+        Place::Running => true,
+        Place::Ready => true,
+        Place::Delayed(due) => {
+            if due <= now {
+                return false;
+            }
+            due - now <= LAST_DELAY
+        }
+        Place::Suspended => true,
+        Place::Ended => true,
+    }
+}
+
+// 1 where the head's running cell names the task t.
+fn named(running: u64, t: usize) -> usize
+    ensures { λ r. ⌜ r ≡ runs (runnerOf running) t ⌝ }
+{
+    if running == 0 {
+        return 0;
+    }
+    if running - 1 == t as u64 {
+        return 1;
+    }
+    0
+}
+
+// How often t stands in the ready queues.
+fn count_queued(queues: &[u8], t: u8) -> usize
+    requires { ⌜ Queues (now queues) ⌝ }
+    ensures { λ r. ⌜ r ≡ queued (queuesIn (now (queues .entry))) t ⌝ }
+{
+    let last = Priority::LAST;
+    let mut n: usize = 0;
+    let mut p: u8 = 0;
+    while p < last.0 {
+        p += 1;
+        n += queues::count(queues, Priority(p), t);
+    }
+    n
+}
+
+fn ceilings_good(ceilings: &[u8], n: usize) -> bool
+    requires { ⌜ n ≤ length (now ceilings) ⌝ }
+    ensures { λ r. ⌜ r ≡ allOf inRange (take n (now (ceilings .entry))) ⌝ }
+{
+    let mut i: usize = 0;
+    while i < n {
+        if !in_range(ceilings[i]) {
+            return false;
+        }
+        i += 1;
+    }
+    true
+}
+
+// The ceilings of what t holds do not fall, from p on.
+fn rises(held: &[u8], ceilings: &[u8], n: usize, t: usize, p: u8) -> bool
+    requires { ⌜ t < taskLimit ⌝ }
+    requires { ⌜ n ≤ length (now ceilings) ⌝ }
+    requires { ⌜ Held (now held) ⌝ }
+    ensures { λ r. ⌜ r ≡ rising (take n (now (ceilings .entry))) p (heldBy (now (held .entry)) t) ⌝ }
+{
+    let row = t * HELD_WIDTH;
+    let size = held[row] as usize;
+    let mut low = p;
+    let mut i: usize = 0;
+    while i < size {
+        let c = priorities::ceiling(ceilings, n, held[row + (i + 1)]);
+        if c < low {
+            return false;
+        }
+        low = c;
+        i += 1;
+    }
+    true
+}
+
+// A holder is ready or running.
+fn holder_here(depth: u8, place: Place) -> bool
+    ensures { λ r. ⌜ r ≡ (not (ltb 0 depth) || eqb (isReady place + isRunning place) 1) ⌝ }
+{
+    if depth == 0 {
+        return true;
+    }
+    is_ready(place) + is_running(place) == 1
+}
+
+// A base waits only inside an action.
+fn waits_inside(depth: u8, waiting: WaitingBase) -> bool
+    ensures { λ r. ⌜ r ≡ (ltb 0 depth || isNone (waitingIn waiting)) ⌝ }
+{
+    if 0 < depth {
+        return true;
+    }
+    is_none(waiting)
+}
+
+// The counts, now, the ceilings and the running task are in range.
+fn head_good(
+    head: &[u64; HEAD_WIDTH],
+    tasks: &[u64],
+    held: &[u8],
+    ceilings: &[u8],
+    queues: &[u8],
+) -> bool
+    requires { ⌜ Laid (now head) (now tasks) (now held) (now ceilings) (now queues) ⌝ }
+    ensures { λ r.
+        ⌜ r ≡
+        (sizesGood
+        (modelOf (now (head .entry)) (now (tasks .entry)) (now (held .entry)) (now (ceilings .entry)) (now (queues .entry))) &&
+        runnerGood
+        (modelOf (now (head .entry)) (now (tasks .entry)) (now (held .entry)) (now (ceilings .entry)) (now (queues .entry)))
+        (runnerOf (getD (now (head .entry)) runningCell 0))) ⌝ }
+{
+    if head[TASKS_CELL] == 0 {
+        return false;
+    }
+    if LAST_READING < head[NOW_CELL] {
+        return false;
+    }
+    if !ceilings_good(ceilings, head[OBJECTS_CELL] as usize) {
+        return false;
+    }
+    head[RUNNING_CELL] <= head[TASKS_CELL]
+}
+
+// The active priority of any number; 0 where there is no such task.
+fn active_of(
+    head: &[u64; HEAD_WIDTH],
+    tasks: &[u64],
+    held: &[u8],
+    ceilings: &[u8],
+    queues: &[u8],
+    t: usize,
+) -> Priority
+    requires { ⌜ Laid (now head) (now tasks) (now held) (now ceilings) (now queues) ⌝ }
+    ensures { λ r.
+        ⌜ r .0 ≡
+        active
+        (modelOf (now (head .entry)) (now (tasks .entry)) (now (held .entry)) (now (ceilings .entry)) (now (queues .entry)))
+        t ⌝ }
+{
+    if head[TASKS_CELL] <= t as u64 {
+        return Priority(0);
+    }
+    priorities::active(head, tasks, held, ceilings, queues, t)
+}
+
+// No ready task is above the running one, and somebody runs if one is ready.
+fn highest_runs(
+    head: &[u64; HEAD_WIDTH],
+    tasks: &[u64],
+    held: &[u8],
+    ceilings: &[u8],
+    queues: &[u8],
+) -> bool
+    requires { ⌜ Laid (now head) (now tasks) (now held) (now ceilings) (now queues) ⌝ }
+    ensures { λ r.
+        ⌜ r ≡
+        highestRuns
+        (modelOf (now (head .entry)) (now (tasks .entry)) (now (held .entry)) (now (ceilings .entry)) (now (queues .entry)))
+        (runnerOf (getD (now (head .entry)) runningCell 0)) ⌝ }
+{
+    let p = priorities::highest(queues);
+    let running = head[RUNNING_CELL];
+    if running == 0 {
+        return p.0 == 0;
+    }
+    let a = active_of(head, tasks, held, ceilings, queues, (running - 1) as usize);
+    p.0 <= a.0
+}
+
+// The bases and the held objects of t are in range.
+fn record_good(
+    head: &[u64; HEAD_WIDTH],
+    tasks: &[u64],
+    held: &[u8],
+    ceilings: &[u8],
+    queues: &[u8],
+    t: usize,
+) -> bool
+    requires { ⌜ Laid (now head) (now tasks) (now held) (now ceilings) (now queues) ⌝ }
+    requires { ⌜ t < taskCount (now head) ⌝ }
+    ensures { λ r.
+        ⌜ r ≡
+        recordGood
+        (modelOf (now (head .entry)) (now (tasks .entry)) (now (held .entry)) (now (ceilings .entry)) (now (queues .entry)))
+        (taskAt
+        (modelOf (now (head .entry)) (now (tasks .entry)) (now (held .entry)) (now (ceilings .entry)) (now (queues .entry)))
+        t) ⌝ }
+{
+    let base = tasks::base(tasks, t);
+    if !in_range(base.0) {
+        return false;
+    }
+    if !waiting_good(tasks::waiting(tasks, t)) {
+        return false;
+    }
+    held::all_below(held, t, head[OBJECTS_CELL] as usize)
+}
+
+// t is in one place.
+fn one_place(
+    head: &[u64; HEAD_WIDTH],
+    tasks: &[u64],
+    held: &[u8],
+    ceilings: &[u8],
+    queues: &[u8],
+    t: usize,
+) -> bool
+    requires { ⌜ Laid (now head) (now tasks) (now held) (now ceilings) (now queues) ⌝ }
+    requires { ⌜ t < taskCount (now head) ⌝ }
+    ensures { λ r.
+        ⌜ r ≡
+        onePlaceAt
+        (modelOf (now (head .entry)) (now (tasks .entry)) (now (held .entry)) (now (ceilings .entry)) (now (queues .entry)))
+        t ⌝ }
+{
+    let place = tasks::place(tasks, t);
+    if named(head[RUNNING_CELL], t) != is_running(place) {
+        return false;
+    }
+    count_queued(queues, t as u8) == is_ready(place)
+}
+
+// What t holds is held once, with ceilings that do not fall.
+fn held_good(
+    head: &[u64; HEAD_WIDTH],
+    tasks: &[u64],
+    held: &[u8],
+    ceilings: &[u8],
+    queues: &[u8],
+    t: usize,
+) -> bool
+    requires { ⌜ Laid (now head) (now tasks) (now held) (now ceilings) (now queues) ⌝ }
+    requires { ⌜ t < taskCount (now head) ⌝ }
+    ensures { λ r.
+        ⌜ r ≡
+        heldGoodAt
+        (modelOf (now (head .entry)) (now (tasks .entry)) (now (held .entry)) (now (ceilings .entry)) (now (queues .entry)))
+        (taskAt
+        (modelOf (now (head .entry)) (now (tasks .entry)) (now (held .entry)) (now (ceilings .entry)) (now (queues .entry)))
+        t) ⌝ }
+{
+    if !held::distinct(held, t) {
+        return false;
+    }
+    let base = tasks::base(tasks, t);
+    rises(held, ceilings, head[OBJECTS_CELL] as usize, t, base.0)
+}
+
+// All clauses about t.
+fn task_good(
+    head: &[u64; HEAD_WIDTH],
+    tasks: &[u64],
+    held: &[u8],
+    ceilings: &[u8],
+    queues: &[u8],
+    t: usize,
+) -> bool
+    requires { ⌜ Laid (now head) (now tasks) (now held) (now ceilings) (now queues) ⌝ }
+    requires { ⌜ t < taskCount (now head) ⌝ }
+    ensures { λ r.
+        ⌜ r ≡
+        taskSound
+        (modelOf (now (head .entry)) (now (tasks .entry)) (now (held .entry)) (now (ceilings .entry)) (now (queues .entry)))
+        t ⌝ }
+{
+    if !record_good(head, tasks, held, ceilings, queues, t) {
+        return false;
+    }
+    if !one_place(head, tasks, held, ceilings, queues, t) {
+        return false;
+    }
+    let place = tasks::place(tasks, t);
+    if !due_good(head[NOW_CELL], place) {
+        return false;
+    }
+    if !held_good(head, tasks, held, ceilings, queues, t) {
+        return false;
+    }
+    let depth = held::depth(held, t);
+    if !holder_here(depth, place) {
+        return false;
+    }
+    waits_inside(depth, tasks::waiting(tasks, t))
+}
+
+fn tasks_good(
+    head: &[u64; HEAD_WIDTH],
+    tasks: &[u64],
+    held: &[u8],
+    ceilings: &[u8],
+    queues: &[u8],
+) -> bool
+    requires { ⌜ Laid (now head) (now tasks) (now held) (now ceilings) (now queues) ⌝ }
+    ensures { λ r.
+        ⌜ r ≡
+        below (taskCount (now (head .entry)))
+        (taskSound
+        (modelOf (now (head .entry)) (now (tasks .entry)) (now (held .entry)) (now (ceilings .entry)) (now (queues .entry)))) ⌝ }
+{
+    let n = head[TASKS_CELL] as usize;
+    let mut t: usize = 0;
+    while t < n {
+        if !task_good(head, tasks, held, ceilings, queues, t) {
+            return false;
+        }
+        t += 1;
+    }
+    true
+}
+
+// All tasks in the queue for p have the active priority p.
+fn own_queue(
+    head: &[u64; HEAD_WIDTH],
+    tasks: &[u64],
+    held: &[u8],
+    ceilings: &[u8],
+    queues: &[u8],
+    p: Priority,
+) -> bool
+    requires { ⌜ Laid (now head) (now tasks) (now held) (now ceilings) (now queues) ⌝ }
+    requires { ⌜ HasQueue (p .0) ⌝ }
+    ensures { λ r.
+        ⌜ r ≡
+        allOf
+        (λ t.
+        eqb
+        (active
+        (modelOf (now (head .entry)) (now (tasks .entry)) (now (held .entry)) (now (ceilings .entry)) (now (queues .entry)))
+        t)
+        (p .0))
+        (queue
+        (modelOf (now (head .entry)) (now (tasks .entry)) (now (held .entry)) (now (ceilings .entry)) (now (queues .entry)))
+        (p .0)) ⌝ }
+{
+    let row = (p.0 as usize - 1) * QUEUE_WIDTH;
+    let size = queues[row] as usize;
+    let mut i: usize = 0;
+    while i < size {
+        let t = queues[row + (i + 1)] as usize;
+        let a = active_of(head, tasks, held, ceilings, queues, t);
+        if a.0 != p.0 {
+            return false;
+        }
+        i += 1;
+    }
+    true
+}
+
+// All clauses about the queue for p.
+fn queue_good(
+    head: &[u64; HEAD_WIDTH],
+    tasks: &[u64],
+    held: &[u8],
+    ceilings: &[u8],
+    queues: &[u8],
+    p: Priority,
+) -> bool
+    requires { ⌜ Laid (now head) (now tasks) (now held) (now ceilings) (now queues) ⌝ }
+    requires { ⌜ HasQueue (p .0) ⌝ }
+    ensures { λ r.
+        ⌜ r ≡
+        queueSound
+        (modelOf (now (head .entry)) (now (tasks .entry)) (now (held .entry)) (now (ceilings .entry)) (now (queues .entry)))
+        (p .0) ⌝ }
+{
+    if !queues::all_below(queues, p, head[TASKS_CELL] as usize) {
+        return false;
+    }
+    own_queue(head, tasks, held, ceilings, queues, p)
+}
+
+fn queues_good(
+    head: &[u64; HEAD_WIDTH],
+    tasks: &[u64],
+    held: &[u8],
+    ceilings: &[u8],
+    queues: &[u8],
+) -> bool
+    requires { ⌜ Laid (now head) (now tasks) (now held) (now ceilings) (now queues) ⌝ }
+    ensures { λ r.
+        ⌜ r ≡
+        eachPriority
+        (queueSound
+        (modelOf (now (head .entry)) (now (tasks .entry)) (now (held .entry)) (now (ceilings .entry)) (now (queues .entry)))) ⌝ }
+{
+    let last = Priority::LAST;
+    let mut p: u8 = 0;
+    while p < last.0 {
+        if !queue_good(head, tasks, held, ceilings, queues, Priority(p + 1)) {
+            return false;
+        }
+        p += 1;
+    }
+    true
+}
+
+pub fn sound(
+    head: &[u64; HEAD_WIDTH],
+    tasks: &[u64],
+    held: &[u8],
+    ceilings: &[u8],
+    queues: &[u8],
+) -> bool
+    requires { ⌜ Laid (now head) (now tasks) (now held) (now ceilings) (now queues) ⌝ }
+    ensures { λ r.
+        ⌜ r ≡
+        sound
+        (modelOf (now (head .entry)) (now (tasks .entry)) (now (held .entry)) (now (ceilings .entry)) (now (queues .entry))) ⌝ }
+{
+    if !head_good(head, tasks, held, ceilings, queues) {
+        return false;
+    }
+    if !highest_runs(head, tasks, held, ceilings, queues) {
+        return false;
+    }
+    if !tasks_good(head, tasks, held, ceilings, queues) {
+        return false;
+    }
+    queues_good(head, tasks, held, ceilings, queues)
+}
