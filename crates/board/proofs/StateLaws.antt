@@ -23,7 +23,7 @@ use Rattle.board.specs.declared.FillAnswer.{FillAnswer}
 use Rattle.board.specs.declared.NextAnswer.{NextAnswer}
 use Rattle.board.specs.Rows.{rowLimit, Filling, fillNumber, fillingOf, behind, toldOf}
 use Rattle.board.specs.Scan.{nextOf}
-use Rattle.board.specs.Fill.{rowOf, rowsTo, rowsOf, answerOf, boardAfter, fillOf, fillFirstOf, writtenOf}
+use Rattle.board.specs.Fill.{rowOf, rowsTo, rowsOf, answerOf, boardAfter, fillOf, fillFirstOf, pairsWritten}
 use Rattle.board.proofs.FillLaws.{rows-length, filled-ready, filled-nobody}
 use Rattle.board.proofs.FoldLaws.{filledTo, filled-length, filled-is}
 
@@ -50,12 +50,12 @@ module _ (s : State) (n : ℕ) where
   answer-unsound e = cond-false (soundOf s) _ FillAnswer.Unsound e
 
   -- how many rows are written: there is room for them, and none where the state is not sound
-  pub written-room : (i : ℕ) → i < writtenOf s (answerOf s n) → (soundOf s ≡ true) × ((i < count) × (count ≤ n))
+  pub written-room : (i : ℕ) → i < pairsWritten s (answerOf s n) → (soundOf s ≡ true) × ((i < count) × (count ≤ n))
   unfolding answerOf
   written-room i = go (soundOf s) (ltb n count) refl refl
     where
       go : (a b : Bool) → soundOf s ≡ a → ltb n count ≡ b →
-          i < writtenOf s (cond a (cond b FillAnswer.TooFewRows FillAnswer.Done) FillAnswer.Unsound) →
+          i < pairsWritten s (cond a (cond b FillAnswer.TooFewRows FillAnswer.Done) FillAnswer.Unsound) →
           (soundOf s ≡ true) × ((i < count) × (count ≤ n))
       go true true e f h = absurd (not-suc-le-zero h)
       go true false e f h = (e, (h, ltb-false n count f))
@@ -67,12 +67,12 @@ module _ (s : State) (ys : List Row) where
   told = answerOf s (length ys)
 
   -- what the walk leaves is what is promised
-  pub board-is : filledTo (rowOf (view s)) (writtenOf s told) ys ≡ boardAfter s told ys
+  pub board-is : filledTo (rowOf (view s)) (pairsWritten s told) ys ≡ boardAfter s told ys
   unfolding boardAfter rowsTo
   board-is = go told (λ i h. written-room s (length ys) i h .1 .1)
     where
-      go : (a : FillAnswer) → ((i : ℕ) → i < writtenOf s a → length (view s .tasks) ≤ length ys) →
-          filledTo (rowOf (view s)) (writtenOf s a) ys ≡ boardAfter s a ys
+      go : (a : FillAnswer) → ((i : ℕ) → i < pairsWritten s a → length (view s .tasks) ≤ length ys) →
+          filledTo (rowOf (view s)) (pairsWritten s a) ys ≡ boardAfter s a ys
       go FillAnswer.Done h =
           filled-is (rowOf (view s)) (rowsTo (view s)) refl (λ n. refl) (length (view s .tasks)) ys (room (length (view s .tasks)) h)
         where
@@ -84,7 +84,7 @@ module _ (s : State) (ys : List Row) where
 
   -- no row is added and none is lost
   pub board-length : length (boardAfter s told ys) ≡ length ys
-  board-length = ap length (sym board-is) ∙ filled-length (rowOf (view s)) (writtenOf s told) ys
+  board-length = ap length (sym board-is) ∙ filled-length (rowOf (view s)) (pairsWritten s told) ys
 
   -- ---- a board just filled from a sound state
   module _ (good : soundOf s ≡ true) (room : length (view s .tasks) ≤ length ys) where

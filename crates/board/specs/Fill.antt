@@ -65,7 +65,7 @@ fillFirstOf s rows count =
     (behind (fillOf s (take count rows)) (drop count rows))
 
 -- how many rows are written with an answer
-abbrev pub writtenOf : State → FillAnswer → ℕ
-writtenOf s FillAnswer.Done = length (view s .tasks)
-writtenOf s FillAnswer.Unsound = 0
-writtenOf s FillAnswer.TooFewRows = 0
+abbrev pub pairsWritten : State → FillAnswer → ℕ
+pairsWritten s FillAnswer.Done = length (view s .tasks)
+pairsWritten s FillAnswer.Unsound = 0
+pairsWritten s FillAnswer.TooFewRows = 0

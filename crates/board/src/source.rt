@@ -8,7 +8,7 @@ ghost use Rattle.dispatch.specs.State.{view};
 ghost use Rattle.dispatch.specs.Sound.{soundOf};
 ghost use Rattle.dispatch.specs.Readers.{queueOf};
 ghost use Rattle.board.specs.Rows.{readyKind};
-ghost use Rattle.board.specs.Fill.{kindOf, standBefore, rowOf, answerOf, writtenOf};
+ghost use Rattle.board.specs.Fill.{kindOf, standBefore, rowOf, answerOf, pairsWritten};
 use crate::FillAnswer;
 use crate::PlaceKind;
 use crate::ROW_LIMIT;
@@ -42,7 +42,7 @@ pub fn fill_answer(state: State, n: usize) -> FillAnswer
 
 // How many rows are written with that answer.
 pub fn written(state: State, answer: FillAnswer) -> usize
-    ensures { λ r. ⌜ r ≡ writtenOf state answer ⌝ }
+    ensures { λ r. ⌜ r ≡ pairsWritten state answer ⌝ }
 {
     let n = tasks_in(state);
     match answer {

@@ -6,16 +6,16 @@ use Prim.Native.Nat.{ℕ, _*_, _≤_}
 use native.Mathlib.Omega.{arith}
 use lib.Dec.{ltb}
 use Rattle.rules.proofs.Choices.{both-ways}
-use Rattle.roster.specs.Answers.{numberOf, taskOf, positionOf, passed}
-use Rattle.roster.specs.Limits.{largestRoster}
-use Rattle.roster.specs.Check.{checkOf}
-use Rattle.roster.specs.declared.Verdict.{Verdict}
-use Rattle.roster.proofs.PositionLaws.{check-small}
-use Rattle.run.specs.Answers as Run
-use Rattle.run.specs.Limits.{pairSize}
-use Rattle.run.specs.Inputs.{eventCount, eventsGood}
-use Rattle.run.specs.Run.{answerOf}
-use Rattle.run.specs.declared.RunAnswer.{RunAnswer}
+use Rattle.format.specs.Answers.{numberOf, taskOf, positionOf, passed}
+use Rattle.format.specs.Limits.{largestRoster}
+use Rattle.format.specs.Check.{checkOf}
+use Rattle.format.specs.declared.Verdict.{Verdict}
+use Rattle.format.proofs.PositionLaws.{check-small}
+use Rattle.trace.specs.Answers as Run
+use Rattle.trace.specs.Limits.{pairSize}
+use Rattle.trace.specs.Inputs.{eventCount, eventsGood}
+use Rattle.trace.specs.Run.{answerOf}
+use Rattle.trace.specs.declared.RunAnswer.{RunAnswer}
 use Rattle.exports.specs.Packed.{packed, packedVerdict, packedRun}
 
 pub pack-verdict : (v w : Verdict) (n t p r : ℕ) → v ≡ w → n ≡ numberOf v → t ≡ taskOf v → p ≡ positionOf v → r ≡ packed n t p →

@@ -3,10 +3,10 @@ use mathlib.Core.Path.{_≡_, ap, sym, _∙_}
 use mathlib.Core.Bool.{Bool, true, false, cond}
 use mathlib.Core.List.{List}
 use Prim.Native.Nat.{ℕ}
-use Rattle.roster.specs.Answers.{passed}
-use Rattle.roster.specs.Format.{startAt}
-use Rattle.roster.specs.Form.{scriptAnswer}
-use Rattle.roster.specs.declared.Verdict.{Verdict}
+use Rattle.format.specs.Answers.{passed}
+use Rattle.format.specs.Format.{startAt}
+use Rattle.format.specs.Form.{scriptAnswer}
+use Rattle.format.specs.declared.Verdict.{Verdict}
 use Rattle.exports.specs.Packed.{scriptStart}
 
 module _ (s : List ℕ) (t : ℕ) (v : Verdict) (b : Bool) (e : v ≡ scriptAnswer s t) (f : b ≡ passed v) where

@@ -2,12 +2,12 @@
 use mathlib.Core.Bool.{cond}
 use mathlib.Core.List.{List}
 use Prim.Native.Nat.{ℕ, _+_, _*_}
-use Rattle.roster.specs.Answers.{numberOf, taskOf, positionOf, passed}
-use Rattle.roster.specs.Format.{startAt}
-use Rattle.roster.specs.Form.{scriptAnswer}
-use Rattle.roster.specs.declared.Verdict.{Verdict}
-use Rattle.run.specs.Answers as Run
-use Rattle.run.specs.declared.RunAnswer.{RunAnswer}
+use Rattle.format.specs.Answers.{numberOf, taskOf, positionOf, passed}
+use Rattle.format.specs.Format.{startAt}
+use Rattle.format.specs.Form.{scriptAnswer}
+use Rattle.format.specs.declared.Verdict.{Verdict}
+use Rattle.trace.specs.Answers as Run
+use Rattle.trace.specs.declared.RunAnswer.{RunAnswer}
 
 -- an answer in one number: its own in the lowest byte, the task in the next, the step above
 unfoldable pub packed : ℕ → ℕ → ℕ → ℕ

@@ -2,13 +2,12 @@
 ghost use mathlib.Core.Path.{_≡_};
 ghost use Prim.Native.Nat.{_≤_};
 ghost use lib.ListN.{length};
-ghost use Rattle.roster.specs.Answers.{numberOf};
-ghost use Rattle.roster.specs.Limits.{largestRoster};
-ghost use Rattle.roster.specs.Form.{formOf, scriptAnswer, scriptPart};
-ghost use Rattle.roster.specs.Check.{checkOf};
-ghost use Rattle.run.specs.Run.{answerOf, bufferOf};
+ghost use Rattle.format.specs.Answers.{numberOf};
+ghost use Rattle.format.specs.Limits.{largestRoster};
+ghost use Rattle.format.specs.Form.{formOf, scriptAnswer, scriptPart};
+ghost use Rattle.format.specs.Check.{checkOf};
+ghost use Rattle.trace.specs.Run.{answerOf, bufferOf};
 ghost use Rattle.exports.specs.Packed.{packed, packedVerdict, packedRun, scriptStart};
-use roster::format;
 
 mod boards;
 mod states;
@@ -52,7 +51,7 @@ pub extern "C" fn dispatch_script_start(roster: &[u8], t: u64) -> u64
     ensures { λ r. ⌜ r ≡ scriptStart (now (roster .entry)) t ⌝ }
 {
     if roster::script_answer(roster, t as usize).passed() {
-        return format::start_at(roster, t as u8) as u64;
+        return fields::start_at(roster, t as u8) as u64;
     }
     0
 }

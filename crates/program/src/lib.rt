@@ -3,10 +3,10 @@ ghost use mathlib.Core.Path.{_≡_};
 ghost use Prim.Native.Nat.{_≤_};
 ghost use lib.ListN.{length, take};
 ghost use Rattle.io.specs.Counts.{Counts};
-ghost use Rattle.run.specs.Report.{linesEnough, printed};
+ghost use Rattle.lines.specs.Printed.{linesEnough, printed};
 use libc::STDIN_FILENO;
 use libc::STDOUT_FILENO;
-use run::report;
+use lines::printed;
 
 // Two bytes for each of the 4,096 events that a run takes.
 const PAIRS_ROOM: usize = 8192;
@@ -84,7 +84,7 @@ fn text(roster: &[u8], events: &[u8], out: &mut [u8]) -> usize
     ensures { λ r. ⌜ take r (now (out .exit)) ≡ printed (now (roster .entry)) (now (events .entry)) ⌝ }
 {
     let mut pairs = [0u8; PAIRS_ROOM];
-    report(roster, events, &mut pairs, out)
+    printed(roster, events, &mut pairs, out)
 }
 
 // Runs roster.bin under the events of standard input and prints the lines. A program has no exit status to give, so a failed write

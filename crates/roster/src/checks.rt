@@ -5,21 +5,21 @@ ghost use Prim.Native.Nat.{_≤_, _<_, max};
 ghost use lib.Dec.{eqb};
 ghost use Rattle.rules.specs.Limits.{objectLimit};
 ghost use Rattle.rules.specs.Model.{highestOf};
-ghost use Rattle.roster.specs.Format.{taskCount, objectCount};
-ghost use Rattle.roster.specs.Steps.{stepsOf};
-ghost use Rattle.roster.specs.Roster.{rosterOf};
-ghost use Rattle.roster.specs.Form.{AllListed, formOf};
-ghost use Rattle.roster.specs.Check.{something, isInnermost, ownSet, topOf, faultOf, stepsFault, scriptFault, rosterFault, checkOf};
+ghost use Rattle.format.specs.Format.{taskCount, objectCount};
+ghost use Rattle.format.specs.Steps.{stepsOf};
+ghost use Rattle.format.specs.Roster.{rosterOf};
+ghost use Rattle.format.specs.Form.{AllListed, formOf};
+ghost use Rattle.format.specs.Check.{something, isInnermost, ownSet, topOf, faultOf, stepsFault, scriptFault, rosterFault, checkOf};
 ghost use Rattle.roster.specs.Held.{listOf};
-ghost use Rattle.roster.specs.declared.Step.the-variants.{Enter, Set};
-ghost use Rattle.roster.specs.declared.Verdict.the-variants.{Passed, WhileHeld, NotInnermost, OtherTask};
-use crate::Limits;
-use crate::Step;
-use crate::Verdict;
-use crate::format;
+ghost use Rattle.format.specs.declared.Step.the-variants.{Enter, Set};
+ghost use Rattle.format.specs.declared.Verdict.the-variants.{Passed, WhileHeld, NotInnermost, OtherTask};
 use crate::forms;
 use crate::held::Held;
-use crate::steps;
+use crate::parts::script_part;
+use fields::steps;
+use format::Limits;
+use format::Step;
+use format::Verdict;
 use rules::Priority;
 
 fn higher(a: u8, b: u8) -> u8
@@ -38,7 +38,7 @@ fn highest(roster: &[u8], held: Held, top: u8) -> u8
     let mut p = top;
     let mut i: usize = 0;
     while i < n {
-        let ceiling = format::ceiling_of(roster, objects[i]);
+        let ceiling = fields::ceiling_of(roster, objects[i]);
         p = higher(p, ceiling);
         i += 1;
     }
@@ -92,7 +92,7 @@ fn enter_fault(roster: &[u8], held: Held, top: u8, t: u8, k: usize, o: u8) -> Ve
     if held.has(o) {
         return Verdict::WhileHeld(t, k);
     }
-    let ceiling = format::ceiling_of(roster, o);
+    let ceiling = fields::ceiling_of(roster, o);
     let active = highest(roster, held, top);
     if ceiling < active {
         return Verdict::LowCeiling(t, k);
@@ -176,8 +176,8 @@ fn script_fault(roster: &[u8], t: u8) -> Verdict
     requires { ⌜ t < taskCount (now roster) ⌝ }
     ensures { λ r. ⌜ r ≡ scriptFault (rosterOf (now (roster .entry))) t ⌝ }
 {
-    let part = format::script_part(roster, t);
-    let base = format::base_at(roster, t);
+    let part = script_part(roster, t);
+    let base = fields::base_at(roster, t);
     let top = top_of(part, t, base);
     steps_fault(roster, part, top, t)
 }
@@ -187,7 +187,7 @@ fn roster_fault(roster: &[u8]) -> Verdict
     requires { ⌜ formOf (now roster) ≡ Passed ⌝ }
     ensures { λ r. ⌜ r ≡ rosterFault (rosterOf (now (roster .entry))) ⌝ }
 {
-    let n = format::task_count(roster);
+    let n = fields::task_count(roster);
     let mut t: u8 = 0;
     while t < n {
         let v = script_fault(roster, t);

@@ -5,16 +5,16 @@ ghost use Prim.Native.Nat.{_<_};
 ghost use lib.Dec.{eqb};
 ghost use Rattle.rules.specs.Priorities.{inRange};
 ghost use Rattle.rules.specs.Sound.{below};
-ghost use Rattle.roster.specs.Format.{taskCount, objectCount};
-ghost use Rattle.roster.specs.Form.{lengthGood, markGood, countsKept, tablesGood, laidFrom, scriptsLaid};
-ghost use Rattle.roster.specs.Form.{layoutGood, taskRowGood, objectRowGood, valuesGood};
-ghost use Rattle.roster.specs.Form.{unusedZero, namesListed, standsRight, stepGood, stepForm, stepsForm, scriptsForm, formOf};
-ghost use Rattle.roster.specs.Steps.{stepCount};
-use crate::Limits;
-use crate::Step;
-use crate::Verdict;
-use crate::format;
-use crate::steps;
+ghost use Rattle.format.specs.Format.{taskCount, objectCount};
+ghost use Rattle.format.specs.Form.{lengthGood, markGood, countsKept, tablesGood, laidFrom, scriptsLaid};
+ghost use Rattle.format.specs.Form.{layoutGood, taskRowGood, objectRowGood, valuesGood};
+ghost use Rattle.format.specs.Form.{unusedZero, namesListed, standsRight, stepGood, stepForm, stepsForm, scriptsForm, formOf};
+ghost use Rattle.format.specs.Steps.{stepCount};
+use crate::parts::script_part;
+use fields::steps;
+use format::Limits;
+use format::Step;
+use format::Verdict;
 use rules::Checked;
 use rules::Priority;
 
@@ -33,9 +33,9 @@ fn length_good(s: &[u8]) -> bool
 fn mark_good(s: &[u8]) -> bool
     ensures { λ r. ⌜ r ≡ markGood (now (s .entry)) ⌝ }
 {
-    let at = format::trailer_of(s);
-    let first = format::byte_at(s, at);
-    let second = format::byte_at(s, at + 1);
+    let at = fields::trailer_of(s);
+    let first = words::byte_at(s, at);
+    let second = words::byte_at(s, at + 1);
     if first != Limits::FIRST_MARK {
         return false;
     }
@@ -46,8 +46,8 @@ fn mark_good(s: &[u8]) -> bool
 fn counts_good(s: &[u8]) -> bool
     ensures { λ r. ⌜ r ≡ countsKept (now (s .entry)) ⌝ }
 {
-    let tasks = format::task_count(s) as usize;
-    let objects = format::object_count(s) as usize;
+    let tasks = fields::task_count(s) as usize;
+    let objects = fields::object_count(s) as usize;
     if tasks < 1 {
         return false;
     }
@@ -61,23 +61,23 @@ fn counts_good(s: &[u8]) -> bool
 fn tables_good(s: &[u8]) -> bool
     ensures { λ r. ⌜ r ≡ tablesGood (now (s .entry)) ⌝ }
 {
-    let tasks = format::task_count(s);
-    let objects = format::object_count(s);
-    let tasks_end = format::task_row(s, tasks);
-    let objects_end = format::object_row(s, objects) as usize;
-    let table = format::object_table(s) as u32;
+    let tasks = fields::task_count(s);
+    let objects = fields::object_count(s);
+    let tasks_end = fields::task_row(s, tasks);
+    let objects_end = fields::object_row(s, objects) as usize;
+    let table = fields::object_table(s) as u32;
     if tasks_end != table {
         return false;
     }
-    let trailer = format::trailer_of(s);
+    let trailer = fields::trailer_of(s);
     objects_end == trailer
 }
 
 fn laid_from(s: &[u8], start: u32, t: u8) -> bool
     ensures { λ r. ⌜ r ≡ laidFrom (now (s .entry)) start t ⌝ }
 {
-    let at = format::start_at(s, t) as u32;
-    let size = format::length_at(s, t) as usize;
+    let at = fields::start_at(s, t) as u32;
+    let size = fields::length_at(s, t) as usize;
     if at != start {
         return false;
     }
@@ -88,17 +88,17 @@ fn laid_from(s: &[u8], start: u32, t: u8) -> bool
 fn scripts_laid(s: &[u8]) -> bool
     ensures { λ r. ⌜ r ≡ scriptsLaid (now (s .entry)) ⌝ }
 {
-    let n = format::task_count(s);
+    let n = fields::task_count(s);
     let mut end: u32 = 0;
     let mut t: u8 = 0;
     while t < n {
         if !laid_from(s, end, t) {
             return false;
         }
-        end += format::length_at(s, t) as u32;
+        end += fields::length_at(s, t) as u32;
         t += 1;
     }
-    let table = format::task_table(s) as u32;
+    let table = fields::task_table(s) as u32;
     end == table
 }
 
@@ -114,9 +114,9 @@ fn in_range(value: u8) -> bool
 fn task_row_good(s: &[u8], t: u8) -> bool
     ensures { λ r. ⌜ r ≡ taskRowGood (now (s .entry)) t ⌝ }
 {
-    let row = format::task_row(s, t) as usize;
-    let base = format::base_at(s, t);
-    let zero = format::byte_at(s, row + 1);
+    let row = fields::task_row(s, t) as usize;
+    let base = fields::base_at(s, t);
+    let zero = words::byte_at(s, row + 1);
     if !in_range(base) {
         return false;
     }
@@ -126,9 +126,9 @@ fn task_row_good(s: &[u8], t: u8) -> bool
 fn object_row_good(s: &[u8], o: u8) -> bool
     ensures { λ r. ⌜ r ≡ objectRowGood (now (s .entry)) o ⌝ }
 {
-    let row = format::object_row(s, o) as usize;
-    let ceiling = format::byte_at(s, row);
-    let zero = format::byte_at(s, row + 1);
+    let row = fields::object_row(s, o) as usize;
+    let ceiling = words::byte_at(s, row);
+    let zero = words::byte_at(s, row + 1);
     if !in_range(ceiling) {
         return false;
     }
@@ -139,7 +139,7 @@ fn object_row_good(s: &[u8], o: u8) -> bool
 fn task_rows_good(s: &[u8]) -> bool
     ensures { λ r. ⌜ r ≡ below (taskCount (now (s .entry))) (taskRowGood (now (s .entry))) ⌝ }
 {
-    let n = format::task_count(s);
+    let n = fields::task_count(s);
     let mut t: u8 = 0;
     while t < n {
         if !task_row_good(s, t) {
@@ -154,7 +154,7 @@ fn task_rows_good(s: &[u8]) -> bool
 fn object_rows_good(s: &[u8]) -> bool
     ensures { λ r. ⌜ r ≡ below (objectCount (now (s .entry))) (objectRowGood (now (s .entry))) ⌝ }
 {
-    let n = format::object_count(s);
+    let n = fields::object_count(s);
     let mut o: u8 = 0;
     while o < n {
         if !object_row_good(s, o) {
@@ -240,8 +240,8 @@ fn step_form(tasks: u8, objects: u8, t: u8, part: &[u8], k: usize) -> Verdict
     ensures { λ r. ⌜ r ≡ stepForm tasks objects t (now (part .entry)) k ⌝ }
 {
     let at = Limits::STEP * k;
-    let a = format::byte_at(part, at + 1);
-    let b = format::word_at(part, at + 2);
+    let a = words::byte_at(part, at + 1);
+    let b = words::word_at(part, at + 2);
     let x = steps::step_at(part, k);
     let last = k + 1 == part.len() / Limits::STEP;
     if step_good(tasks, objects, last, a, b, x) {
@@ -288,11 +288,11 @@ fn scripts_form(s: &[u8]) -> Verdict
     requires { ⌜ layoutGood (now s) ≡ true ⌝ }
     ensures { λ r. ⌜ r ≡ scriptsForm (now (s .entry)) ⌝ }
 {
-    let n = format::task_count(s);
-    let m = format::object_count(s);
+    let n = fields::task_count(s);
+    let m = fields::object_count(s);
     let mut t: u8 = 0;
     while t < n {
-        let part = format::script_part(s, t);
+        let part = script_part(s, t);
         let v = steps_form(n, m, t, part);
         if !v.passed() {
             return v;

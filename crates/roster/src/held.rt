@@ -4,10 +4,10 @@ ghost use mathlib.Core.List.{[], _∷_, _++_};
 ghost use Prim.Native.Nat.{_-_, _≤_, _<_};
 ghost use lib.ListN.{length, take};
 ghost use Rattle.rules.specs.Limits.{objectLimit};
-ghost use Rattle.roster.specs.Check.{something, isHeld, isInnermost, heldAfter};
+ghost use Rattle.format.specs.Check.{something, isHeld, isInnermost, heldAfter};
 ghost use Rattle.roster.specs.Held.{listOf, Holds};
-use crate::Limits;
-use crate::Step;
+use format::Limits;
+use format::Step;
 
 pub struct Held {
     pub objects: [u8; Limits::OBJECTS],

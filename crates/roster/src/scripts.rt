@@ -1,9 +1,9 @@
 // The script of a task as a part of the lent roster, and the number of its refusal.
 ghost use mathlib.Core.Path.{_≡_};
-ghost use Rattle.roster.specs.Form.{scriptAnswer, scriptPart};
-use crate::Verdict;
-use crate::format;
+ghost use Rattle.format.specs.Form.{scriptAnswer, scriptPart};
 use crate::forms;
+use crate::parts::script_part;
+use format::Verdict;
 
 // 11 to 16, then 1, or Passed.
 pub fn script_answer(roster: &[u8], t: usize) -> Verdict
@@ -13,7 +13,7 @@ pub fn script_answer(roster: &[u8], t: usize) -> Verdict
     if !v.passed() {
         return v;
     }
-    let n = format::task_count(roster) as usize;
+    let n = fields::task_count(roster) as usize;
     if t < n {
         return Verdict::Passed;
     }
@@ -26,7 +26,7 @@ pub fn script(roster: &[u8], t: usize) -> &[u8]
 {
     let v = script_answer(roster, t);
     if v.passed() {
-        return format::script_part(roster, t as u8);
+        return script_part(roster, t as u8);
     }
     &roster[0..0]
 }

@@ -17,11 +17,11 @@ use Rattle.rules.specs.declared.Checked.{Checked}
 use Rattle.rules.specs.declared.Checked.the-variants.{Good, OutOfRange}
 use Rattle.rules.proofs.Kept.{delayFits}
 use Rattle.rules.proofs.Soundness.{sound-kept}
-use Rattle.roster.specs.declared.Step.{Step}
-use Rattle.roster.specs.declared.Step.the-variants.{Again}
-use Rattle.roster.proofs.TestLaws.{good-in, bad-out}
+use Rattle.format.specs.declared.Step.{Step}
+use Rattle.format.specs.declared.Step.the-variants.{Again}
+use Rattle.format.proofs.TestLaws.{good-in, bad-out}
 use Rattle.memory.specs.Memory.{modelOf, Valid, Did}
-use Rattle.run.specs.Config.{perform}
+use Rattle.trace.specs.Config.{perform}
 use Rattle.run.specs.Slices.{Moves}
 
 module _ {h ts hd cs qs : List ℕ} {a : Answer} where

@@ -1,30 +1,26 @@
 -- Laws of the pass over a run's events, of its start, and of what a run answers and leaves in the buffer.
 use mathlib.Core.Path.{_≡_, refl, ap, sym, _∙_}
-use mathlib.Core.Bool.{Bool, true, false, cond, not}
-use mathlib.Core.List.{List, [], _∷_, _++_}
+use mathlib.Core.List.{List, [], _∷_}
 use Prim.Native.Nat.{ℕ, suc, _+_, _-_, _*_, _≤_, _<_}
 use native.Mathlib.Numerals.{add-one}
 use native.Mathlib.Omega.{arith}
-use borrow.Author.Tests.{lt-ltb, le-ltb, not-true, not-false}
-use lib.Dec.{eqb, ltb}
-use lib.ListN.{length, getD, set, take, drop, replicate, length-replicate, drop-of-length-le}
+use lib.ListN.{getD, set, drop, drop-of-length-le}
 use lib.Seq.{sets, drop-cons}
 use Rattle.rules.specs.Limits.{taskLimit}
 use Rattle.rules.specs.Answers.{numberOf}
 use Rattle.rules.specs.declared.Answer.{Answer}
-use Rattle.roster.specs.Roster.{Roster}
-use Rattle.roster.specs.Steps.{tabulate}
-use Rattle.roster.proofs.HeldLaws.{split}
-use Rattle.roster.proofs.ListLaws.{length-tabulate, tabulate-at}
-use Rattle.roster.proofs.FormedLaws.{tasks-few}
+use Rattle.format.specs.Roster.{Roster}
+use Rattle.format.proofs.HeldLaws.{split}
+use Rattle.words.proofs.TableLaws.{length-tabulate, tabulate-at}
+use Rattle.format.proofs.FormedLaws.{tasks-few}
 use Rattle.memory.specs.Memory.{runningCell, runnerOf}
-use Rattle.run.specs.declared.Input.{Input}
-use Rattle.run.specs.declared.Input.the-variants.{Step}
-use Rattle.run.specs.Limits.{pairSize, nobodyByte}
-use Rattle.run.specs.Config.{Config, Outcome, happen}
-use Rattle.run.specs.Inputs.{eventCount, inputAt, inputsOf}
-use Rattle.run.specs.Run.{runningByte, pairOf, pairsFrom}
-use Rattle.run.specs.Slices.{configOf, Going, Happened}
+use Rattle.trace.specs.declared.Input.{Input}
+use Rattle.trace.specs.declared.Input.the-variants.{Step}
+use Rattle.trace.specs.Limits.{pairSize, nobodyByte}
+use Rattle.trace.specs.Config.{Config, happen}
+use Rattle.trace.specs.Inputs.{eventCount, inputAt, inputsOf}
+use Rattle.trace.specs.Run.{runningByte, pairOf, pairsFrom}
+use Rattle.run.specs.Slices.{Going}
 use Rattle.run.proofs.StepLaws.{runner-listed}
 
 -- the events that are left

@@ -5,39 +5,37 @@ use mathlib.Core.List.{List}
 use Prim.Native.Nat.{ℕ, suc, _+_, _-_, _≤_, _<_}
 use native.Mathlib.Omega.{arith}
 use borrow.Author.Tests.{eq-eqb, ne-eqb, leb-true, ltb-true, ltb-false}
-use lib.Dec.{eqb, leb, ltb}
+use lib.Dec.{leb, ltb}
 use lib.ListN.{length, getD, set, take, drop, length-set, length-take, length-drop}
 use lib.Seq.{getD-take, take-set-lt}
-use Rattle.rules.specs.Limits.{taskLimit}
 use Rattle.rules.specs.Answers.{numberOf}
 use Rattle.rules.specs.Model.{Model}
 use Rattle.rules.specs.Moved.{Moved}
 use Rattle.rules.specs.Events.{apply}
 use Rattle.rules.specs.declared.Answer.{Answer}
 use Rattle.rules.specs.declared.Answer.the-variants.{NobodyRuns}
-use Rattle.rules.specs.declared.Runner.{Runner}
-use Rattle.rules.specs.declared.Runner.the-variants.{Nobody, Task}
+use Rattle.rules.specs.declared.Runner.the-variants.{Task}
 use Rattle.rules.specs.declared.Event.the-variants as Event
 use Rattle.rules.proofs.SoundLaws.{sound-is}
 use Rattle.rules.proofs.Unchanged.{count-kept}
-use Rattle.roster.specs.Limits.{smallestRoster, largestRoster, taskRowSize}
-use Rattle.roster.specs.Format.{taskCount, taskRow, startAt, lengthAt, partAt}
-use Rattle.roster.specs.Steps.{stepCount, stepsOf, stepIn}
-use Rattle.roster.specs.Roster.{rosterOf, scriptOf}
-use Rattle.roster.specs.Form.{lengthGood, formOf}
-use Rattle.roster.specs.declared.Step.{Step}
-use Rattle.roster.specs.declared.Step.the-variants.{Enter, Leave, Delay, Work, Suspend, Release, Set, Again, Finish}
-use Rattle.roster.specs.declared.Verdict.the-variants.{Passed}
-use Rattle.roster.proofs.TestLaws.{by-test, and-right}
-use Rattle.roster.proofs.StepLaws.{steps-past}
-use Rattle.roster.proofs.FormatLaws.{script-listed}
-use Rattle.roster.proofs.FormedLaws.{formed, part-inside, row-inside, tasks-few}
+use Rattle.format.specs.Limits.{smallestRoster, largestRoster, taskRowSize}
+use Rattle.format.specs.Format.{taskCount, taskRow, startAt, lengthAt, partAt}
+use Rattle.format.specs.Steps.{stepCount, stepsOf, stepIn}
+use Rattle.format.specs.Roster.{rosterOf}
+use Rattle.format.specs.Form.{lengthGood, formOf}
+use Rattle.format.specs.declared.Step.{Step}
+use Rattle.format.specs.declared.Step.the-variants.{Enter, Leave, Delay, Work, Suspend, Release, Set, Again, Finish}
+use Rattle.format.specs.declared.Verdict.the-variants.{Passed}
+use Rattle.format.proofs.TestLaws.{by-test, and-right}
+use Rattle.format.proofs.StepLaws.{steps-past}
+use Rattle.format.proofs.FormatLaws.{script-listed}
+use Rattle.format.proofs.FormedLaws.{formed, part-inside, row-inside, tasks-few}
 use Rattle.memory.specs.Memory.{runningCell, modelOf}
 use Rattle.memory.proofs.MemoryLaws.{idle, busy}
-use Rattle.run.specs.declared.Input.{Input}
-use Rattle.run.specs.declared.Input.the-variants.{Step as Stepped}
-use Rattle.run.specs.Config.{Config, Outcome, perform, positionAfter, isDone}
-use Rattle.run.specs.Config.{advance, nextStep, positionOf, stepBy, outside, happen}
+use Rattle.trace.specs.declared.Input.{Input}
+use Rattle.trace.specs.declared.Input.the-variants.{Step as Stepped}
+use Rattle.trace.specs.Config.{Config, Outcome, perform, positionAfter, isDone}
+use Rattle.trace.specs.Config.{advance, nextStep, positionOf, stepBy, outside, happen}
 use Rattle.run.specs.Slices.{configOf, Going, Moves, Happened}
 
 -- a step moves a position on by one at most

@@ -1,8 +1,1 @@
-pub mod Limits
-pub mod Config
-pub mod Inputs
-pub mod Answers
-pub mod Run
-pub mod Lines
-pub mod Report
 pub mod Slices

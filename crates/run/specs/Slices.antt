@@ -6,11 +6,11 @@ use lib.ListN.{length, take}
 use Rattle.rules.specs.Limits.{taskLimit}
 use Rattle.rules.specs.Moved.{Moved}
 use Rattle.rules.specs.declared.Answer.{Answer}
-use Rattle.roster.specs.Format.{taskCount}
-use Rattle.roster.specs.Form.{formOf}
-use Rattle.roster.specs.declared.Verdict.the-variants.{Passed}
+use Rattle.format.specs.Format.{taskCount}
+use Rattle.format.specs.Form.{formOf}
+use Rattle.format.specs.declared.Verdict.the-variants.{Passed}
 use Rattle.memory.specs.Memory.{modelOf, Valid}
-use Rattle.run.specs.Config.{Config, Outcome}
+use Rattle.trace.specs.Config.{Config, Outcome}
 
 -- behind the last task's position there may be anything
 abbrev pub configOf : List ℕ → List ℕ → List ℕ → List ℕ → List ℕ → List ℕ → List ℕ → Config

@@ -2,22 +2,22 @@
 ghost use mathlib.Core.Path.{_≡_};
 ghost use Prim.Native.Nat.{_<_};
 ghost use Rattle.rules.specs.Events.{setBase};
-ghost use Rattle.roster.specs.Format.{taskTable};
-ghost use Rattle.roster.specs.Roster.{rosterOf};
+ghost use Rattle.format.specs.Format.{taskTable};
+ghost use Rattle.format.specs.Roster.{rosterOf};
 ghost use Rattle.memory.specs.Memory.{modelOf, Valid};
-ghost use Rattle.run.specs.declared.Input.the-variants.{Step as Stepped};
-ghost use Rattle.run.specs.Config.{perform, positionAfter, happen};
+ghost use Rattle.trace.specs.declared.Input.the-variants.{Step as Stepped};
+ghost use Rattle.trace.specs.Config.{perform, positionAfter, happen};
 ghost use Rattle.run.specs.Slices.{configOf, Going, Moves, Happened};
-use crate::Input;
+use crate::scripts::script_in;
 use engine::events;
+use fields::steps;
+use format::Step;
 use memory::sizes::HEAD_WIDTH;
 use memory::sizes::RUNNING_CELL;
-use roster::Step;
-use roster::format;
-use roster::steps;
 use rules::Answer;
 use rules::Checked;
 use rules::Priority;
+use trace::Input;
 
 // What one step of a script does.
 fn perform(
@@ -92,7 +92,7 @@ fn step(
         return Answer::NobodyRuns;
     }
     let t = (running - 1) as usize;
-    let part = format::script_in(roster, table, t as u8);
+    let part = script_in(roster, table, t as u8);
     let k = positions[t];
     let x = steps::step_at(part, k as usize);
     let answer = perform(head, tasks, held, ceilings, queues, x);

@@ -5,17 +5,17 @@ ghost use Prim.Native.Nat.{_+_, _<_};
 ghost use lib.Dec.{eqb};
 ghost use lib.ListN.{length};
 ghost use Rattle.rules.specs.Sound.{below};
-ghost use Rattle.roster.specs.Format.{wordAt};
-ghost use Rattle.run.specs.Inputs.{ifUnused, decode, valueAt, decodedAt, eventCount, isGood, recordGood};
-ghost use Rattle.run.specs.Inputs.{eventsGood, inputIn, inputAt};
-use crate::Decoded;
-use crate::Input;
-use crate::sizes::CLOCK;
-use crate::sizes::EVENT_SIZE;
-use crate::sizes::LARGEST_EVENTS;
-use crate::sizes::RELEASE;
-use crate::sizes::SET;
-use crate::sizes::STEP;
+ghost use Rattle.words.specs.Words.{wordAt};
+ghost use Rattle.trace.specs.Inputs.{ifUnused, decode, valueAt, decodedAt, eventCount, isGood, recordGood};
+ghost use Rattle.trace.specs.Inputs.{eventsGood, inputIn, inputAt};
+use trace::Decoded;
+use trace::Input;
+use trace::sizes::CLOCK;
+use trace::sizes::EVENT_SIZE;
+use trace::sizes::LARGEST_EVENTS;
+use trace::sizes::RELEASE;
+use trace::sizes::SET;
+use trace::sizes::STEP;
 
 fn if_unused(zeros: bool, x: Input) -> Decoded
     ensures { λ r. ⌜ r ≡ ifUnused zeros x ⌝ }

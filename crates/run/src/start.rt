@@ -3,27 +3,26 @@ ghost use mathlib.Core.Path.{_≡_};
 ghost use Prim.Native.Nat.{_≤_};
 ghost use lib.ListN.{length, take};
 ghost use Rattle.rules.specs.Fresh.{freshModel};
-ghost use Rattle.roster.specs.Format.{taskCount, objectCount};
-ghost use Rattle.roster.specs.Roster.{rosterOf};
-ghost use Rattle.roster.specs.Check.{checkOf};
-ghost use Rattle.roster.specs.declared.Verdict.the-variants.{Passed};
+ghost use Rattle.format.specs.Format.{taskCount, objectCount};
+ghost use Rattle.format.specs.Roster.{rosterOf};
+ghost use Rattle.format.specs.Check.{checkOf};
+ghost use Rattle.format.specs.declared.Verdict.the-variants.{Passed};
 ghost use Rattle.memory.specs.Memory.{Means};
 ghost use Rattle.engine.specs.Fresh.{Sized};
 use engine::fresh;
 use memory::sizes::HEAD_WIDTH;
 use memory::sizes::OBJECT_LIMIT;
 use memory::sizes::TASK_LIMIT;
-use roster::format;
 
 // The bases, in the first cells.
 fn read_bases(roster: &[u8], bases: &mut [u8])
     requires { ⌜ taskCount (now roster) ≤ length (now bases) ⌝ }
     ensures { λ u. ⌜ take (taskCount (now (roster .entry))) (now (bases .exit)) ≡ rosterOf (now (roster .entry)) .bases ⌝ }
 {
-    let n = format::task_count(roster);
+    let n = fields::task_count(roster);
     let mut t: u8 = 0;
     while t < n {
-        bases[t as usize] = format::base_of(roster, t);
+        bases[t as usize] = fields::base_of(roster, t);
         t += 1;
     }
 }
@@ -33,10 +32,10 @@ fn read_ceilings(roster: &[u8], ceilings: &mut [u8])
     requires { ⌜ objectCount (now roster) ≤ length (now ceilings) ⌝ }
     ensures { λ u. ⌜ take (objectCount (now (roster .entry))) (now (ceilings .exit)) ≡ rosterOf (now (roster .entry)) .ceilings ⌝ }
 {
-    let n = format::object_count(roster);
+    let n = fields::object_count(roster);
     let mut o: u8 = 0;
     while o < n {
-        ceilings[o as usize] = format::ceiling_of(roster, o);
+        ceilings[o as usize] = fields::ceiling_of(roster, o);
         o += 1;
     }
 }
@@ -59,8 +58,8 @@ pub fn start(
     let mut given = [0u8; OBJECT_LIMIT];
     read_bases(roster, &mut bases);
     read_ceilings(roster, &mut given);
-    let n = format::task_count(roster) as usize;
-    let m = format::object_count(roster) as usize;
+    let n = fields::task_count(roster) as usize;
+    let m = fields::object_count(roster) as usize;
     fresh::fresh(
         &bases[..n],
         &given[..m],

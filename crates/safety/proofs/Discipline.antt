@@ -16,16 +16,16 @@ use Rattle.rules.specs.Events.{timesIn, without}
 use Rattle.rules.specs.declared.Priority.{Priority}
 use Rattle.rules.proofs.Choices.{compare}
 use Rattle.rules.proofs.Counts.{times-same, times-cons}
-use Rattle.roster.specs.Answers.{numberOf}
-use Rattle.roster.specs.Steps.{stepIn}
-use Rattle.roster.specs.Roster.{Roster, scriptOf, baseOf}
-use Rattle.roster.specs.Form.{namesListed}
-use Rattle.roster.specs.Check.{something, isInnermost, heldAfter, heldBefore, ownSet, topOf, whileHeld, lowCeiling, notInnermost}
-use Rattle.roster.specs.Check.{otherTask, faultOf, faultIn, topAt}
-use Rattle.roster.specs.declared.Step.{Step}
-use Rattle.roster.specs.declared.Step.the-variants.{Enter, Leave, Delay, Suspend, Release, Set, Again, Finish}
-use Rattle.roster.specs.declared.Verdict.{Verdict}
-use Rattle.roster.specs.declared.Verdict.the-variants.{Passed, WhileHeld, LowCeiling, NotInnermost, OtherTask}
+use Rattle.format.specs.Answers.{numberOf}
+use Rattle.format.specs.Steps.{stepIn}
+use Rattle.format.specs.Roster.{Roster, scriptOf, baseOf}
+use Rattle.format.specs.Form.{namesListed}
+use Rattle.format.specs.Check.{something, isInnermost, heldAfter, heldBefore, ownSet, topOf, whileHeld, lowCeiling, notInnermost}
+use Rattle.format.specs.Check.{otherTask, faultOf, faultIn, topAt}
+use Rattle.format.specs.declared.Step.{Step}
+use Rattle.format.specs.declared.Step.the-variants.{Enter, Leave, Delay, Suspend, Release, Set, Again, Finish}
+use Rattle.format.specs.declared.Verdict.{Verdict}
+use Rattle.format.specs.declared.Verdict.the-variants.{Passed, WhileHeld, LowCeiling, NotInnermost, OtherTask}
 use Rattle.safety.specs.Reckon.{Account, stepOf}
 
 -- what a roster that passes keeps to

@@ -23,12 +23,12 @@ use Rattle.rules.proofs.SoundLaws.{sound-is, below-make}
 use Rattle.rules.proofs.Soundness.{good-sound}
 use Rattle.rules.proofs.EventLaws.{work-5}
 use Rattle.rules.proofs.Refusals.{table, appliesAt, exactly-when, refused-same}
-use Rattle.roster.specs.Roster.{Roster, rosterOf}
-use Rattle.roster.specs.declared.Step.{Step}
-use Rattle.roster.specs.declared.Step.the-variants.{Enter, Leave, Delay, Work, Suspend, Release, Set, Again, Finish}
+use Rattle.format.specs.Roster.{Roster, rosterOf}
+use Rattle.format.specs.declared.Step.{Step}
+use Rattle.format.specs.declared.Step.the-variants.{Enter, Leave, Delay, Work, Suspend, Release, Set, Again, Finish}
 use Rattle.memory.specs.Rows.{rowFor, heldWidth, queueWidth, Lists}
 use Rattle.memory.proofs.GridLaws.{list-room, count-at}
-use Rattle.run.specs.Config.{Config, Outcome, startOf, perform, positionOf, nextStep, advance, outside, stepBy, happen}
+use Rattle.trace.specs.Config.{Config, Outcome, startOf, perform, positionOf, nextStep, advance, outside, stepBy, happen}
 use Rattle.dispatch.specs.declared.Stepped.{Stepped}
 use Rattle.dispatch.specs.State.{view, holding, padded, encode}
 use Rattle.dispatch.specs.Sound.{lengthsGood, sizesFit, soundOf}

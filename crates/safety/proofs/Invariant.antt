@@ -24,11 +24,11 @@ use Rattle.rules.proofs.HeldLaws.{distinct-once}
 use Rattle.rules.proofs.Pending.{Good, t-in}
 use Rattle.rules.proofs.EventLaws.{release-1, clock-4}
 use Rattle.rules.proofs.Unchanged.{ceilings-kept}
-use Rattle.roster.specs.Roster.{Roster, scriptOf}
-use Rattle.roster.specs.Check.{isInnermost, heldAfter, heldBefore}
-use Rattle.roster.specs.declared.Step.{Step}
-use Rattle.roster.specs.declared.Step.the-variants.{Enter, Leave, Delay, Work, Suspend, Release, Set, Again, Finish}
-use Rattle.run.specs.Config.{Config, perform, positionAfter, isDone, advance, nextStep, positionOf, stepBy, outside, happen}
+use Rattle.format.specs.Roster.{Roster, scriptOf}
+use Rattle.format.specs.Check.{isInnermost, heldAfter, heldBefore}
+use Rattle.format.specs.declared.Step.{Step}
+use Rattle.format.specs.declared.Step.the-variants.{Enter, Leave, Delay, Work, Suspend, Release, Set, Again, Finish}
+use Rattle.trace.specs.Config.{Config, perform, positionAfter, isDone, advance, nextStep, positionOf, stepBy, outside, happen}
 use Rattle.safety.specs.History.{Event, clock as read, release as free, step, inputOf}
 use Rattle.safety.specs.Reckon.{Away, here, until, resting, gone, Account, Reckoning, unknown, accountAt, withAccount, atPosition}
 use Rattle.safety.specs.Reckon.{insideOf}

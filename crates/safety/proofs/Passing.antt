@@ -13,20 +13,22 @@ use Rattle.rules.specs.Fresh.{allOf}
 use Rattle.rules.specs.declared.Checked.{Checked}
 use Rattle.rules.specs.declared.Checked.the-variants.{Good, OutOfRange}
 use Rattle.rules.proofs.Choices.{compare, both-ways, clash, and-make}
-use Rattle.roster.specs.Limits.{stepSize, enterCode, leaveCode, delayCode, workCode, suspendCode, releaseCode, setCode, againCode}
-use Rattle.roster.specs.Answers.{passed}
-use Rattle.roster.specs.Format.{wordAt, taskCount, objectCount, baseAt, ceilingAt, startAt, lengthAt, partAt}
-use Rattle.roster.specs.Steps.{tabulate, setStep, stepOf, codeAt, aAt, bAt, stepAt, stepCount, stepsOf, stepIn}
-use Rattle.roster.specs.Roster.{rosterOf, scriptOf}
-use Rattle.roster.specs.Form.{namesListed, formOf}
-use Rattle.roster.specs.Check.{faultIn, stepsFault, topAt, scriptFault, rosterFault, checkOf}
-use Rattle.roster.specs.declared.Step.{Step}
-use Rattle.roster.specs.declared.Step.the-variants.{Enter, Leave, Delay, Work, Suspend, Release, Set, Again, Finish}
-use Rattle.roster.specs.declared.Verdict.the-variants.{Passed}
-use Rattle.roster.proofs.TestLaws.{passed-is, first-at}
-use Rattle.roster.proofs.StepLaws.{steps-at, steps-past}
-use Rattle.roster.proofs.FormatLaws.{script-listed, base-count, ceiling-count, script-count}
-use Rattle.roster.proofs.FormedLaws.{tasks-some, tasks-few, objects-few, base-good, ceiling-good, step-listed}
+use Rattle.format.specs.Limits.{stepSize, enterCode, leaveCode, delayCode, workCode, suspendCode, releaseCode, setCode, againCode}
+use Rattle.format.specs.Answers.{passed}
+use Rattle.words.specs.Words.{wordAt}
+use Rattle.format.specs.Format.{taskCount, objectCount, baseAt, ceilingAt, startAt, lengthAt, partAt}
+use Rattle.words.specs.Words.{tabulate}
+use Rattle.format.specs.Steps.{setStep, stepOf, codeAt, aAt, bAt, stepAt, stepCount, stepsOf, stepIn}
+use Rattle.format.specs.Roster.{rosterOf, scriptOf}
+use Rattle.format.specs.Form.{namesListed, formOf}
+use Rattle.format.specs.Check.{faultIn, stepsFault, topAt, scriptFault, rosterFault, checkOf}
+use Rattle.format.specs.declared.Step.{Step}
+use Rattle.format.specs.declared.Step.the-variants.{Enter, Leave, Delay, Work, Suspend, Release, Set, Again, Finish}
+use Rattle.format.specs.declared.Verdict.the-variants.{Passed}
+use Rattle.format.proofs.TestLaws.{passed-is, first-at}
+use Rattle.format.proofs.StepLaws.{steps-at, steps-past}
+use Rattle.format.proofs.FormatLaws.{script-listed, base-count, ceiling-count, script-count}
+use Rattle.format.proofs.FormedLaws.{tasks-some, tasks-few, objects-few, base-good, ceiling-good, step-listed}
 use Rattle.safety.specs.Safe.{Bytes, Claim}
 use Rattle.safety.proofs.Discipline.{Keeps}
 use Rattle.safety.proofs.Theorem.{safe-of}

@@ -24,9 +24,9 @@ use Rattle.rules.proofs.TaskLaws.{ready, running, one-place, runs-named}
 use Rattle.rules.proofs.Standing.{all-runs, all-queueing}
 use Rattle.rules.proofs.Kept.{one-holder}
 use Rattle.rules.proofs.FreshLaws.{fresh-good, fresh-now, fresh-ceilings, fresh-count, fresh-task}
-use Rattle.roster.specs.Roster.{Roster, scriptOf, baseOf}
-use Rattle.roster.specs.Check.{heldBefore, topAt}
-use Rattle.run.specs.Config.{Config, startOf, stepBy, happen}
+use Rattle.format.specs.Roster.{Roster, scriptOf, baseOf}
+use Rattle.format.specs.Check.{heldBefore, topAt}
+use Rattle.trace.specs.Config.{Config, startOf, stepBy, happen}
 use Rattle.safety.specs.History.{Event, inputOf, afterFrom, after, entriesFrom}
 use Rattle.safety.specs.Reckon.{Account, Reckoning, unknown, accountAt, reckonFrom, opened, reckon, activeIn, isHere, readyBy}
 use Rattle.safety.specs.Safe as claim

@@ -11,16 +11,16 @@ use Rattle.rules.specs.declared.Answer.{Answer}
 use Rattle.rules.specs.declared.Answer.the-variants.{Done, NoSuchTask, NoSuchObject, BadPriority, BadReading, NobodyRuns, EndedTask}
 use Rattle.rules.specs.declared.Answer.the-variants.{InsideAction, AboveCeiling, NotInnermost, Unsound, BadCounts, BadBases}
 use Rattle.rules.proofs.Choices.{clash, cond-true}
-use Rattle.roster.specs.Answers.{passed}
-use Rattle.roster.specs.Roster.{Roster, rosterOf}
-use Rattle.roster.specs.Check.{checkOf}
-use Rattle.run.specs.Config.{Config, startOf, happen}
-use Rattle.run.specs.Inputs.{eventsGood, eventCount, inputsOf}
-use Rattle.run.specs.Answers as run
-use Rattle.run.specs.Run.{answerOf, runningByte, pairOf, pairsFrom, pairsOf, bufferOf}
-use Rattle.run.specs.declared.Input.{Input}
-use Rattle.run.specs.declared.RunAnswer.{RunAnswer}
-use Rattle.run.specs.declared.RunAnswer.the-variants.{Done as Ran, BadRoster, BadEvents, ShortBuffer}
+use Rattle.format.specs.Answers.{passed}
+use Rattle.format.specs.Roster.{Roster, rosterOf}
+use Rattle.format.specs.Check.{checkOf}
+use Rattle.trace.specs.Config.{Config, startOf, happen}
+use Rattle.trace.specs.Inputs.{eventsGood, eventCount, inputsOf}
+use Rattle.trace.specs.Answers as run
+use Rattle.trace.specs.Run.{answerOf, runningByte, pairOf, pairsFrom, pairsOf, bufferOf}
+use Rattle.trace.specs.declared.Input.{Input}
+use Rattle.trace.specs.declared.RunAnswer.{RunAnswer}
+use Rattle.trace.specs.declared.RunAnswer.the-variants.{Done as Ran, BadRoster, BadEvents, ShortBuffer}
 use Rattle.safety.specs.History.{Event, step, inputOf, afterFrom, after}
 use Rattle.safety.specs.Safe.{running, stepAnswer, Idle, Bytes}
 use Rattle.safety.proofs.Passing.{safe}

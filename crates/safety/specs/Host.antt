@@ -8,12 +8,12 @@ use Rattle.rules.specs.declared.Runner.{Runner}
 use Rattle.rules.specs.declared.Runner.the-variants.{Nobody, Task}
 use Rattle.rules.specs.declared.Answer.{Answer}
 use Rattle.rules.specs.declared.Answer.the-variants.{Done, Unsound}
-use Rattle.roster.specs.Answers.{passed}
-use Rattle.roster.specs.Roster.{Roster, rosterOf}
-use Rattle.roster.specs.Check.{checkOf}
-use Rattle.roster.specs.declared.Step.{Step}
-use Rattle.roster.specs.declared.Step.the-variants.{Enter, Leave, Delay, Work, Suspend, Release, Set, Again, Finish}
-use Rattle.run.specs.Config.{nextStep, positionAfter, isDone, happen}
+use Rattle.format.specs.Answers.{passed}
+use Rattle.format.specs.Roster.{Roster, rosterOf}
+use Rattle.format.specs.Check.{checkOf}
+use Rattle.format.specs.declared.Step.{Step}
+use Rattle.format.specs.declared.Step.the-variants.{Enter, Leave, Delay, Work, Suspend, Release, Set, Again, Finish}
+use Rattle.trace.specs.Config.{nextStep, positionAfter, isDone, happen}
 use Rattle.dispatch.specs.declared.State.{State}
 use Rattle.dispatch.specs.declared.Stepped.{Stepped}
 use Rattle.dispatch.specs.State.{view}

@@ -50,7 +50,7 @@ use denote.Triple.Statement.{Contract, Triple}
 use denote.Triple.Table.{entered, cited}
 use denote.Triple.Walked.{says, Stays, stay-none, stay-slice, walkOf, Walks, ends-at, walked, goes-none, goes-slice, walk-meets}
 use Rattle.board.specs.Rows.{noRow, fillingOf}
-use Rattle.board.specs.Fill.{rowOf, answerOf, writtenOf, boardAfter}
+use Rattle.board.specs.Fill.{rowOf, answerOf, pairsWritten, boardAfter}
 use Rattle.board.specs.declared.FillAnswer.{FillAnswer}
 use Rattle.dispatch.specs.State.{view}
 use Rattle.dispatch.specs.Sound.{soundOf}
@@ -128,13 +128,13 @@ module _ {M : Type 1} (𝓤 : URA M) (H : Heap 𝓤) (A : Atoms 𝓤) (W : Given
       lowF (EL.tells F.the-type F′.the-laws)
 
   written-runs : (a : FillAnswer) → Is F.the-row a (lowF a ∷ [])
-      → Returns 𝓤 H C #board·written (lowS s ∷ lowF a ∷ []) usize (vint w64) (writtenOf s a)
+      → Returns 𝓤 H C #board·written (lowS s ∷ lowF a ∷ []) usize (vint w64) (pairsWritten s a)
   written-runs a isa =
       runs-plain W fm written.signature (written.spec 𝓤 H A mem run) (known .to-written)
       ((tt, tt, tt, (s, (a, tt)), (lowS s ∷ [], (lowF a ∷ [], tt))), tt) (id⊢ 𝓤 (emp 𝓤))
       (LL.makes P.the-type P′.the-plain 𝓤 H A, (EL.makes F.the-type F′.the-plain 𝓤 H A, tt)) (iss, (isa, tt)) (id⊢ 𝓤 (emp 𝓤))
-      (writtenOf s a)
-      (λ r. exE 𝓤 _ (λ ws. snd∗ 𝓤 (sem 𝓤 H A (lasts written.ended tt (s, (a, tt)) ws)) (fact 𝓤 (r ≡ writtenOf s a))))
+      (pairsWritten s a)
+      (λ r. exE 𝓤 _ (λ ws. snd∗ 𝓤 (sem 𝓤 H A (lasts written.ended tt (s, (a, tt)) ws)) (fact 𝓤 (r ≡ pairsWritten s a))))
       (vint w64) (uint-tells w64)
 
   row-of-runs : (i : ℕ) → i < 2 ^ 64 → (soundOf s ≡ true) × (i < length (view s .tasks))
@@ -166,7 +166,7 @@ module _ {M : Type 1} (𝓤 : URA M) (H : Heap 𝓤) (A : Atoms 𝓤) (W : Given
   told = answerOf s n
 
   abbrev m : ℕ
-  m = writtenOf s told
+  m = pairsWritten s told
 
   abbrev at : Vals fill.signature (κ, tt)
   at = (lowS s ∷ [], (sliceVal (b, o) n ∷ [], tt))

@@ -1,8 +1,8 @@
 -- `exports::dispatch_form` meets its contract.
 use native.Mathlib.Omega.{arith}
 use mathlib.Core.Path.{ap}
-use Rattle.roster.specs.Answers.{positionOf}
-use Rattle.roster.proofs.PositionLaws.{form-small}
+use Rattle.format.specs.Answers.{positionOf}
+use Rattle.format.proofs.PositionLaws.{form-small}
 use Rattle.exports.proofs.PackLaws.{pack-verdict}
 use borrow.Author.Needs.{needs}
 use Rattle.exports.proofs.dispatch_form.Statement.{statement}

@@ -1,6 +1,6 @@
 -- `exports::dispatch_script_number` meets its contract.
 use mathlib.Core.Path.{ap, _∙_}
-use Rattle.roster.specs.Answers.{numberOf}
+use Rattle.format.specs.Answers.{numberOf}
 use borrow.Author.Needs.{needs}
 use Rattle.exports.proofs.dispatch_script_number.Statement.{statement}
 use Rattle.exports.proofs.dispatch_script_number.Tie as tie

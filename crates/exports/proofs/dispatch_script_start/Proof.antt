@@ -1,7 +1,7 @@
 -- `exports::dispatch_script_start` meets its contract.
 use native.Mathlib.Omega.{arith}
-use Rattle.roster.proofs.AnswerLaws.{answered, answered-form, answered-task}
-use Rattle.roster.proofs.FormedLaws.{tasks-few}
+use Rattle.format.proofs.AnswerLaws.{answered, answered-form, answered-task}
+use Rattle.format.proofs.FormedLaws.{tasks-few}
 use Rattle.exports.proofs.StartLaws.{start-found, start-none}
 use borrow.Author.Needs.{needs}
 use Rattle.exports.proofs.dispatch_script_start.Statement.{statement}

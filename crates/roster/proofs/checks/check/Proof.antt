@@ -1,6 +1,6 @@
 -- `roster::checks::check` meets its contract.
 use borrow.Author.Tests.{not-true, not-false}
-use Rattle.roster.proofs.AnswerLaws.{form-passed, check-form, check-rules}
+use Rattle.format.proofs.AnswerLaws.{form-passed, check-form, check-rules}
 use borrow.Author.Needs.{needs}
 use Rattle.roster.proofs.checks.check.Statement.{statement}
 use Rattle.roster.proofs.checks.check.Tie as tie

@@ -1,5 +1,5 @@
 -- `roster::checks::enter_fault` meets its contract.
-use Rattle.roster.specs.Roster.{rosterOf}
+use Rattle.format.specs.Roster.{rosterOf}
 use Rattle.roster.proofs.CheckLaws.{enter-held, enter-low, enter-fits}
 use borrow.Author.Needs.{needs}
 use Rattle.roster.proofs.checks.enter_fault.Statement.{statement}

@@ -7,7 +7,7 @@ use Rattle.rules.specs.Limits.{objectLimit}
 use borrow.Author.Needs.{needs}
 use lib.ListN.{take, drop}
 use Rattle.rules.specs.Model.{highestOf}
-use Rattle.roster.specs.Roster.{rosterOf}
+use Rattle.format.specs.Roster.{rosterOf}
 use Rattle.roster.specs.Held.{listOf}
 use Rattle.roster.proofs.CheckLaws.{highest-on, highest-end}
 use Rattle.roster.proofs.checks.highest.Statement.{statement}

@@ -1,6 +1,6 @@
 -- `roster::checks::own_set` meets its contract.
 use mathlib.Core.Path.{sym, ap, _∙_}
-use Rattle.roster.specs.Check.{ownSet}
+use Rattle.format.specs.Check.{ownSet}
 use borrow.Author.Needs.{needs}
 use Rattle.roster.proofs.checks.own_set.Statement.{statement}
 use Rattle.roster.proofs.checks.own_set.Tie as tie

@@ -1,5 +1,5 @@
 -- `roster::checks::rest_fault` meets its contract.
-use Rattle.roster.proofs.TestLaws.{when-true, when-false}
+use Rattle.format.proofs.TestLaws.{when-true, when-false}
 use borrow.Author.Needs.{needs}
 use Rattle.roster.proofs.checks.rest_fault.Statement.{statement}
 use Rattle.roster.proofs.checks.rest_fault.Tie as tie

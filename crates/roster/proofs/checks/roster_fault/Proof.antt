@@ -4,13 +4,13 @@ use borrow.Author.Tests.{not-true, not-false}
 use mathlib.Core.Path.{_≡_, refl, sym, _∙_}
 use Prim.Native.Nat.{_≤_, _<_, _-_}
 use borrow.Author.Needs.{needs}
-use Rattle.roster.specs.Answers.{first}
-use Rattle.roster.specs.Format.{taskCount}
-use Rattle.roster.specs.Roster.{rosterOf}
-use Rattle.roster.specs.Check.{scriptFault, rosterFault}
-use Rattle.roster.specs.declared.Verdict.the-variants.{Passed}
-use Rattle.roster.proofs.TestLaws.{turn-finds, turn-passes, turns-pass}
-use Rattle.roster.proofs.FormatLaws.{script-count}
+use Rattle.format.specs.Answers.{first}
+use Rattle.format.specs.Format.{taskCount}
+use Rattle.format.specs.Roster.{rosterOf}
+use Rattle.format.specs.Check.{scriptFault, rosterFault}
+use Rattle.format.specs.declared.Verdict.the-variants.{Passed}
+use Rattle.format.proofs.TestLaws.{turn-finds, turn-passes, turns-pass}
+use Rattle.format.proofs.FormatLaws.{script-count}
 use Rattle.roster.proofs.checks.roster_fault.Statement.{statement}
 use Rattle.roster.proofs.checks.roster_fault.Tie as tie
 

@@ -1,6 +1,6 @@
 -- `roster::checks::script_fault` meets its contract.
-use Rattle.roster.proofs.FormedLaws.{part-inside, objects-few, part-listed}
-use Rattle.roster.proofs.AnswerLaws.{script-fault}
+use Rattle.format.proofs.FormedLaws.{part-inside, objects-few, part-listed}
+use Rattle.format.proofs.AnswerLaws.{script-fault}
 use borrow.Author.Needs.{needs}
 use Rattle.roster.proofs.checks.script_fault.Statement.{statement}
 use Rattle.roster.proofs.checks.script_fault.Tie as tie

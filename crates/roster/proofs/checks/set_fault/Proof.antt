@@ -2,7 +2,7 @@
 use mathlib.Core.Path.{refl}
 use mathlib.Core.Path.{sym}
 use borrow.Author.Tests.{eq-eqb, ne-eqb}
-use Rattle.roster.proofs.TestLaws.{when-true, when-false}
+use Rattle.format.proofs.TestLaws.{when-true, when-false}
 use mathlib.Core.Bool.{true, false}
 use Rattle.roster.proofs.checks.set_fault.Statement.{statement}
 use Rattle.roster.proofs.checks.set_fault.Tie as tie

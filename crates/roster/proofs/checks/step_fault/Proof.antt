@@ -1,8 +1,8 @@
 -- `roster::checks::step_fault` meets its contract.
 use mathlib.Core.Path.{refl}
-use Rattle.roster.specs.Roster.{rosterOf}
+use Rattle.format.specs.Roster.{rosterOf}
 use Rattle.roster.specs.Held.{listOf}
-use Rattle.roster.specs.Check.{faultOf, whileHeld, lowCeiling, notInnermost, otherTask}
+use Rattle.format.specs.Check.{faultOf, whileHeld, lowCeiling, notInnermost, otherTask}
 use Rattle.roster.proofs.CheckLaws.{same-fault, leave-fault, set-fault, rest-fault, no-fault}
 use borrow.Author.Needs.{needs}
 use Rattle.roster.proofs.checks.step_fault.Statement.{statement}

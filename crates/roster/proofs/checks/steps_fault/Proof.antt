@@ -5,15 +5,15 @@ use mathlib.Core.Path.{_≡_, refl, sym}
 use Prim.Native.Nat.{suc, _≤_, _<_, _-_}
 use lib.ListN.{length}
 use borrow.Author.Needs.{needs}
-use Rattle.roster.specs.Answers.{first}
-use Rattle.roster.specs.Steps.{stepsOf, stepCount}
-use Rattle.roster.specs.Roster.{rosterOf}
-use Rattle.roster.specs.Check.{heldBefore, faultIn, stepsFault}
+use Rattle.format.specs.Answers.{first}
+use Rattle.format.specs.Steps.{stepsOf, stepCount}
+use Rattle.format.specs.Roster.{rosterOf}
+use Rattle.format.specs.Check.{heldBefore, faultIn, stepsFault}
 use Rattle.roster.specs.Held.{Holds}
-use Rattle.roster.specs.declared.Verdict.the-variants.{Passed}
-use Rattle.roster.proofs.TestLaws.{turn-finds, turn-passes}
-use Rattle.roster.proofs.StepLaws.{steps-length, steps-past}
-use Rattle.roster.proofs.WalkLaws.{fault-here, fault-end, held-after, after-room}
+use Rattle.format.specs.declared.Verdict.the-variants.{Passed}
+use Rattle.format.proofs.TestLaws.{turn-finds, turn-passes}
+use Rattle.format.proofs.StepLaws.{steps-length, steps-past}
+use Rattle.roster.proofs.LoopLaws.{fault-here, fault-end, held-after, after-room}
 use Rattle.roster.proofs.checks.steps_fault.Statement.{statement}
 use Rattle.roster.proofs.checks.steps_fault.Tie as tie
 

@@ -5,9 +5,9 @@ use Prim.Native.Nat.{_≤_, _-_}
 use lib.ListN.{length}
 use borrow.Author.Needs.{needs}
 use lib.ListN.{drop}
-use Rattle.roster.specs.Steps.{stepsOf}
-use Rattle.roster.specs.Check.{topOf}
-use Rattle.roster.proofs.StepLaws.{steps-length}
+use Rattle.format.specs.Steps.{stepsOf}
+use Rattle.format.specs.Check.{topOf}
+use Rattle.format.proofs.StepLaws.{steps-length}
 use Rattle.roster.proofs.CheckLaws.{top-on, top-end}
 use Rattle.roster.proofs.checks.top_of.Statement.{statement}
 use Rattle.roster.proofs.checks.top_of.Tie as tie

@@ -1,7 +1,7 @@
 -- `roster::forms::both_zero` meets its contract.
 use mathlib.Core.Path.{refl}
 use borrow.Author.Tests.{eq-eqb, ne-eqb}
-use Rattle.roster.proofs.TestLaws.{and-no, and-yes}
+use Rattle.format.proofs.TestLaws.{and-no, and-yes}
 use Rattle.roster.proofs.forms.both_zero.Statement.{statement}
 use Rattle.roster.proofs.forms.both_zero.Tie as tie
 

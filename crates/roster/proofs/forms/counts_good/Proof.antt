@@ -1,5 +1,5 @@
 -- `roster::forms::counts_good` meets its contract.
-use Rattle.roster.proofs.FormLaws.{counts-few, counts-many, counts-rest}
+use Rattle.format.proofs.FormLaws.{counts-few, counts-many, counts-rest}
 use borrow.Author.Needs.{needs}
 use Rattle.roster.proofs.forms.counts_good.Statement.{statement}
 use Rattle.roster.proofs.forms.counts_good.Tie as tie

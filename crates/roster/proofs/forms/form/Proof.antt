@@ -1,7 +1,7 @@
 -- `roster::forms::form` meets its contract.
 use borrow.Author.Tests.{not-true, not-false}
 use mathlib.Core.Path.{sym, _∙_}
-use Rattle.roster.proofs.FormLaws.{form-1, form-2, form-3, form-4, form-5, form-6}
+use Rattle.format.proofs.FormLaws.{form-1, form-2, form-3, form-4, form-5, form-6}
 use borrow.Author.Needs.{needs}
 use Rattle.roster.proofs.forms.form.Statement.{statement}
 use Rattle.roster.proofs.forms.form.Tie as tie

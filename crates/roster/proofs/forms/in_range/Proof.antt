@@ -1,5 +1,5 @@
 -- `roster::forms::in_range` meets its contract.
-use Rattle.roster.proofs.TestLaws.{good-in, bad-out}
+use Rattle.format.proofs.TestLaws.{good-in, bad-out}
 use borrow.Author.Needs.{needs}
 use Rattle.roster.proofs.forms.in_range.Statement.{statement}
 use Rattle.roster.proofs.forms.in_range.Tie as tie

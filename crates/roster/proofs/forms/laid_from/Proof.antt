@@ -1,5 +1,5 @@
 -- `roster::forms::laid_from` meets its contract.
-use Rattle.roster.proofs.FormLaws.{laid-no, laid-yes}
+use Rattle.format.proofs.FormLaws.{laid-no, laid-yes}
 use borrow.Author.Needs.{needs}
 use Rattle.roster.proofs.forms.laid_from.Statement.{statement}
 use Rattle.roster.proofs.forms.laid_from.Tie as tie

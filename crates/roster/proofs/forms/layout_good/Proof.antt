@@ -1,6 +1,6 @@
 -- `roster::forms::layout_good` meets its contract.
 use borrow.Author.Tests.{not-true, not-false}
-use Rattle.roster.proofs.FormLaws.{layout-tables, layout-scripts}
+use Rattle.format.proofs.FormLaws.{layout-tables, layout-scripts}
 use borrow.Author.Needs.{needs}
 use Rattle.roster.proofs.forms.layout_good.Statement.{statement}
 use Rattle.roster.proofs.forms.layout_good.Tie as tie

@@ -1,8 +1,8 @@
 -- `roster::forms::length_good` meets its contract.
 use mathlib.Core.Path.{refl}
 use borrow.Author.Tests.{lt-leb, le-leb}
-use Rattle.roster.proofs.TestLaws.{and-no, and-yes}
-use Rattle.roster.specs.Form.{lengthGood}
+use Rattle.format.proofs.TestLaws.{and-no, and-yes}
+use Rattle.format.specs.Form.{lengthGood}
 use Rattle.roster.proofs.forms.length_good.Statement.{statement}
 use Rattle.roster.proofs.forms.length_good.Tie as tie
 

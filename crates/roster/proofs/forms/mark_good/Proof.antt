@@ -1,7 +1,7 @@
 -- `roster::forms::mark_good` meets its contract.
 use native.Mathlib.Omega.{arith}
-use Rattle.roster.proofs.FormLaws.{mark-no, mark-yes}
-use Rattle.roster.specs.Format.{trailer}
+use Rattle.format.proofs.FormLaws.{mark-no, mark-yes}
+use Rattle.format.specs.Format.{trailer}
 use borrow.Author.Needs.{needs}
 use Rattle.roster.proofs.forms.mark_good.Statement.{statement}
 use Rattle.roster.proofs.forms.mark_good.Tie as tie

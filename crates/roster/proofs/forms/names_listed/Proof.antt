@@ -1,6 +1,6 @@
 -- `roster::forms::names_listed` meets its contract.
 use mathlib.Core.Path.{sym, ap}
-use Rattle.roster.specs.Form.{namesListed}
+use Rattle.format.specs.Form.{namesListed}
 use borrow.Author.Needs.{needs}
 use Rattle.roster.proofs.forms.names_listed.Statement.{statement}
 use Rattle.roster.proofs.forms.names_listed.Tie as tie

@@ -1,6 +1,6 @@
 -- `roster::forms::object_row_good` meets its contract.
 use borrow.Author.Tests.{not-true, not-false}
-use Rattle.roster.proofs.FormLaws.{object-no, object-yes}
+use Rattle.format.proofs.FormLaws.{object-no, object-yes}
 use borrow.Author.Needs.{needs}
 use Rattle.roster.proofs.forms.object_row_good.Statement.{statement}
 use Rattle.roster.proofs.forms.object_row_good.Tie as tie

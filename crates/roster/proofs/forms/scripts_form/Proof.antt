@@ -4,11 +4,11 @@ use borrow.Author.Tests.{not-true, not-false}
 use mathlib.Core.Path.{_≡_, refl}
 use Prim.Native.Nat.{_≤_, _-_}
 use borrow.Author.Needs.{needs}
-use Rattle.roster.specs.Answers.{first}
-use Rattle.roster.specs.Form.{scriptForm, scriptsForm}
-use Rattle.roster.specs.declared.Verdict.the-variants.{Passed}
-use Rattle.roster.proofs.TestLaws.{turn-finds, turn-passes, turns-pass}
-use Rattle.roster.proofs.FormLaws.{script-form, script-inside}
+use Rattle.format.specs.Answers.{first}
+use Rattle.format.specs.Form.{scriptForm, scriptsForm}
+use Rattle.format.specs.declared.Verdict.the-variants.{Passed}
+use Rattle.format.proofs.TestLaws.{turn-finds, turn-passes, turns-pass}
+use Rattle.format.proofs.FormLaws.{script-form, script-inside}
 use Rattle.roster.proofs.forms.scripts_form.Statement.{statement}
 use Rattle.roster.proofs.forms.scripts_form.Tie as tie
 

@@ -6,9 +6,9 @@ use mathlib.Core.Bool.{true}
 use Prim.Native.Nat.{_≤_, _*_, _-_}
 use Rattle.rules.specs.Sound.{below}
 use borrow.Author.Needs.{needs}
-use Rattle.roster.specs.Form.{scriptsEnd, scriptLaid}
-use Rattle.roster.proofs.TestLaws.{turn-fails, turn-on}
-use Rattle.roster.proofs.FormLaws.{ends-more, laid-here, scripts-no, scripts-end}
+use Rattle.format.specs.Form.{scriptsEnd, scriptLaid}
+use Rattle.format.proofs.TestLaws.{turn-fails, turn-on}
+use Rattle.format.proofs.FormLaws.{ends-more, laid-here, scripts-no, scripts-end}
 use Rattle.roster.proofs.forms.scripts_laid.Statement.{statement}
 use Rattle.roster.proofs.forms.scripts_laid.Tie as tie
 

@@ -1,6 +1,6 @@
 -- `roster::forms::stands_right` meets its contract.
 use mathlib.Core.Path.{sym, ap}
-use Rattle.roster.specs.Form.{standsRight}
+use Rattle.format.specs.Form.{standsRight}
 use borrow.Author.Needs.{needs}
 use Rattle.roster.proofs.forms.stands_right.Statement.{statement}
 use Rattle.roster.proofs.forms.stands_right.Tie as tie

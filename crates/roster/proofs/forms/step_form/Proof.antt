@@ -3,9 +3,9 @@ use mathlib.Core.Path.{ap, _∙_}
 use Prim.Native.Nat.{ℕ}
 use native.Mathlib.Numerals.{add-one}
 use lib.Dec.{eqb}
-use Rattle.roster.specs.Steps.{aAt, bAt, stepCount}
-use Rattle.roster.proofs.StepLaws.{steps-at}
-use Rattle.roster.proofs.FormLaws.{form-good, form-broken}
+use Rattle.format.specs.Steps.{aAt, bAt, stepCount}
+use Rattle.format.proofs.StepLaws.{steps-at}
+use Rattle.format.proofs.FormLaws.{form-good, form-broken}
 use borrow.Author.Needs.{needs}
 use Rattle.roster.proofs.forms.step_form.Statement.{statement}
 use Rattle.roster.proofs.forms.step_form.Tie as tie

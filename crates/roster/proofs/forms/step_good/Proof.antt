@@ -1,6 +1,6 @@
 -- `roster::forms::step_good` meets its contract.
 use borrow.Author.Tests.{not-true, not-false}
-use Rattle.roster.proofs.FormLaws.{good-unused, good-unlisted, good-rest}
+use Rattle.format.proofs.FormLaws.{good-unused, good-unlisted, good-rest}
 use borrow.Author.Needs.{needs}
 use Rattle.roster.proofs.forms.step_good.Statement.{statement}
 use Rattle.roster.proofs.forms.step_good.Tie as tie

@@ -1,5 +1,5 @@
 -- `roster::forms::tables_good` meets its contract.
-use Rattle.roster.proofs.FormLaws.{tables-no, tables-yes}
+use Rattle.format.proofs.FormLaws.{tables-no, tables-yes}
 use borrow.Author.Needs.{needs}
 use Rattle.roster.proofs.forms.tables_good.Statement.{statement}
 use Rattle.roster.proofs.forms.tables_good.Tie as tie

@@ -1,6 +1,6 @@
 -- `roster::forms::task_row_good` meets its contract.
 use borrow.Author.Tests.{not-true, not-false}
-use Rattle.roster.proofs.FormLaws.{task-no, task-yes}
+use Rattle.format.proofs.FormLaws.{task-no, task-yes}
 use borrow.Author.Needs.{needs}
 use Rattle.roster.proofs.forms.task_row_good.Statement.{statement}
 use Rattle.roster.proofs.forms.task_row_good.Tie as tie

@@ -6,8 +6,8 @@ use mathlib.Core.Bool.{true}
 use Prim.Native.Nat.{_≤_, _-_}
 use Rattle.rules.specs.Sound.{below}
 use borrow.Author.Needs.{needs}
-use Rattle.roster.specs.Form.{taskRowGood}
-use Rattle.roster.proofs.TestLaws.{turn-fails, turn-on, turns-end}
+use Rattle.format.specs.Form.{taskRowGood}
+use Rattle.format.proofs.TestLaws.{turn-fails, turn-on, turns-end}
 use Rattle.roster.proofs.forms.task_rows_good.Statement.{statement}
 use Rattle.roster.proofs.forms.task_rows_good.Tie as tie
 

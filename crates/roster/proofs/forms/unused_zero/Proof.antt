@@ -1,6 +1,6 @@
 -- `roster::forms::unused_zero` meets its contract.
 use mathlib.Core.Path.{sym, ap, _∙_}
-use Rattle.roster.specs.Form.{unusedZero}
+use Rattle.format.specs.Form.{unusedZero}
 use borrow.Author.Needs.{needs}
 use Rattle.roster.proofs.forms.unused_zero.Statement.{statement}
 use Rattle.roster.proofs.forms.unused_zero.Tie as tie

@@ -1,6 +1,6 @@
 -- `roster::forms::values_good` meets its contract.
 use borrow.Author.Tests.{not-true, not-false}
-use Rattle.roster.proofs.FormLaws.{values-tasks, values-objects}
+use Rattle.format.proofs.FormLaws.{values-tasks, values-objects}
 use borrow.Author.Needs.{needs}
 use Rattle.roster.proofs.forms.values_good.Statement.{statement}
 use Rattle.roster.proofs.forms.values_good.Tie as tie

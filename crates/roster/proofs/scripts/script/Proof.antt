@@ -1,8 +1,8 @@
 -- `roster::scripts::script` meets its contract.
 use native.Mathlib.Omega.{arith}
 use mathlib.Core.Path.{refl}
-use Rattle.roster.proofs.FormedLaws.{tasks-few, part-inside}
-use Rattle.roster.proofs.AnswerLaws.{answered-form, answered-task, answered, part-whole, part-empty}
+use Rattle.format.proofs.FormedLaws.{tasks-few, part-inside}
+use Rattle.format.proofs.AnswerLaws.{answered-form, answered-task, answered, part-whole, part-empty}
 use borrow.Author.Needs.{needs}
 use Rattle.roster.proofs.scripts.script.Statement.{statement}
 use Rattle.roster.proofs.scripts.script.Tie as tie

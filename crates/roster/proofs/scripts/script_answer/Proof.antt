@@ -1,6 +1,6 @@
 -- `roster::scripts::script_answer` meets its contract.
 use borrow.Author.Tests.{not-true, not-false}
-use Rattle.roster.proofs.AnswerLaws.{form-passed, answer-form, answer-task, answer-none}
+use Rattle.format.proofs.AnswerLaws.{form-passed, answer-form, answer-task, answer-none}
 use borrow.Author.Needs.{needs}
 use Rattle.roster.proofs.scripts.script_answer.Statement.{statement}
 use Rattle.roster.proofs.scripts.script_answer.Tie as tie

@@ -4,7 +4,7 @@ use Rattle.rules.specs.Events.{apply}
 use Rattle.rules.specs.declared.Event.the-variants.{Clock, Release, Set}
 use Rattle.rules.proofs.Kept.{delayFits}
 use Rattle.rules.proofs.Unchanged.{count-kept}
-use Rattle.run.specs.Config.{happen}
+use Rattle.trace.specs.Config.{happen}
 use Rattle.run.proofs.MoveLaws.{moves-of}
 use Rattle.run.proofs.StepLaws.{outside-happened, happened-as}
 use borrow.Author.Needs.{needs}

@@ -8,7 +8,7 @@ use native.Mathlib.Omega.{arith}
 use Rattle.rules.specs.Events.{apply}
 use Rattle.rules.specs.declared.Event as Event
 use Rattle.rules.proofs.Kept.{delayFits}
-use Rattle.run.specs.Config.{perform}
+use Rattle.trace.specs.Config.{perform}
 use Rattle.run.proofs.MoveLaws.{step-moves}
 use borrow.Author.Needs.{needs}
 use Rattle.run.proofs.events.perform.Statement.{statement}

@@ -1,7 +1,7 @@
 -- `run::events::position_after` meets its contract.
 use native.Mathlib.Omega.{arith}
 use mathlib.Core.Path.{ap, sym}
-use Rattle.run.specs.Config.{positionAfter}
+use Rattle.trace.specs.Config.{positionAfter}
 use borrow.Author.Needs.{needs}
 use Rattle.run.proofs.events.position_after.Statement.{statement}
 use Rattle.run.proofs.events.position_after.Tie as tie

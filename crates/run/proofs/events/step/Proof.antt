@@ -4,7 +4,7 @@ use lib.ListN.{getD}
 use Rattle.memory.specs.Memory.{runningCell}
 use native.Mathlib.Omega.{arith}
 use mathlib.Core.Path.{refl}
-use Rattle.roster.proofs.FormedLaws.{tasks-few}
+use Rattle.format.proofs.FormedLaws.{tasks-few}
 use Rattle.run.proofs.StepLaws.{position-fits, idle-happened, runner-listed, runner-placed, script-here, row-here}
 use Rattle.run.proofs.StepLaws.{step-refused, step-accepted}
 use borrow.Author.Needs.{needs}

@@ -1,9 +1,6 @@
 -- `run::inputs::both_zero` meets its contract.
-use mathlib.Core.Path.{sym}
-use mathlib.Core.Bool.{_&&_}
-use lib.Dec.{eqb}
 use borrow.Author.Tests.{eq-eqb, ne-eqb}
-use Rattle.roster.proofs.TestLaws.{and-no, and-yes}
+use Rattle.format.proofs.TestLaws.{and-no, and-yes}
 use mathlib.Core.Path.{refl}
 use Rattle.run.proofs.inputs.both_zero.Statement.{statement}
 use Rattle.run.proofs.inputs.both_zero.Tie as tie

@@ -1,8 +1,8 @@
 -- `run::inputs::decode` meets its contract.
 use mathlib.Core.Path.{ap, sym, _∙_}
 use Prim.Native.Nat.{ℕ}
-use Rattle.run.specs.Inputs.{decode}
-use Rattle.run.proofs.InputLaws.{decode-none, decode-step}
+use Rattle.trace.specs.Inputs.{decode}
+use Rattle.trace.proofs.InputLaws.{decode-none, decode-step}
 use borrow.Author.Needs.{needs}
 use Rattle.run.proofs.inputs.decode.Statement.{statement}
 use Rattle.run.proofs.inputs.decode.Tie as tie

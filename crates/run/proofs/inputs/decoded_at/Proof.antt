@@ -1,5 +1,5 @@
 -- `run::inputs::decoded_at` meets its contract.
-use Rattle.run.specs.Inputs.{decodedAt}
+use Rattle.trace.specs.Inputs.{decodedAt}
 use borrow.Author.Needs.{needs}
 use Rattle.run.proofs.inputs.decoded_at.Statement.{statement}
 use Rattle.run.proofs.inputs.decoded_at.Tie as tie

@@ -1,7 +1,7 @@
 -- `run::inputs::events_good` meets its contract.
 use borrow.Author.Tests.{ne-eqb, eq-eqb, lt-leb, le-leb}
-use Rattle.roster.proofs.TestLaws.{three-first, three-second, three-third}
-use Rattle.run.specs.Inputs.{eventsGood}
+use Rattle.format.proofs.TestLaws.{three-first, three-second, three-third}
+use Rattle.trace.specs.Inputs.{eventsGood}
 use borrow.Author.Needs.{needs}
 use Rattle.run.proofs.inputs.events_good.Statement.{statement}
 use Rattle.run.proofs.inputs.events_good.Tie as tie

@@ -1,5 +1,5 @@
 -- `run::inputs::fields_good` meets its contract.
-use Rattle.run.proofs.InputLaws.{good-set, good-clock, good-value, good-release, good-a, good-step}
+use Rattle.trace.proofs.InputLaws.{good-set, good-clock, good-value, good-release, good-a, good-step}
 use Rattle.run.proofs.inputs.fields_good.Statement.{statement}
 use Rattle.run.proofs.inputs.fields_good.Tie as tie
 

@@ -1,7 +1,7 @@
 -- `run::inputs::if_unused` meets its contract.
-use mathlib.Core.Path.{refl, ap, sym}
+use mathlib.Core.Path.{ap, sym}
 use mathlib.Core.Bool.{Bool}
-use Rattle.run.specs.Inputs.{ifUnused}
+use Rattle.trace.specs.Inputs.{ifUnused}
 use borrow.Author.Needs.{needs}
 use Rattle.run.proofs.inputs.if_unused.Statement.{statement}
 use Rattle.run.proofs.inputs.if_unused.Tie as tie

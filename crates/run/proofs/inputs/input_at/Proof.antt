@@ -1,5 +1,5 @@
 -- `run::inputs::input_at` meets its contract.
-use Rattle.run.specs.Inputs.{inputAt}
+use Rattle.trace.specs.Inputs.{inputAt}
 use borrow.Author.Needs.{needs}
 use Rattle.run.proofs.inputs.input_at.Statement.{statement}
 use Rattle.run.proofs.inputs.input_at.Tie as tie

@@ -1,5 +1,5 @@
 -- `run::inputs::record_good` meets its contract.
-use Rattle.run.specs.Inputs.{decodedAt, recordGood}
+use Rattle.trace.specs.Inputs.{decodedAt, recordGood}
 use borrow.Author.Needs.{needs}
 use Rattle.run.proofs.inputs.record_good.Statement.{statement}
 use Rattle.run.proofs.inputs.record_good.Tie as tie

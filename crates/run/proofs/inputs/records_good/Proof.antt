@@ -6,8 +6,8 @@ use mathlib.Core.Path.{_≡_, refl}
 use mathlib.Core.Bool.{true}
 use Prim.Native.Nat.{_≤_, _-_}
 use Rattle.rules.specs.Sound.{below}
-use Rattle.roster.proofs.TestLaws.{turn-fails, turn-on, turns-end}
-use Rattle.run.specs.Inputs.{recordGood}
+use Rattle.format.proofs.TestLaws.{turn-fails, turn-on, turns-end}
+use Rattle.trace.specs.Inputs.{recordGood}
 use Rattle.run.proofs.inputs.records_good.Statement.{statement}
 use Rattle.run.proofs.inputs.records_good.Tie as tie
 

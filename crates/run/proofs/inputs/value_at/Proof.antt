@@ -1,6 +1,6 @@
 -- `run::inputs::value_at` meets its contract.
 use native.Mathlib.Omega.{arith}
-use Rattle.run.specs.Inputs.{valueAt}
+use Rattle.trace.specs.Inputs.{valueAt}
 use borrow.Author.Needs.{needs}
 use Rattle.run.proofs.inputs.value_at.Statement.{statement}
 use Rattle.run.proofs.inputs.value_at.Tie as tie

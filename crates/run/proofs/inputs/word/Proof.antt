@@ -1,6 +1,6 @@
 -- `run::inputs::word` meets its contract.
 use native.Mathlib.Omega.{arith}
-use Rattle.roster.specs.Format.{wordAt}
+use Rattle.words.specs.Words.{wordAt}
 use borrow.Author.Needs.{needs}
 use Rattle.run.proofs.inputs.word.Statement.{statement}
 use Rattle.run.proofs.inputs.word.Tie as tie

@@ -1,14 +1,14 @@
 -- `run::pass::pass` meets its contract.
 use native.Mathlib.Omega.{arith}
 use borrow.Author.Needs.{needs}
-use mathlib.Core.Path.{_≡_, refl, sym, _∙_}
-use Prim.Native.Nat.{_+_, _*_, _≤_, _-_}
+use mathlib.Core.Path.{_≡_, refl}
+use Prim.Native.Nat.{_*_, _≤_, _-_}
 use lib.ListN.{length, drop, length-set}
 use lib.Seq.{sets}
-use Rattle.roster.specs.Roster.{rosterOf}
-use Rattle.run.specs.Limits.{pairSize}
-use Rattle.run.specs.Inputs.{inputsOf}
-use Rattle.run.specs.Run.{pairsFrom}
+use Rattle.format.specs.Roster.{rosterOf}
+use Rattle.trace.specs.Limits.{pairSize}
+use Rattle.trace.specs.Inputs.{inputsOf}
+use Rattle.trace.specs.Run.{pairsFrom}
 use Rattle.run.specs.Slices.{configOf, Going}
 use Rattle.run.proofs.PassLaws.{pairs-turn, pairs-over, runner-low}
 use Rattle.run.proofs.pass.pass.Statement.{statement}

@@ -1,7 +1,7 @@
 -- `run::pass::run` meets its contract.
 use native.Mathlib.Omega.{arith}
 use borrow.Author.Tests.{not-true, not-false}
-use Rattle.run.proofs.RunLaws.{run-roster, run-passes, run-events, run-short, run-done}
+use Rattle.trace.proofs.RunLaws.{run-roster, run-passes, run-events, run-short, run-done}
 use borrow.Author.Needs.{needs}
 use Rattle.run.proofs.pass.run.Statement.{statement}
 use Rattle.run.proofs.pass.run.Tie as tie

@@ -3,7 +3,7 @@ use mathlib.Core.Path.{ap, _∙_}
 use mathlib.Core.List.{List}
 use Prim.Native.Nat.{ℕ}
 use lib.Seq.{sets}
-use Rattle.run.proofs.RunLaws.{started, pairs-are}
+use Rattle.run.proofs.StartLaws.{started, pairs-are}
 use borrow.Author.Needs.{needs}
 use Rattle.run.proofs.pass.run_through.Statement.{statement}
 use Rattle.run.proofs.pass.run_through.Tie as tie

@@ -1,6 +1,4 @@
 -- `run::pass::running_byte` meets its contract.
-use mathlib.Core.Path.{ap, sym}
-use Rattle.memory.specs.Memory.{runnerOf}
 use Rattle.run.proofs.PassLaws.{nobody-byte, task-byte}
 use borrow.Author.Needs.{needs}
 use Rattle.run.proofs.pass.running_byte.Statement.{statement}

@@ -2,13 +2,13 @@
 use Prim.Native.Nat.{_+_}
 use native.Mathlib.Omega.{arith}
 use borrow.Author.Needs.{needs}
-use mathlib.Core.Path.{_≡_, refl, sym, _∙_}
+use mathlib.Core.Path.{_≡_, refl, sym}
 use Prim.Native.Nat.{_≤_, _-_}
 use lib.ListN.{length, drop, length-set}
 use lib.Seq.{sets}
-use Rattle.roster.specs.Roster.{rosterOf}
-use Rattle.roster.proofs.FormatLaws.{ceiling-count}
-use Rattle.run.proofs.CopyLaws.{copy-turn, copy-end, stored-front}
+use Rattle.format.specs.Roster.{rosterOf}
+use Rattle.format.proofs.FormatLaws.{ceiling-count}
+use Rattle.words.proofs.CopyLaws.{copy-turn, copy-end, stored-front}
 use Rattle.run.proofs.start.read_ceilings.Statement.{statement}
 use Rattle.run.proofs.start.read_ceilings.Tie as tie
 

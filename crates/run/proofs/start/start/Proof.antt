@@ -1,14 +1,13 @@
 -- `run::start::start` meets its contract.
 use lib.ListN.{length}
-use Rattle.roster.proofs.FormatLaws.{base-count, ceiling-count}
+use Rattle.format.proofs.FormatLaws.{base-count, ceiling-count}
 use mathlib.Core.Path.{sym, ap, _∙_}
 use Prim.Native.Nat.{ℕ}
 use lib.ListN.{take}
-use lib.Seq.{length-take-le}
 use native.Mathlib.Omega.{arith}
-use Rattle.roster.proofs.FormedLaws.{tasks-few, objects-few}
-use Rattle.roster.proofs.PassedLaws.{passes-form}
-use Rattle.run.proofs.RunLaws.{startable, starts-as}
+use Rattle.format.proofs.FormedLaws.{tasks-few, objects-few}
+use Rattle.format.proofs.PassedLaws.{passes-form}
+use Rattle.run.proofs.StartLaws.{startable, starts-as}
 use borrow.Author.Needs.{needs}
 use Rattle.run.proofs.start.start.Statement.{statement}
 use Rattle.run.proofs.start.start.Tie as tie

@@ -3,7 +3,7 @@ use mathlib.Core.Path.{_≡_, refl}
 use lib.ListN.{length}
 use Rattle.rules.specs.Limits.{objectLimit}
 use Rattle.roster.specs.Held.{listOf}
-use Rattle.roster.specs.Check.{heldAfter}
+use Rattle.format.specs.Check.{heldAfter}
 use Rattle.roster.proofs.StackLaws.{holds-own, holds-after, room-push}
 use borrow.Author.Needs.{needs}
 use Rattle.roster.proofs.held.Held.after.Statement.{statement}

@@ -8,7 +8,7 @@ use borrow.Author.Needs.{needs}
 use lib.ListN.{take, drop}
 use Rattle.rules.specs.Events.{timesIn}
 use Rattle.roster.specs.Held.{listOf}
-use Rattle.roster.proofs.HeldLaws.{seen-here, seen-on, seen-none}
+use Rattle.format.proofs.HeldLaws.{seen-here, seen-on, seen-none}
 use Rattle.roster.proofs.held.Held.has.Statement.{statement}
 use Rattle.roster.proofs.held.Held.has.Tie as tie
 

@@ -5,7 +5,7 @@ use Prim.Native.Nat.{_≤_}
 use lib.ListN.{length}
 use Rattle.rules.specs.Limits.{objectLimit}
 use Rattle.roster.specs.Held.{listOf}
-use Rattle.roster.proofs.HeldLaws.{innermost-none, innermost-last}
+use Rattle.format.proofs.HeldLaws.{innermost-none, innermost-last}
 use borrow.Author.Needs.{needs}
 use Rattle.roster.proofs.held.Held.innermost.Statement.{statement}
 use Rattle.roster.proofs.held.Held.innermost.Tie as tie

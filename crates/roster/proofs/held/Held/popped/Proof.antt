@@ -6,7 +6,7 @@ use lib.ListN.{length}
 use Rattle.rules.specs.Limits.{objectLimit}
 use lib.ListN.{take}
 use Rattle.roster.specs.Held.{listOf}
-use Rattle.roster.proofs.HeldLaws.{stack-pop}
+use Rattle.format.proofs.HeldLaws.{stack-pop}
 use borrow.Author.Needs.{needs}
 use Rattle.roster.proofs.held.Held.popped.Statement.{statement}
 use Rattle.roster.proofs.held.Held.popped.Tie as tie

@@ -5,7 +5,7 @@ use Prim.Native.Nat.{_≤_}
 use lib.ListN.{length}
 use Rattle.rules.specs.Limits.{objectLimit}
 use Rattle.roster.specs.Held.{listOf}
-use Rattle.roster.proofs.HeldLaws.{stack-push}
+use Rattle.format.proofs.HeldLaws.{stack-push}
 use borrow.Author.Needs.{needs}
 use Rattle.roster.proofs.held.Held.pushed.Statement.{statement}
 use Rattle.roster.proofs.held.Held.pushed.Tie as tie

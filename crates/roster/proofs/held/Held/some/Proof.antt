@@ -6,7 +6,7 @@ use lib.ListN.{length}
 use Rattle.rules.specs.Limits.{objectLimit}
 use borrow.Author.Needs.{needs}
 use Rattle.roster.specs.Held.{listOf}
-use Rattle.roster.proofs.HeldLaws.{stack-some}
+use Rattle.format.proofs.HeldLaws.{stack-some}
 use Rattle.roster.proofs.held.Held.some.Statement.{statement}
 use Rattle.roster.proofs.held.Held.some.Tie as tie
 

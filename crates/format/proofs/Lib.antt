@@ -1,0 +1,15 @@
+pub mod Cases
+pub mod TestLaws
+pub mod StepLaws
+pub mod FormatLaws
+pub mod FormLaws
+pub mod HeldLaws
+pub mod WalkLaws
+pub mod FormedLaws
+pub mod AnswerLaws
+pub mod KeptLaws
+pub mod ExactLaws
+pub mod PassedLaws
+pub mod ScriptLaws
+pub mod PositionLaws
+pub mod WrittenLaws

@@ -1,0 +1,35 @@
+-- What it means that 16 names a step, told for each task and step and not by a scan.
+use mathlib.Core.Path.{_≡_}
+use mathlib.Core.Bool.{Bool, true, false}
+use mathlib.Core.List.{List}
+use Prim.Native.Nat.{ℕ, suc, _<_}
+use lib.Dec.{eqb}
+use Rattle.format.specs.Format.{taskCount, objectCount, partAt}
+use Rattle.format.specs.Steps.{aAt, bAt, stepAt, stepCount}
+use Rattle.format.specs.Form.{lengthGood, markGood, countsKept, layoutGood, valuesGood, stepGood}
+
+-- the step at position k of task t is written as document 01 says
+abbrev pub stepWritten : List ℕ → ℕ → ℕ → Bool
+stepWritten s t k =
+    stepGood (taskCount s) (objectCount s) (eqb (suc k) (stepCount (partAt s t))) (aAt (partAt s t) k) (bAt (partAt s t) k)
+    (stepAt (partAt s t) k)
+
+-- 11 to 15 are kept
+pub record Laid (s : List ℕ) : Type 0 where
+  pub size : lengthGood s ≡ true
+  pub mark : markGood s ≡ true
+  pub counts : countsKept s ≡ true
+  pub layout : layoutGood s ≡ true
+  pub values : valuesGood s ≡ true
+
+-- a step that is not so written, all before it, "in task and step order", being so
+pub record FirstBroken (s : List ℕ) (t k : ℕ) : Type 0 where
+  pub task : t < taskCount s
+  pub step : k < stepCount (partAt s t)
+  pub broken : stepWritten s t k ≡ false
+  pub tasks : (u j : ℕ) → u < t → j < stepCount (partAt s u) → stepWritten s u j ≡ true
+  pub steps : (j : ℕ) → j < k → stepWritten s t j ≡ true
+
+-- every step is so written
+pub record AllWritten (s : List ℕ) : Type 0 where
+  pub at : (t k : ℕ) → t < taskCount s → k < stepCount (partAt s t) → stepWritten s t k ≡ true

@@ -1,0 +1,5 @@
+pub mod Limits
+pub mod Config
+pub mod Inputs
+pub mod Answers
+pub mod Run

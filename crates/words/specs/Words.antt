@@ -1,0 +1,16 @@
+-- Bytes and little-endian words of a list, and a list given entry by entry. What lies past the last byte reads as 0.
+use mathlib.Core.List.{List, [], _∷_}
+use Prim.Native.Nat.{ℕ, zero, suc, _+_, _*_}
+use lib.ListN.{getD}
+
+abbrev pub byteAt : List ℕ → ℕ → ℕ
+byteAt s i = getD s i 0
+
+-- "Little-endian"
+unfoldable pub wordAt : List ℕ → ℕ → ℕ
+wordAt s i = byteAt s i + 256 * byteAt s (i + 1)
+
+-- f 0, f 1, .. up to f (n - 1)
+unfoldable pub tabulate : {A : Type 0} → ℕ → (ℕ → A) → List A
+tabulate zero f = []
+tabulate (suc n) f = f 0 ∷ tabulate n (λ i. f (suc i))
