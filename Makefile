@@ -1,10 +1,14 @@
 # The commands of this repository.
 .PHONY: run test bench
+SHELL := /bin/bash
+.SHELLFLAGS := -o pipefail -c
 export LC_ALL := C
 
-# Proves and builds the program, then runs it on the bundled roster and events. What rt says goes to standard error.
+# Proves and builds the program, a line on standard error for each crate as it is proved, then runs it on the bundled roster and
+# events. Where something is not proved, all that rt said is shown.
 run:
-	@rt check dispatcher >&2
+	@log=$$(mktemp); rt check dispatcher 2>&1 | tee "$$log" | sed -nu '/^rt: .* proved/p' >&2 \
+	|| { cat "$$log" >&2; rm -f "$$log"; exit 1; }; rm -f "$$log"
 	@cd crates/dispatcher/data && ../../../target/bin/dispatcher <../stdin
 
 test:

@@ -22,52 +22,8 @@ pub struct Case {
     pub proof: &'static str,
 }
 
-/// The definitions that the claim is made of, crate by crate, in dependency order.
-const SPECS: [(&str, &[&str]); 4] = [
-    (
-        "rules",
-        &[
-            "Limits",
-            "Priorities",
-            "Answers",
-            "Model",
-            "Moves",
-            "Moved",
-            "Fresh",
-            "Events",
-            "Sound",
-        ],
-    ),
-    (
-        "roster",
-        &[
-            "Limits", "Answers", "Format", "Steps", "Roster", "Form", "Check",
-        ],
-    ),
-    ("run", &["Config"]),
-    ("safety", &["History", "Reckon", "Safe"]),
-];
-
-/// The types of the code that these definitions name.
-const TYPES: [(&str, &[&str]); 4] = [
-    (
-        "rules",
-        &[
-            "struct Priority",
-            "enum Checked",
-            "enum Subrange",
-            "enum Place",
-            "enum WaitingBase",
-            "struct Task",
-            "enum Runner",
-            "enum Event",
-            "enum Answer",
-        ],
-    ),
-    ("roster", &["enum Step", "enum Verdict"]),
-    ("run", &["enum Input"]),
-    ("safety", &[]),
-];
+/// The crates whose definitions the claim is made of, in dependency order.
+const CRATES: [&str; 5] = ["rules", "words", "format", "trace", "safety"];
 
 /// Whether the prover accepts the refutation over the copy with these edits; the second part is what it printed.
 pub fn accepted(name: &str, edits: &[Edit], case: &Case) -> (bool, String) {
@@ -99,51 +55,73 @@ fn copy_of_definitions(name: &str) -> PathBuf {
     let _ = fs::remove_dir_all(&copy);
     let mut listed = String::new();
     let mut below = String::new();
-    for ((crate_name, files), (_, types)) in SPECS.iter().zip(TYPES) {
-        copy_crate(&copy, crate_name, files, types, &below);
-        listed.push_str(&format!("{crate_name}:{below}\n"));
-        below.push_str(&format!(" {crate_name}"));
+    for name in CRATES {
+        copy_crate(&copy, name);
+        listed.push_str(&format!("{name}:{below}\n"));
+        below.push_str(&format!(" {name}"));
     }
     write(&copy.join("crates.txt"), &listed);
     copy
 }
 
-fn copy_crate(copy: &Path, name: &str, files: &[&str], types: &[&str], below: &str) {
+/// The modules of a crate's definitions that name no other crates than these; the bridge to the methods is none of them.
+fn modules(name: &str) -> Vec<String> {
+    let specs = root().join("crates").join(name).join("specs");
+    read(&specs.join("Lib.antt"))
+        .lines()
+        .filter_map(|line| line.strip_prefix("pub mod "))
+        .filter(|file| names_only_these(&read(&specs.join(format!("{file}.antt")))))
+        .map(String::from)
+        .collect()
+}
+
+fn names_only_these(text: &str) -> bool {
+    text.split("Rattle·").skip(1).all(|rest| {
+        let end = rest.find(['.', '·']).unwrap_or(rest.len());
+        CRATES.contains(&&rest[..end])
+    })
+}
+
+fn copy_crate(copy: &Path, name: &str) {
     let from = root().join("crates").join(name);
     let to = copy.join("crates").join(name);
     let mut lib = String::new();
-    for file in files {
+    for file in modules(name) {
         let text = read(&from.join(format!("specs/{file}.antt")));
         write(&to.join(format!("specs/{file}.antt")), &text);
         lib.push_str(&format!("pub mod {file}\n"));
     }
     write(&to.join("specs/Lib.antt"), &lib);
-    let mut code = String::from("// The declared types alone.\n");
-    if below.contains("rules") {
-        code.push_str("use rules::Priority;\n");
-    }
-    let source = read(&from.join("src/lib.rt"));
-    for kind in types {
-        code.push_str(&declaration(&source, kind));
-    }
-    write(&to.join("src/lib.rt"), &code);
+    write(
+        &to.join("src/lib.rt"),
+        &types(&read(&from.join("src/lib.rt"))),
+    );
 }
 
-/// The text of `pub KIND NAME ..` up to the end of its declaration.
-fn declaration(source: &str, kind: &str) -> String {
-    let start = [" ", "(", "{"]
-        .iter()
-        .filter_map(|end| source.find(&format!("pub {kind}{end}")))
-        .min()
-        .unwrap_or_else(|| panic!("no declaration of {kind}"));
-    let rest = &source[start..];
-    let end = match (rest.find(';'), rest.find("\n}")) {
-        (Some(semicolon), Some(brace)) if semicolon < brace && !rest[..semicolon].contains('{') => {
-            semicolon + 1
+/// The types that a source declares, with what it brings in for them.
+fn types(source: &str) -> String {
+    let mut code = String::from("// The declared types alone.\n");
+    for line in source.lines() {
+        if line.starts_with("use ") {
+            code.push_str(&format!("{line}\n"));
         }
-        (_, Some(brace)) => brace + 2,
-        (Some(semicolon), None) => semicolon + 1,
-        (None, None) => panic!("{kind} has no end"),
+    }
+    for line in source.lines() {
+        if line.starts_with("pub struct ") || line.starts_with("pub enum ") {
+            code.push_str(&declaration(source, line));
+        }
+    }
+    code
+}
+
+/// The text of a declaration from its first line up to its end.
+fn declaration(source: &str, first: &str) -> String {
+    let start = source.find(first).expect("a line of the source");
+    let rest = &source[start..];
+    let end = if first.ends_with(';') {
+        first.len()
+    } else {
+        rest.find("\n}").expect("the end of a declaration") + 2
     };
     format!("\n{}\n", &rest[..end])
 }
@@ -187,9 +165,9 @@ use Prim.Native.Nat.{ℕ}
 use native.Mathlib.Omega.{arith}
 use Rattle.rules.specs.declared.Answer.the-variants.{Done, AboveCeiling}
 use Rattle.rules.specs.declared.Runner.the-variants.{Nobody, Task}
-use Rattle.roster.specs.Answers.{passed}
-use Rattle.roster.specs.Check.{checkOf}
-use Rattle.roster.specs.Roster.{Roster, rosterOf}
+use Rattle.format.specs.Answers.{passed}
+use Rattle.format.specs.Check.{checkOf}
+use Rattle.format.specs.Roster.{Roster, rosterOf}
 use Rattle.safety.specs.History.{Event, clock, release, step}
 use Rattle.safety.specs.Safe.{Safe, running, stepAnswer}
 ";
@@ -198,8 +176,8 @@ use Rattle.safety.specs.Safe.{Safe, running, stepAnswer}
 fn all_definitions(copy: &Path) -> (String, String) {
     let mut uses = String::new();
     let mut unfolding = String::from("unfolding");
-    for (crate_name, files) in SPECS {
-        for file in files {
+    for crate_name in CRATES {
+        for file in modules(crate_name) {
             let alias = format!("{crate_name}{file}");
             let path = match crate_name {
                 "safety" => format!("Rattle.safety.specs.{file}"),

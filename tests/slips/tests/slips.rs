@@ -86,7 +86,7 @@ fn a_base_changed_inside_a_protected_action() {
 #[test]
 fn a_check_that_forgets_set_values_after_the_enter() {
     let edit = Edit {
-        file: "roster/specs/Check.antt",
+        file: "format/specs/Check.antt",
         old: "topAt r t = topOf t (baseOf r t) (scriptOf r t)",
         new: "topAt r t = baseOf r t",
     };
