@@ -1,18 +1,19 @@
 -- Laws of what events do to the slices before the dispatch.
-use mathlib.Core.Path.{_≡_, refl, ap, _∙_, sym}
+use mathlib.Core.Path.{_≡_, ap, _∙_, sym}
 use mathlib.Core.Bool.{true, false}
 use mathlib.Core.List.{List, [], _∷_, _++_}
-use Prim.Native.Nat.{ℕ, zero, suc, _+_, _-_, _≤_, _<_}
+use Prim.Native.Nat.{ℕ, _+_, _-_, _≤_, _<_}
 use native.Mathlib.Numerals.{add-one}
 use native.Mathlib.Omega.{arith}
 use borrow.Author.Tests.{lt-ltb, le-ltb, eq-eqb, ne-eqb}
 use lib.ListN.{length, take, drop, getD, set, drop-of-length-le}
 use lib.Seq.{drop-cons, getD-set-other}
 use Rattle.rules.specs.Limits.{taskLimit}
-use Rattle.rules.specs.Model.{Model, TaskRecord, Waiting, none, waits, blank, withPlace, withBase, withWaiting, withPermit, withHeld}
+use Rattle.rules.specs.Model.{Model, TaskRecord, none, waits, blank, withPlace, withWaiting}
 use Rattle.rules.specs.Model.{withNow, withRunning, taskAt, withTask, queue, withQueue}
 use Rattle.rules.specs.Moves.{becomeReady, stopped}
 use Rattle.rules.specs.Events.{inside, innermost, Due, nobody, earlier, dueAt, firstDue, wakeUp, without, requeue, takeHold, giveUp}
+use Rattle.rules.specs.Events.{takeReading}
 use Rattle.rules.specs.declared.Priority.{Priority}
 use Rattle.rules.specs.declared.Place.{Place}
 use Rattle.rules.specs.declared.Place.the-variants.{Running, Ready, Delayed, Suspended, Ended}
@@ -21,13 +22,13 @@ use Rattle.rules.specs.declared.WaitingBase.the-variants.{Nothing, Base}
 use Rattle.rules.specs.declared.Runner.the-variants.{Nobody}
 use Rattle.rules.specs.declared.Task.{Task}
 use Rattle.engine.specs.declared.effects.Due.{Due as Found}
-use Rattle.memory.specs.Rows.{heldBy, Held, QueueBecame, HeldBecame, queueIn}
+use Rattle.memory.specs.Rows.{heldBy, Held, HeldBecame}
 use Rattle.memory.specs.Tasks.{taskIn, Tasks, TaskBecame, placed, based, waited}
-use Rattle.memory.specs.Memory.{nowCell, runningCell, tasksCell, taskCount, runnerOf, waitingIn, recordOf, modelOf, Laid, Means}
-use Rattle.engine.specs.Room.{Joins, settled, Requeues, dueOf, someDue}
+use Rattle.memory.specs.Memory.{nowCell, runningCell, tasksCell, taskCount, runnerOf, waitingIn, modelOf, Laid, Means}
+use Rattle.engine.specs.Room.{settled, dueOf, someDue}
 use Rattle.memory.proofs.TaskLaws.{then-became}
-use Rattle.memory.proofs.MemoryLaws.{then-means, means-by, count-is, task-is, held-is, waiting-is, run-law, now-law, queue-law}
-use Rattle.memory.proofs.MemoryLaws.{task-law, place-law, base-law, waiting-law, held-law}
+use Rattle.memory.proofs.MemoryLaws.{then-means, means-by, count-is, task-is, held-is, waiting-is, run-law, now-law}
+use Rattle.memory.proofs.MemoryLaws.{task-law, place-law, waiting-law, held-law}
 
 -- the head's counts stay where the running task changes
 pub still-counted : (h : List ℕ) (v : ℕ) → taskCount (set h runningCell v) ≡ taskCount h
@@ -115,7 +116,7 @@ module _ {h ts hd cs qs : List ℕ} (d : Laid h ts hd cs qs) where
   pub clock-law : {ts' qs' : List ℕ} (r : ℕ) →
       Means (set h nowCell r) ts' hd cs qs' (wakeUp r (taskCount (set h nowCell r)) (modelOf (set h nowCell r) ts hd cs qs)) →
       Means (set h nowCell r) ts' hd cs qs'
-      (wakeUp r (length (modelOf h ts hd cs qs .tasks)) (withNow (modelOf h ts hd cs qs) r))
+      (takeReading (modelOf h ts hd cs qs) r)
   clock-law r y =
       let x = now-law d r in
       let count : taskCount (set h nowCell r) ≡ length (modelOf h ts hd cs qs .tasks) =

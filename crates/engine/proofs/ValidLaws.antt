@@ -1,24 +1,22 @@
 -- What the slices of a sound Model give an event: its running task, its objects, the tests of its rule, and what its dispatch needs.
-use mathlib.Core.Path.{_≡_, refl, ap, _∙_, sym}
-use mathlib.Core.Bool.{Bool, true, false, _&&_, _||_}
+use mathlib.Core.Path.{_≡_, ap, _∙_, sym}
+use mathlib.Core.Bool.{Bool, true, false}
 use mathlib.Core.List.{List}
 use Prim.Native.Nat.{ℕ, _-_, _≤_, _<_}
 use native.Mathlib.Omega.{arith}
 use borrow.Author.Tests.{le-leb, lt-leb, lt-ltb, le-ltb}
-use lib.Dec.{leb, ltb}
+use lib.Dec.{ltb}
 use lib.ListN.{length, getD}
 use lib.Seq.{getD-take}
-use Rattle.rules.specs.Limits.{taskLimit, objectLimit, firstPriority, lastPriority, lastReading}
+use Rattle.rules.specs.Limits.{taskLimit, objectLimit, firstPriority, lastPriority}
 use Rattle.rules.specs.Priorities.{inRange}
 use Rattle.rules.specs.Model.{Model, taskAt, ceilingOf, active}
-use Rattle.rules.specs.Events.{noTask, noObject, timesIn, holds}
+use Rattle.rules.specs.Events.{noTask, noObject, timesIn, holds, overCeiling}
 use Rattle.rules.specs.declared.Runner.the-variants.{Task}
-use Rattle.rules.proofs.Choices.{or-first, or-second}
-use Rattle.rules.proofs.Core.{Core}
 use Rattle.rules.proofs.Pending.{Good, Pending, t-in}
 use Rattle.rules.proofs.Soundness.{sound-good}
 use Rattle.memory.specs.Rows.{heldBy, Held}
-use Rattle.memory.specs.Memory.{nowCell, runningCell, taskCount, objectCount, modelOf, Laid, Means, Valid}
+use Rattle.memory.specs.Memory.{runningCell, taskCount, objectCount, modelOf, Laid, Means, Valid}
 use Rattle.engine.specs.Room.{Dispatches}
 use Rattle.memory.proofs.MemoryLaws.{count-is, objects-is, held-is, busy}
 use Rattle.engine.proofs.MoveLaws.{counted}
@@ -28,16 +26,6 @@ use Rattle.engine.proofs.RoomLaws.{core-dispatches, enter-room}
 pub dispatchable : {h ts hd cs qs : List ℕ} {n : Model} → Means h ts hd cs qs n → Pending false n →
     Laid h ts hd cs qs × Dispatches (modelOf h ts hd cs qs)
 dispatchable {n = n} x p = (x .laid, rw (x .same) (core-dispatches n (p .core)))
-
--- a reading below now or above the largest
-pub reading-past : (now r : ℕ) → r < now → (ltb r now || ltb lastReading r) ≡ true
-reading-past now r h = or-first (ltb r now) (ltb lastReading r) (lt-ltb r now h)
-
-pub reading-far : (now r : ℕ) → lastReading < r → (ltb r now || ltb lastReading r) ≡ true
-reading-far now r h = or-second (ltb r now) (ltb lastReading r) (lt-ltb lastReading r h)
-
-pub reading-good : (now r : ℕ) → now ≤ r → r ≤ lastReading → (ltb r now || ltb lastReading r) ≡ false
-reading-good now r h g = rw (le-ltb r now h) (le-ltb lastReading r g)
 
 -- a priority outside the range
 pub too-low : (p : ℕ) → p < firstPriority → inRange p ≡ false
@@ -82,11 +70,11 @@ module _ {h ts hd cs qs : List ℕ} (v : Valid h ts hd cs qs) where
     ceiling-is : ceilingOf (modelOf h ts hd cs qs .ceilings) o ≡ getD cs o 0
     ceiling-is = getD-take (objectCount h) cs o 0 l
 
-    pub above-ceiling : getD cs o 0 < a → ltb (ceilingOf (modelOf h ts hd cs qs .ceilings) o) (active (modelOf h ts hd cs qs) t) ≡ true
+    pub above-ceiling : getD cs o 0 < a → overCeiling (modelOf h ts hd cs qs) o t ≡ true
     above-ceiling b =
         lt-ltb (ceilingOf (modelOf h ts hd cs qs .ceilings) o) (active (modelOf h ts hd cs qs) t) (omega (arith, ceiling-is, e))
 
-    pub within-ceiling : a ≤ getD cs o 0 → ltb (ceilingOf (modelOf h ts hd cs qs .ceilings) o) (active (modelOf h ts hd cs qs) t) ≡ false
+    pub within-ceiling : a ≤ getD cs o 0 → overCeiling (modelOf h ts hd cs qs) o t ≡ false
     within-ceiling b =
         le-ltb (ceilingOf (modelOf h ts hd cs qs .ceilings) o) (active (modelOf h ts hd cs qs) t) (omega (arith, ceiling-is, e))
 

@@ -1,5 +1,6 @@
 // The nine events, as in specs/Events.antt of crate rules. Each may assume that the slices are laid out and mean a sound Model.
-ghost use Rattle.rules.specs.Events.{enter, leave, delay, suspend, release, clock, setBase, work, finish};
+ghost use mathlib.Core.Path.{_≡_};
+ghost use Rattle.rules.specs.Events.{enter, leave, delay, suspend, release, badReading, clock, setBase, work, finish};
 ghost use Rattle.memory.specs.Memory.{modelOf, Valid, Did};
 use crate::effects;
 use crate::moves;
@@ -171,6 +172,19 @@ pub fn release(
     Answer::Done
 }
 
+// Whether the reading r is refused where now is at.
+fn bad_reading(at: u64, r: u64) -> bool
+    ensures { λ x. ⌜ x ≡ badReading at r ⌝ }
+{
+    if r < at {
+        return true;
+    }
+    if LAST_READING < r {
+        return true;
+    }
+    false
+}
+
 // No dispatch follows where nobody is due: the reading moves nobody then.
 pub fn clock(
     head: &mut [u64; HEAD_WIDTH],
@@ -187,10 +201,8 @@ pub fn clock(
         (modelOf (now (head .entry)) (now (tasks .entry)) (now (held .entry)) (now (ceilings .entry)) (now (queues .entry)))
         r) ⌝ }
 {
-    if r < head[NOW_CELL] {
-        return Answer::BadReading;
-    }
-    if LAST_READING < r {
+    let at = head[NOW_CELL];
+    if bad_reading(at, r) {
         return Answer::BadReading;
     }
     head[NOW_CELL] = r;

@@ -105,6 +105,6 @@ unfolding from outcome filled expected case markedCases Model.highestOf Moves.be
     Fresh.allOf Fresh.newTasks Fresh.joinFrom Fresh.freshModel Fresh.refusedFresh Fresh.fresh Events.timesIn
     Events.enter Events.settleWith Events.settle Events.leave Events.putOff Events.delay Events.rest Events.suspend
     Events.releaseFrom Events.release Events.dueAt Events.earlier Events.firstDue Events.wake Events.wakeUp
-    Events.clock Events.without Events.requeue Events.rebase Events.isEnded Events.setBase Events.work Events.finish
+    Events.badReading Events.clock Events.without Events.requeue Events.rebase Events.isEnded Events.setBase Events.work Events.finish
     Events.apply
 marked = refl

@@ -1,25 +1,22 @@
 -- What each accepted event does before its one dispatch, read off its answer; and the points at which dispatchers have slipped.
 use mathlib.Core.Path.{_≡_, refl, ap, _∙_, sym, subst}
-use mathlib.Core.Bool.{Bool, true, false, cond, not, _||_}
+use mathlib.Core.Bool.{Bool, true, false, cond, not}
 use mathlib.Core.List.{[], _∷_, _++_}
 use Prim.Native.Nat.{ℕ, _<_}
 use native.Mathlib.Omega.{arith}
 use borrow.Author.Tests.{ltb-false}
-use lib.Dec.{ltb}
 use lib.ListN.{length}
 use lib.Seq.{set-set}
-use Rattle.rules.specs.Limits.{lastReading}
 use Rattle.rules.specs.Priorities.{inRange}
 use Rattle.rules.specs.Answers.{numberOf}
-use Rattle.rules.specs.Model.{Model, TaskRecord, none, waits, blank, withPlace, withBase, withWaiting, withNow}
+use Rattle.rules.specs.Model.{Model, TaskRecord, none, waits, blank, withBase, withWaiting}
 use Rattle.rules.specs.Model.{taskAt, withTask}
-use Rattle.rules.specs.Model.{queue, withTasks, ceilingOf, activeOf, active}
+use Rattle.rules.specs.Model.{queue, withTasks, activeOf, active}
 use Rattle.rules.specs.Moves.{stopped, becomeReady, dispatch}
 use Rattle.rules.specs.Events.{noTask, noObject, holds, inside, takeHold, enter, innermost, giveUp, settle, leave, putOff}
-use Rattle.rules.specs.Events.{delay, rest, suspend, releaseFrom, release, wakeUp, clock}
-use Rattle.rules.specs.Events.{rebase, isEnded, setBase, work, finish}
+use Rattle.rules.specs.Events.{delay, rest, suspend, releaseFrom, release, clock}
+use Rattle.rules.specs.Events.{rebase, isEnded, setBase, work, finish, badReading, overCeiling, takeReading, end}
 use Rattle.rules.specs.Moved.{Moved, refused, accepted, byRunning}
-use Rattle.rules.specs.declared.Place.the-variants.{Ended}
 use Rattle.rules.specs.declared.Runner.{Runner}
 use Rattle.rules.specs.declared.Runner.the-variants.{Nobody, Task}
 use Rattle.rules.specs.declared.Answer.{Answer}
@@ -70,7 +67,7 @@ module _ (m : Model) where
   enter-does o =
       does-unless m _ (noObject m o) NoSuchObject _ (omega arith) (does-by m _ _ (λ t.
       after-unless m _ (holds (taskAt m t) o) InsideAction _ (omega arith)
-      (after-unless m _ (ltb (ceilingOf (m .ceilings) o) (active m t)) AboveCeiling _ (omega arith) (after-accepted (takeHold m o t)))))
+      (after-unless m _ (overCeiling m o t) AboveCeiling _ (omega arith) (after-accepted (takeHold m o t)))))
 
   pub leave-does : (o : ℕ) → leave m o .answer ≡ Done → Does m (leave m o) (λ t. settle (giveUp m t) t)
   unfolding leave
@@ -87,11 +84,11 @@ module _ (m : Model) where
   unfolding suspend
   suspend-does = does-by m _ _ (λ t. after-unless m _ (inside (taskAt m t)) InsideAction _ (omega arith) (after-accepted (rest m t)))
 
-  pub finish-does : finish m .answer ≡ Done → Does m (finish m) (λ t. withTask (stopped m) t (withPlace (taskAt m t) Ended))
+  pub finish-does : finish m .answer ≡ Done → Does m (finish m) (end m)
   unfolding finish
   finish-does = does-by m _ _ (λ t.
       after-unless m _ (inside (taskAt m t)) InsideAction _ (omega arith)
-      (after-accepted (withTask (stopped m) t (withPlace (taskAt m t) Ended))))
+      (after-accepted (end m t)))
 
   pub work-does : work m .answer ≡ Done → Does m (work m) (λ t. m)
   unfolding work
@@ -101,9 +98,9 @@ module _ (m : Model) where
   unfolding release
   release-does t = after-unless m _ (noTask m t) NoSuchTask _ (omega arith) (after-accepted _)
 
-  pub clock-does : (r : ℕ) → clock m r .answer ≡ Done → clock m r .model ≡ dispatch (wakeUp r (length (m .tasks)) (withNow m r))
+  pub clock-does : (r : ℕ) → clock m r .answer ≡ Done → clock m r .model ≡ dispatch (takeReading m r)
   unfolding clock
-  clock-does r = after-unless m _ (ltb r (m .now) || ltb lastReading r) BadReading _ (omega arith) (after-accepted _)
+  clock-does r = after-unless m _ (badReading (m .now) r) BadReading _ (omega arith) (after-accepted _)
 
   pub set-does : (t p : ℕ) → setBase m t p .answer ≡ Done → setBase m t p .model ≡ dispatch (rebase m t p)
   unfolding setBase

@@ -1,19 +1,17 @@
 -- The ways of each event, in plain variables: which refusal, or what is accepted.
 use mathlib.Core.Path.{_≡_, ap, _∙_}
-use mathlib.Core.Bool.{true, false, cond, not, _||_}
+use mathlib.Core.Bool.{true, false, cond, not}
 use Prim.Native.Nat.{ℕ, _+_}
-use lib.Dec.{eqb, ltb}
-use lib.ListN.{length}
-use Rattle.rules.specs.Limits.{lastReading}
+use lib.Dec.{eqb}
 use Rattle.rules.specs.Priorities.{inRange}
-use Rattle.rules.specs.Model.{Model, none, waits, withPlace, withBase, withWaiting, withPermit, withNow, taskAt, withTask}
-use Rattle.rules.specs.Model.{ceilingOf, active}
+use Rattle.rules.specs.Model.{Model, none, waits, withPlace, withBase, withWaiting, withPermit, taskAt, withTask}
+use Rattle.rules.specs.Model.{active}
 use Rattle.rules.specs.Moves.{stopped, becomeReady}
 use Rattle.rules.specs.Moved.{Moved, refused, accepted, byRunning}
 use Rattle.rules.specs.Events.{noTask, noObject, holds, inside, takeHold, enter, innermost, giveUp, settleWith, settle, leave}
-use Rattle.rules.specs.Events.{putOff, delay, rest, suspend, releaseFrom, release, wakeUp, clock}
-use Rattle.rules.specs.Events.{requeue, rebase, isEnded, setBase, work, finish}
-use Rattle.rules.specs.declared.Place.the-variants.{Delayed, Suspended, Ended}
+use Rattle.rules.specs.Events.{putOff, delay, rest, suspend, releaseFrom, release, clock}
+use Rattle.rules.specs.Events.{requeue, rebase, isEnded, setBase, work, finish, badReading, overCeiling, takeReading, end}
+use Rattle.rules.specs.declared.Place.the-variants.{Delayed, Suspended}
 use Rattle.rules.specs.declared.Runner.{Runner}
 use Rattle.rules.specs.declared.Runner.the-variants.{Nobody, Task}
 use Rattle.rules.specs.declared.Answer.the-variants.{NoSuchTask, NoSuchObject, BadPriority, BadReading, NobodyRuns, EndedTask}
@@ -35,7 +33,7 @@ module _ (m : Model) (o : ℕ) where
   entering : ℕ → Moved
   entering t =
       cond (holds (taskAt m t) o) (refused m InsideAction)
-      (cond (ltb (ceilingOf (m .ceilings) o) (active m t)) (refused m AboveCeiling) (accepted (takeHold m o t)))
+      (cond (overCeiling m o t) (refused m AboveCeiling) (accepted (takeHold m o t)))
 
   pub enter-2 : noObject m o ≡ true → enter m o ≡ refused m NoSuchObject
   unfolding enter entering
@@ -53,18 +51,18 @@ module _ (m : Model) (o : ℕ) where
   enter-7 t e w h = on-enter e ∙ by-task m entering t w ∙ cond-true (holds (taskAt m t) o) (refused m InsideAction) _ h
 
   pub enter-8 : (t : ℕ) → noObject m o ≡ false → m .running ≡ Task t → holds (taskAt m t) o ≡ false →
-      ltb (ceilingOf (m .ceilings) o) (active m t) ≡ true → enter m o ≡ refused m AboveCeiling
+      overCeiling m o t ≡ true → enter m o ≡ refused m AboveCeiling
   unfolding entering
   enter-8 t e w h a =
       on-enter e ∙ by-task m entering t w ∙ cond-false (holds (taskAt m t) o) (refused m InsideAction) _ h ∙
-      cond-true (ltb (ceilingOf (m .ceilings) o) (active m t)) (refused m AboveCeiling) _ a
+      cond-true (overCeiling m o t) (refused m AboveCeiling) _ a
 
   pub enter-0 : (t : ℕ) → noObject m o ≡ false → m .running ≡ Task t → holds (taskAt m t) o ≡ false →
-      ltb (ceilingOf (m .ceilings) o) (active m t) ≡ false → enter m o ≡ accepted (takeHold m o t)
+      overCeiling m o t ≡ false → enter m o ≡ accepted (takeHold m o t)
   unfolding entering
   enter-0 t e w h a =
       on-enter e ∙ by-task m entering t w ∙ cond-false (holds (taskAt m t) o) (refused m InsideAction) _ h ∙
-      cond-false (ltb (ceilingOf (m .ceilings) o) (active m t)) (refused m AboveCeiling) _ a
+      cond-false (overCeiling m o t) (refused m AboveCeiling) _ a
 
 -- Leave
 module _ (m : Model) (o : ℕ) where
@@ -172,16 +170,16 @@ rest-none m t e = cond-false (taskAt m t .permit) (withTask m t (withPermit (tas
 module _ (m : Model) where
   pub finish-5 : m .running ≡ Nobody → finish m ≡ refused m NobodyRuns
   unfolding finish outside
-  finish-5 w = outside-5 m (λ t. withTask (stopped m) t (withPlace (taskAt m t) Ended)) w
+  finish-5 w = outside-5 m (end m) w
 
   pub finish-7 : (t : ℕ) → m .running ≡ Task t → inside (taskAt m t) ≡ true → finish m ≡ refused m InsideAction
   unfolding finish outside
-  finish-7 t w h = outside-7 m (λ t. withTask (stopped m) t (withPlace (taskAt m t) Ended)) t w h
+  finish-7 t w h = outside-7 m (end m) t w h
 
   pub finish-0 : (t : ℕ) → m .running ≡ Task t → inside (taskAt m t) ≡ false →
-      finish m ≡ accepted (withTask (stopped m) t (withPlace (taskAt m t) Ended))
+      finish m ≡ accepted (end m t)
   unfolding finish outside
-  finish-0 t w h = outside-0 m (λ t. withTask (stopped m) t (withPlace (taskAt m t) Ended)) t w h
+  finish-0 t w h = outside-0 m (end m) t w h
 
   pub work-5 : m .running ≡ Nobody → work m ≡ refused m NobodyRuns
   unfolding work
@@ -203,13 +201,13 @@ module _ (m : Model) (t : ℕ) where
 
 -- Clock
 module _ (m : Model) (r : ℕ) where
-  pub clock-4 : (ltb r (m .now) || ltb lastReading r) ≡ true → clock m r ≡ refused m BadReading
+  pub clock-4 : badReading (m .now) r ≡ true → clock m r ≡ refused m BadReading
   unfolding clock
-  clock-4 e = cond-true (ltb r (m .now) || ltb lastReading r) (refused m BadReading) _ e
+  clock-4 e = cond-true (badReading (m .now) r) (refused m BadReading) _ e
 
-  pub clock-0 : (ltb r (m .now) || ltb lastReading r) ≡ false → clock m r ≡ accepted (wakeUp r (length (m .tasks)) (withNow m r))
+  pub clock-0 : badReading (m .now) r ≡ false → clock m r ≡ accepted (takeReading m r)
   unfolding clock
-  clock-0 e = cond-false (ltb r (m .now) || ltb lastReading r) (refused m BadReading) _ e
+  clock-0 e = cond-false (badReading (m .now) r) (refused m BadReading) _ e
 
 -- Set
 module _ (m : Model) (t p : ℕ) where

@@ -1,29 +1,29 @@
 -- Every event keeps what is sound, and with ord the ceiling order too: any Model, any event, refused or not.
 use mathlib.Core.Path.{_≡_, refl, ap, _∙_, sym, subst}
-use mathlib.Core.Bool.{Bool, true, false, cond, not, _||_}
+use mathlib.Core.Bool.{Bool, true, false, cond, not}
 use mathlib.Core.List.{List}
 use Prim.Native.Nat.{ℕ, _-_, _≤_, _<_}
 use native.Mathlib.Omega.{arith}
-use borrow.Author.Tests.{leb-true, leb-false, ltb-false, not-false}
-use lib.Dec.{leb, ltb}
+use borrow.Author.Tests.{leb-true, leb-false, not-false}
+use lib.Dec.{leb}
 use lib.ListN.{length}
-use Rattle.rules.specs.Limits.{lastReading, lastDelay}
+use Rattle.rules.specs.Limits.{lastDelay}
 use Rattle.rules.specs.Priorities.{inRange}
 use Rattle.rules.specs.Model.{Model, TaskRecord}
-use Rattle.rules.specs.Model.{taskAt, ceilingOf, active}
+use Rattle.rules.specs.Model.{taskAt, ceilingOf}
 use Rattle.rules.specs.Moves.{stopped, dispatch}
 use Rattle.rules.specs.Moved.{Moved, refused, accepted, byRunning}
 use Rattle.rules.specs.Fresh.{allOf}
 use Rattle.rules.specs.Events.{timesIn, noTask, noObject, holds, inside, takeHold, enter, innermost, giveUp, settle}
 use Rattle.rules.specs.Events.{leave}
 use Rattle.rules.specs.Events.{putOff, delay, rest, suspend, end, release, clock}
-use Rattle.rules.specs.Events.{isEnded, setBase, work, finish, apply}
+use Rattle.rules.specs.Events.{isEnded, setBase, work, finish, apply, badReading, overCeiling}
 use Rattle.rules.specs.declared.Runner.{Runner}
 use Rattle.rules.specs.declared.Runner.the-variants.{Nobody, Task}
 use Rattle.rules.specs.declared.Answer.{Answer}
 use Rattle.rules.specs.declared.Event.{Event}
 use Rattle.rules.specs.declared.Event.the-variants.{Enter, Leave, Delay, Suspend, Release, Clock, Set, Work, Finish}
-use Rattle.rules.proofs.Choices.{split, compare, both-ways, or-none-left, or-none-right}
+use Rattle.rules.proofs.Choices.{split, compare, both-ways}
 use Rattle.rules.proofs.TaskLaws.{running, out-of}
 use Rattle.rules.proofs.Standing.{exclusive}
 use Rattle.rules.proofs.Core.{dispatched}
@@ -31,6 +31,7 @@ use Rattle.rules.proofs.DispatchLaws.{unplaced, Alike, alike-dispatch}
 use Rattle.rules.proofs.HeldLaws.{rising-covers}
 use Rattle.rules.proofs.Pending.{Fair, Pending, Good, fair-unplaced, fair-placed, pending-enter, pending-leave, pending-delay}
 use Rattle.rules.proofs.Pending.{pending-rest, pending-end, pending-release, pending-clock, pending-rebase}
+use Rattle.rules.proofs.Readings.{reading-early, reading-low}
 
 -- a dispatch
 pub good-dispatch : {ord : Bool} (m : Model) → Pending ord m → Good ord (dispatch m)
@@ -93,7 +94,7 @@ keep-enter m o h =
     keep-unless m (noObject m o) _ _ h (λ l.
     keep-by m _ h (λ t e.
     keep-unless m (holds (taskAt m t) o) _ _ h (λ z.
-    keep-unless m (ltb (ceilingOf (m .ceilings) o) (active m t)) _ _ h (λ y.
+    keep-unless m (overCeiling m o t) _ _ h (λ y.
     keep-accepted (takeHold m o t) (pending-enter m o t h e l z y)))))
 
 -- Leave
@@ -134,10 +135,8 @@ keep-release m t h =
 pub keep-clock : {ord : Bool} (m : Model) (r : ℕ) → Good ord m → Keeps ord (clock m r)
 unfolding clock
 keep-clock m r h =
-    keep-unless m (ltb r (m .now) || ltb lastReading r) _ _ h (λ z.
-    let low = ltb-false r (m .now) (or-none-left (ltb r (m .now)) (ltb lastReading r) z) in
-    let high = ltb-false lastReading r (or-none-right (ltb r (m .now)) (ltb lastReading r) z) in
-    keep-accepted _ (pending-clock m r (h .pending) low high))
+    keep-unless m (badReading (m .now) r) _ _ h (λ z.
+    keep-accepted _ (pending-clock m r (h .pending) (reading-early (m .now) r z) (reading-low (m .now) r z)))
 
 -- Set
 pub keep-set : {ord : Bool} (m : Model) (t p : ℕ) → Good ord m → Keeps ord (setBase m t p)

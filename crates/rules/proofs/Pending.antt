@@ -14,8 +14,8 @@ use Rattle.rules.specs.Model.{withNow, taskAt, queue, withTask, withQueu
 use Rattle.rules.specs.Moves.{stopped, becomeReady}
 use Rattle.rules.specs.Fresh.{allOf}
 use Rattle.rules.specs.Events.{timesIn, noObject, holds, inside, takeHold, giveUp, settleWith, settle}
-use Rattle.rules.specs.Events.{putOff, rest, end, permitOn, releaseFrom, wakeUp, without}
-use Rattle.rules.specs.Events.{requeue, rebase}
+use Rattle.rules.specs.Events.{putOff, rest, end, permitOn, releaseFrom, without}
+use Rattle.rules.specs.Events.{requeue, rebase, overCeiling, takeReading}
 use Rattle.rules.specs.Sound.{isReady, isRunning, runs, waitingGood, distinct, rising, dueGood}
 use Rattle.rules.specs.declared.Place.{Place}
 use Rattle.rules.specs.declared.Place.the-variants.{Running, Ready, Delayed, Suspended, Ended}
@@ -223,7 +223,7 @@ entered cs now o k f l z g = record {
 }
 
 pub pending-enter : {ord : Bool} (m : Model) (o t : ℕ) → Good ord m → m .running ≡ Task t → noObject m o ≡ false →
-    holds (taskAt m t) o ≡ false → ltb (ceilingOf (m .ceilings) o) (active m t) ≡ false → Pending ord (takeHold m o t)
+    holds (taskAt m t) o ≡ false → overCeiling m o t ≡ false → Pending ord (takeHold m o t)
 pending-enter m o t h e l z y =
     pending-held m t h e (withHeld (taskAt m t) (taskAt m t .held ++ (o ∷ []))) refl refl refl
     (entered (m .ceilings) (m .now) o (taskAt m t) (t-fair m t h e) l (omega (arith, ltb-false 0 (timesIn o (taskAt m t .held)) z))
@@ -351,7 +351,7 @@ due-awake now r Suspended l e = refl
 due-awake now r Ended l e = refl
 
 pub pending-clock : {ord : Bool} (m : Model) (r : ℕ) → Pending ord m → m .now ≤ r → r ≤ lastReading →
-    Pending ord (wakeUp r (length (m .tasks)) (withNow m r))
+    Pending ord (takeReading m r)
 pending-clock {ord} m r p l g = record {
   core = a .core;
   sizes = record {
@@ -364,7 +364,7 @@ pending-clock {ord} m r p l g = record {
 }
   where
     n : Model
-    n = wakeUp r (length (m .tasks)) (withNow m r)
+    n = takeReading m r
 
     a : Awake ord r (withNow m r) n
     a = wakes r (length (m .tasks)) (withNow m r) (core-now m r (p .core)) (dues-most r (m .tasks))

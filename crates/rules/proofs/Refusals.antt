@@ -1,20 +1,18 @@
 -- The table of refusals: every event answers with the first row of document 01's table that applies to it, and with 0 if none does;
 -- and a refused event gives back the Model that it got.
 use mathlib.Core.Path.{_≡_, refl, ap, _∙_, sym}
-use mathlib.Core.Bool.{Bool, true, false, cond, not, _||_}
+use mathlib.Core.Bool.{Bool, true, false, cond, not}
 use mathlib.Core.List.{List, [], _∷_}
 use Prim.Native.Nat.{ℕ, zero, suc, _+_, _<_}
 use native.Mathlib.Nat.{not-suc-le-zero}
 use native.Mathlib.Omega.{arith}
 use mathlib.Core.Logic.{_↔_, _⊎_, inl, inr}
-use lib.Dec.{ltb}
-use Rattle.rules.specs.Limits.{lastReading}
 use Rattle.rules.specs.Priorities.{inRange}
 use Rattle.rules.specs.Answers.{numberOf}
-use Rattle.rules.specs.Model.{Model, taskAt, ceilingOf, active}
+use Rattle.rules.specs.Model.{Model, taskAt}
 use Rattle.rules.specs.Moved.{Moved, refused, accepted, byRunning}
 use Rattle.rules.specs.Events.{noTask, noObject, holds, inside, innermost, isEnded, apply}
-use Rattle.rules.specs.Events.{enter, leave, delay, suspend, release, clock, setBase, work, finish}
+use Rattle.rules.specs.Events.{enter, leave, delay, suspend, release, clock, setBase, work, finish, badReading, overCeiling}
 use Rattle.rules.specs.declared.Runner.{Runner}
 use Rattle.rules.specs.declared.Runner.the-variants.{Nobody, Task}
 use Rattle.rules.specs.declared.Event.{Event}
@@ -69,17 +67,17 @@ badPriority m (Set t p) = not (inRange (p .0))
 badPriority m Work = false
 badPriority m Finish = false
 
--- 4 "reading below now or above the largest"
-unfoldable pub badReading : Model → Event → Bool
-badReading m (Enter o) = false
-badReading m (Leave o) = false
-badReading m (Delay d) = false
-badReading m Suspend = false
-badReading m (Release t) = false
-badReading m (Clock r) = ltb r (m .now) || ltb lastReading r
-badReading m (Set t p) = false
-badReading m Work = false
-badReading m Finish = false
+-- 4 a Clock of a "reading below now or above the largest"
+unfoldable pub badClock : Model → Event → Bool
+badClock m (Enter o) = false
+badClock m (Leave o) = false
+badClock m (Delay d) = false
+badClock m Suspend = false
+badClock m (Release t) = false
+badClock m (Clock r) = badReading (m .now) r
+badClock m (Set t p) = false
+badClock m Work = false
+badClock m Finish = false
 
 -- 5 "Enter, Leave, Delay, Suspend, Work, Finish .. and nobody runs"
 unfoldable pub nobodyRuns : Model → Event → Bool
@@ -119,7 +117,7 @@ insideAction m Finish = ofRunner (m .running) (λ t. inside (taskAt m t))
 
 -- 8 "Enter with active priority above the ceiling"
 unfoldable pub aboveCeiling : Model → Event → Bool
-aboveCeiling m (Enter o) = ofRunner (m .running) (λ t. ltb (ceilingOf (m .ceilings) o) (active m t))
+aboveCeiling m (Enter o) = ofRunner (m .running) (λ t. overCeiling m o t)
 aboveCeiling m (Leave o) = false
 aboveCeiling m (Delay d) = false
 aboveCeiling m Suspend = false
@@ -152,7 +150,7 @@ table m e =
     record { answer = NoSuchTask; applies = noSuchTask m e } ∷
     record { answer = NoSuchObject; applies = noSuchObject m e } ∷
     record { answer = BadPriority; applies = badPriority m e } ∷
-    record { answer = BadReading; applies = badReading m e } ∷
+    record { answer = BadReading; applies = badClock m e } ∷
     record { answer = NobodyRuns; applies = nobodyRuns m e } ∷
     record { answer = EndedTask; applies = endedTask m e } ∷
     record { answer = InsideAction; applies = insideAction m e } ∷
@@ -193,7 +191,7 @@ no-test m (Task t) = refl
 -- every event answers with the lowest row that applies
 pub answers : (m : Model) (e : Event) → apply m e .answer ≡ lowest (table m e)
 unfolding apply enter leave delay suspend release clock setBase work finish accepted lowest table
-    noSuchTask noSuchObject badPriority badReading nobodyRuns endedTask insideAction aboveCeiling notInnermost
+    noSuchTask noSuchObject badPriority badClock nobodyRuns endedTask insideAction aboveCeiling notInnermost
 answers m (Enter o) =
     answer-cond (noObject m o) (refused m NoSuchObject) _ ∙ ap (cond (noObject m o) NoSuchObject) (two-tests m (m .running) _ _ _ _ _)
 answers m (Leave o) =
@@ -201,7 +199,7 @@ answers m (Leave o) =
 answers m (Delay d) = one-test m (m .running) _ _ _
 answers m Suspend = one-test m (m .running) _ _ _
 answers m (Release t) = answer-cond (noTask m t) (refused m NoSuchTask) _
-answers m (Clock r) = answer-cond (ltb r (m .now) || ltb lastReading r) (refused m BadReading) _
+answers m (Clock r) = answer-cond (badReading (m .now) r) (refused m BadReading) _
 answers m (Set t p) =
     answer-cond (noTask m t) (refused m NoSuchTask) _ ∙
     ap (cond (noTask m t) NoSuchTask)
@@ -338,13 +336,13 @@ pub refused-same : (m : Model) (e : Event) → (apply m e .answer ≡ Done → �
 unfolding apply enter leave delay suspend release clock setBase work finish
 refused-same m (Enter o) =
     same-unless m (noObject m o) _ _ (same-by m (m .running) _ (λ t.
-    same-unless m (holds (taskAt m t) o) _ _ (same-unless m (ltb (ceilingOf (m .ceilings) o) (active m t)) _ _ (same-done m _))))
+    same-unless m (holds (taskAt m t) o) _ _ (same-unless m (overCeiling m o t) _ _ (same-done m _))))
 refused-same m (Leave o) =
     same-unless m (noObject m o) _ _ (same-by m (m .running) _ (λ t. same-unless m (not (innermost (taskAt m t) o)) _ _ (same-done m _)))
 refused-same m (Delay d) = same-by m (m .running) _ (λ t. same-unless m (inside (taskAt m t)) _ _ (same-done m _))
 refused-same m Suspend = same-by m (m .running) _ (λ t. same-unless m (inside (taskAt m t)) _ _ (same-done m _))
 refused-same m (Release t) = same-unless m (noTask m t) _ _ (same-done m _)
-refused-same m (Clock r) = same-unless m (ltb r (m .now) || ltb lastReading r) _ _ (same-done m _)
+refused-same m (Clock r) = same-unless m (badReading (m .now) r) _ _ (same-done m _)
 refused-same m (Set t p) =
     same-unless m (noTask m t) _ _
     (same-unless m (not (inRange (p .0))) _ _ (same-unless m (isEnded (taskAt m t .place)) _ _ (same-done m _)))

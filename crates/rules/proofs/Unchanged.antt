@@ -1,21 +1,20 @@
 -- No event changes the ceilings or the number of tasks.
 use mathlib.Core.Path.{_≡_, refl, _∙_}
-use mathlib.Core.Bool.{Bool, cond, not, _||_}
+use mathlib.Core.Bool.{Bool, cond, not}
 use mathlib.Core.List.{List}
 use Prim.Native.Nat.{ℕ, zero, suc}
-use lib.Dec.{eqb, leb, ltb}
+use lib.Dec.{eqb, leb}
 use lib.ListN.{length, length-set}
-use Rattle.rules.specs.Limits.{lastReading}
 use Rattle.rules.specs.Priorities.{inRange}
 use Rattle.rules.specs.Model.{Model, Waiting, none, waits, TaskRecord, withNow}
-use Rattle.rules.specs.Model.{taskAt, withTask, withQueue, queue, ceilingOf, active}
+use Rattle.rules.specs.Model.{taskAt, withTask, withQueue, queue, active}
 use Rattle.rules.specs.Moves.{stopped, becomeReady, preempt, start, highest, dispatchBy, dispatch}
 use Rattle.rules.specs.Moved.{Moved, refused, accepted, byRunning}
 use Rattle.rules.specs.Events.{noTask, noObject, holds, inside, enter}
 use Rattle.rules.specs.Events.{innermost, giveUp, settleWith, settle, leave, putOff, delay}
 use Rattle.rules.specs.Events.{rest, suspend, releaseFrom, release, Due, nobody, task}
 use Rattle.rules.specs.Events.{firstDue, wake, wakeUp, clock, without, requeue, rebase}
-use Rattle.rules.specs.Events.{isEnded, setBase, work, end, finish, apply}
+use Rattle.rules.specs.Events.{isEnded, setBase, work, end, finish, apply, badReading, overCeiling}
 use Rattle.rules.specs.declared.Place.{Place}
 use Rattle.rules.specs.declared.Place.the-variants.{Running, Ready, Delayed, Suspended, Ended}
 use Rattle.rules.specs.declared.Event.{Event}
@@ -128,7 +127,7 @@ module _ (cs : List ℕ) (n : ℕ) where
   apply-has m (Enter o) h =
       unless-has m (noObject m o) _ _ h (by-has m (m .running) _ h (λ t.
       unless-has m (holds (taskAt m t) o) _ _ h
-      (unless-has m (ltb (ceilingOf (m .ceilings) o) (active m t)) _ _ h (accepted-has _ (with-has m t _ h)))))
+      (unless-has m (overCeiling m o t) _ _ h (accepted-has _ (with-has m t _ h)))))
   apply-has m (Leave o) h =
       unless-has m (noObject m o) _ _ h (by-has m (m .running) _ h (λ t.
       unless-has m (not (innermost (taskAt m t) o)) _ _ h
@@ -139,7 +138,7 @@ module _ (cs : List ℕ) (n : ℕ) where
       by-has m (m .running) _ h (λ t. unless-has m (inside (taskAt m t)) _ _ h (accepted-has _ (rest-has m t h)))
   apply-has m (Release t) h = unless-has m (noTask m t) _ _ h (accepted-has _ (released-has m t (taskAt m t .place) h))
   apply-has m (Clock r) h =
-      unless-has m (ltb r (m .now) || ltb lastReading r) _ _ h
+      unless-has m (badReading (m .now) r) _ _ h
       (accepted-has _ (wakes-has r (length (m .tasks)) (withNow m r) h))
   apply-has m (Set t p) h =
       unless-has m (noTask m t) _ _ h (unless-has m (not (inRange (p .0))) _ _ h

@@ -41,13 +41,17 @@ inside k = ltb 0 (length (k .held))
 abbrev pub takeHold : Model → ℕ → ℕ → Model
 takeHold m o t = withTask m t (withHeld (taskAt m t) (taskAt m t .held ++ (o ∷ [])))
 
--- 2; 5; 7, "Enter of an object that the task holds"; 8, "Enter with active priority above the ceiling"
+-- 8: "active priority above the ceiling"
+abbrev pub overCeiling : Model → ℕ → ℕ → Bool
+overCeiling m o t = ltb (ceilingOf (m .ceilings) o) (active m t)
+
+-- 2; 5; 7, "Enter of an object that the task holds"; 8
 unfoldable pub enter : Model → ℕ → Moved
 enter m o =
     refuseIf m (noObject m o) NoSuchObject
     (byRunning m (m .running) (λ t.
     refuseIf m (holds (taskAt m t) o) InsideAction
-    (refuseIf m (ltb (ceilingOf (m .ceilings) o) (active m t)) AboveCeiling
+    (refuseIf m (overCeiling m o t) AboveCeiling
     (accepted (takeHold m o t)))))
 
 -- the object that the task entered last
@@ -146,11 +150,17 @@ unfoldable pub wakeUp : ℕ → ℕ → Model → Model
 wakeUp r zero m = m
 wakeUp r (suc n) m = wakeUp r n (wake m (firstDue r nobody 0 (m .tasks)))
 
--- 4, "reading below now or above the largest"; "Clock r: now is r."
+-- 4: "reading below now or above the largest"
+unfoldable pub badReading : ℕ → ℕ → Bool
+badReading now r = ltb r now || ltb lastReading r
+
+-- "Clock r: now is r. Tasks due at or before r become ready"
+abbrev pub takeReading : Model → ℕ → Model
+takeReading m r = wakeUp r (length (m .tasks)) (withNow m r)
+
+-- 4
 unfoldable pub clock : Model → ℕ → Moved
-clock m r =
-    refuseIf m (ltb r (m .now) || ltb lastReading r) BadReading
-    (accepted (wakeUp r (length (m .tasks)) (withNow m r)))
+clock m r = refuseIf m (badReading (m .now) r) BadReading (accepted (takeReading m r))
 
 -- a list without the first of a number
 unfoldable pub without : ℕ → List ℕ → List ℕ

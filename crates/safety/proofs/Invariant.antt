@@ -1,17 +1,16 @@
 -- The invariant of a history, and that every event keeps it: the Model is good, agrees with what is reckoned, and each task fits its
 -- script.
 use mathlib.Core.Path.{_≡_, refl, ap, _∙_, sym, subst}
-use mathlib.Core.Bool.{Bool, true, false, cond, _||_}
+use mathlib.Core.Bool.{Bool, true, false, cond}
 use mathlib.Core.List.{List, [], _∷_, map}
 use Prim.Native.Nat.{ℕ, suc, _+_, _-_, _≤_, _<_}
 use native.Mathlib.Omega.{arith}
 use borrow.Author.Tests.{eqb-true, ltb-true, leb-false}
 use lib.Dec.{eqb, ltb}
 use lib.ListN.{length, getD, set, take, length-set, length-map, List·getD-map}
-use Rattle.rules.specs.Limits.{lastReading}
 use Rattle.rules.specs.Model.{Model, Waiting, none, waits, taskAt, ceilingOf, highestOf, activeOf}
 use Rattle.rules.specs.Moved.{Moved, refused}
-use Rattle.rules.specs.Events.{timesIn, without, noTask, clock, release, apply}
+use Rattle.rules.specs.Events.{timesIn, without, noTask, clock, release, apply, badReading}
 use Rattle.rules.specs.Events
 use Rattle.rules.specs.declared.Runner.{Runner}
 use Rattle.rules.specs.declared.Runner.the-variants.{Nobody, Task}
@@ -108,9 +107,9 @@ module _ (r : Roster) (c : Config) (b : Reckoning) (i : Inv r c b) where
   by-clock : (x : ℕ) → Inv r (outside c (clock (c .model) x) .config)
       (cond (isDone (outside c (clock (c .model) x) .answer)) (record { now = x; tasks = map (readAt x) (b .tasks) }) b)
   unfolding apply
-  by-clock x = go (ltb x (c .model .now) || ltb lastReading x) refl
+  by-clock x = go (badReading (c .model .now) x) refl
     where
-      go : (v : Bool) → (ltb x (c .model .now) || ltb lastReading x) ≡ v → Inv r (outside c (clock (c .model) x) .config)
+      go : (v : Bool) → badReading (c .model .now) x ≡ v → Inv r (outside c (clock (c .model) x) .config)
           (cond (isDone (outside c (clock (c .model) x) .answer)) (record { now = x; tasks = map (readAt x) (b .tasks) }) b)
       go false e =
           accepted-way _ (clock (c .model) x) (fine-clock (c .positions) b (c .model) (i .good) (i .agree) x e)

@@ -1,27 +1,27 @@
 -- What each step of a script, each release and each reading makes of the Model and of what is reckoned.
 use mathlib.Core.Path.{_≡_, refl, ap, _∙_, sym, subst}
-use mathlib.Core.Bool.{Bool, true, false, cond, _||_}
+use mathlib.Core.Bool.{Bool, true, false, cond}
 use mathlib.Core.List.{List, [], _∷_, _++_, map}
 use Prim.Native.Nat.{ℕ, _+_, _-_, _≤_, _<_}
 use native.Mathlib.Omega.{arith}
-use borrow.Author.Tests.{eq-eqb, ne-eqb, eqb-true, lt-leb, le-ltb, ltb-true, ltb-false}
-use lib.Dec.{eqb, leb, ltb}
+use borrow.Author.Tests.{eq-eqb, ne-eqb, eqb-true, lt-leb, le-ltb, ltb-true}
+use lib.Dec.{eqb, leb}
 use lib.ListN.{length, getD, take, length-set, length-map, List·getD-map}
-use Rattle.rules.specs.Limits.{lastReading, lastDelay}
+use Rattle.rules.specs.Limits.{lastDelay}
 use Rattle.rules.specs.Priorities.{inRange}
 use Rattle.rules.specs.Model.{Model, TaskRecord, Waiting, none, waits, blank, withPlace, withBase, withWaiting, withHeld, withNow}
 use Rattle.rules.specs.Model.{taskAt, withTask, ceilingOf, activeOf, active}
 use Rattle.rules.specs.Moves.{becomeReady, stopped, dispatch}
 use Rattle.rules.specs.Moved.{Moved, accepted}
 use Rattle.rules.specs.Events.{timesIn, without, inside, innermost, takeHold, giveUp, settle, putOff, rest, end}
-use Rattle.rules.specs.Events.{permitOn, releaseFrom, wakeUp, requeue, rebase, isEnded, enter, leave, delay, suspend, release, clock}
+use Rattle.rules.specs.Events.{permitOn, releaseFrom, requeue, rebase, isEnded, enter, leave, delay, suspend, release, clock}
 use Rattle.rules.specs.Events.{setBase}
-use Rattle.rules.specs.Events.{work, finish}
+use Rattle.rules.specs.Events.{work, finish, badReading, takeReading}
 use Rattle.rules.specs.declared.Place.{Place}
 use Rattle.rules.specs.declared.Place.the-variants.{Running, Ready, Delayed, Suspended, Ended}
 use Rattle.rules.specs.declared.Runner.the-variants.{Task}
 use Rattle.rules.specs.declared.Answer.the-variants.{Done}
-use Rattle.rules.proofs.Choices.{cond-true, cond-false, or-none-left, or-none-right}
+use Rattle.rules.proofs.Choices.{cond-true, cond-false}
 use Rattle.rules.proofs.TaskLaws.{at-same}
 use Rattle.rules.proofs.DispatchLaws.{runner-place, running-place, alike-dispatch}
 use Rattle.rules.proofs.WakingLaws.{awakeAt, Awake, wakes, core-now, dues-most}
@@ -31,6 +31,7 @@ use Rattle.rules.proofs.Kept.{good-dispatch}
 use Rattle.rules.proofs.EventLaws.{enter-0, leave-0, settle-inside, settle-none, settle-due, delay-0, put-tail, put-until, suspend-0}
 use Rattle.rules.proofs.EventLaws.{rest-permit, rest-none, finish-0, work-0, release-0, clock-0, set-0, rebase-inside, rebase-same}
 use Rattle.rules.proofs.EventLaws.{rebase-other}
+use Rattle.rules.proofs.Readings.{reading-early, reading-low}
 use Rattle.safety.specs.Reckon.{Away, here, until, resting, gone, Account, Reckoning, unknown, accountAt, withAccount, insideOf}
 use Rattle.safety.specs.Reckon.{basedOn}
 use Rattle.safety.specs.Reckon.{permitted, goes, awayAfter, readAt, released, releaseOf, counts, atLeave, setOf}
@@ -343,10 +344,10 @@ away-awake r Suspended = refl
 away-awake r Ended = refl
 
 pub fine-clock : (ps : List ℕ) (b : Reckoning) (m : Model) → Good true m → Agree b (m .now) (m .tasks) ps → (r : ℕ) →
-    (ltb r (m .now) || ltb lastReading r) ≡ false → Fine ps (record { now = r; tasks = map (readAt r) (b .tasks) }) (clock m r)
+    badReading (m .now) r ≡ false → Fine ps (record { now = r; tasks = map (readAt r) (b .tasks) }) (clock m r)
 unfolding awayAfter
 fine-clock ps b m h a r e =
-    fine ps _ (clock m r) n (clock-0 m r e) (pending-clock m r (h .pending) early late) (record {
+    fine ps _ (clock m r) n (clock-0 m r e) (pending-clock m r (h .pending) (reading-early (m .now) r e) (reading-low (m .now) r e)) (record {
       reading = sym (w .now);
       size = length-map (b .tasks) (readAt r) ∙ a .size ∙ sym (w .count);
       spots = a .spots ∙ sym (w .count);
@@ -356,13 +357,7 @@ fine-clock ps b m h a r e =
     })
   where
     n : Model
-    n = wakeUp r (length (m .tasks)) (withNow m r)
+    n = takeReading m r
 
     w : Awake true r (withNow m r) n
     w = wakes r (length (m .tasks)) (withNow m r) (core-now m r (h .pending .core)) (dues-most r (m .tasks))
-
-    early : m .now ≤ r
-    early = ltb-false r (m .now) (or-none-left (ltb r (m .now)) (ltb lastReading r) e)
-
-    late : r ≤ lastReading
-    late = ltb-false lastReading r (or-none-right (ltb r (m .now)) (ltb lastReading r) e)
