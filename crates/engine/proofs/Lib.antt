@@ -4,3 +4,4 @@ pub mod EventLaws
 pub mod EffectLaws
 pub mod ValidLaws
 pub mod FreshLaws
+pub mod ApplyLaws

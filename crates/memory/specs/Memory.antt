@@ -99,3 +99,9 @@ pub record Did (h ts hd cs qs : List ℕ) (a : Answer) (r : Moved) : Type 0 wher
   pub same : modelOf h ts hd cs qs ≡ r .model
   pub laid : Laid h ts hd cs qs
   pub answer : a ≡ r .answer
+
+-- after an event of a sound Model: laid out and sound again
+pub record Moves (h ts hd cs qs : List ℕ) (a : Answer) (r : Moved) : Type 0 where
+  pub same : modelOf h ts hd cs qs ≡ r .model
+  pub valid : Valid h ts hd cs qs
+  pub answer : a ≡ r .answer
