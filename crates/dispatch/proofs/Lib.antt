@@ -4,7 +4,7 @@ pub mod EncodeLaws
 pub mod LoadLaws
 pub mod Known
 pub mod TestLaws
-pub mod ApplyLaws
+pub mod RunnerLaws
 pub mod ReaderLaws
 pub mod FreshLaws
 pub mod MethodLaws

@@ -11,7 +11,7 @@ use Rattle.rules.specs.Events.{apply}
 use Rattle.rules.specs.Sound.{sound}
 use Rattle.rules.specs.declared.Event.{Event}
 use Rattle.rules.specs.declared.Answer.{Answer}
-use Rattle.memory.specs.Memory.{modelOf, Means, Valid, Did}
+use Rattle.memory.specs.Memory.{modelOf, Means, Valid, Moves}
 use Rattle.dispatch.specs.declared.State.{State}
 use Rattle.dispatch.specs.declared.Stepped.{Stepped}
 use Rattle.dispatch.specs.State.{view, encode}
@@ -39,7 +39,7 @@ module _ (s : State) where
 
     -- an event on them
     module _ (e : Event) (good : soundOf s ≡ true) {h' ts' hd' cs' qs' : List ℕ} (a : Answer)
-        (d : Did h' ts' hd' cs' qs' a (apply (modelOf h ts hd cs qs) e)) (n : ℕ) (i : n ≡ numberOf a) where
+        (d : Moves h' ts' hd' cs' qs' a (apply (modelOf h ts hd cs qs) e)) (n : ℕ) (i : n ≡ numberOf a) where
       by-rule : appliedOf s e ≡ answered s (apply (modelOf h ts hd cs qs) e)
       unfolding appliedOf
       by-rule = rw (good, m .same)

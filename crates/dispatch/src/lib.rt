@@ -1,5 +1,4 @@
 // The dispatcher: a state by value, and every event a method that hands it back beside its answer.
-mod apply;
 mod fresh;
 mod load;
 mod methods;

@@ -5,7 +5,6 @@ ghost use Rattle.dispatch.specs.Methods.{unsound, appliedOf, enterOf, le
 ghost use Rattle.dispatch.specs.Methods.{setOf, workOf, finishOf};
 use crate::State;
 use crate::Stepped;
-use crate::apply::apply;
 use crate::load::load;
 use crate::store::store;
 use rules::Answer;
@@ -53,7 +52,7 @@ impl State {
         if !soundness::sound(&head, &tasks, &held, &ceilings, &queues) {
             return self.unsound();
         }
-        let answer = apply(
+        let answer = engine::apply(
             &mut head,
             &mut tasks,
             &mut held,

@@ -88,7 +88,7 @@ returns-3 c =
     let fit = sym (at-load .before .before .fits2 .ensures) ∙ not-false _ (at-load .before .if1 .left) in
     let slices = at-load .load .ensures in
     let good = sym (tested s fit slices _ (at-sound .sound .ensures)) ∙ not-false _ (c11 .if2 .left) in
-    let did = c5 .apply .ensures .0 in
+    let did = c5 .apply .ensures in
     refused-by s fit slices (a .args .event) good _ did _ (c .before .number .ensures) (c .if3 .taken)
 
 store-requires : tie.Need-store-requires
@@ -107,7 +107,7 @@ returns-4 c =
     let fit = sym (at-load .before .before .fits2 .ensures) ∙ not-false _ (at-load .before .if1 .left) in
     let slices = at-load .load .ensures in
     let good = sym (tested s fit slices _ (at-sound .sound .ensures)) ∙ not-false _ (c12 .if2 .left) in
-    let did = c6 .apply .ensures .0 in
+    let did = c6 .apply .ensures in
     let zero = c .before .if3 .left in
     accepted-by s fit slices (a .args .event) good _ did _ (c2 .number .ensures) zero _ (c .store .ensures)
 

@@ -1,6 +1,6 @@
 -- `dispatch::store::runner` meets its contract.
 use borrow.Author.Needs.{needs}
-use Rattle.dispatch.proofs.ApplyLaws.{runner-none, runner-some}
+use Rattle.dispatch.proofs.RunnerLaws.{runner-none, runner-some}
 use Rattle.dispatch.proofs.store.runner.Statement.{statement}
 use Rattle.dispatch.proofs.store.runner.Tie as tie
 

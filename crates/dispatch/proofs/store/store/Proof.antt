@@ -2,7 +2,7 @@
 use mathlib.Core.Path.{refl}
 use borrow.Author.Needs.{needs}
 use Rattle.dispatch.proofs.EncodeLaws.{encode-back}
-use Rattle.dispatch.proofs.ApplyLaws.{code-fits}
+use Rattle.dispatch.proofs.RunnerLaws.{code-fits}
 use Rattle.dispatch.proofs.store.store.Statement.{statement}
 use Rattle.dispatch.proofs.store.store.Tie as tie
 

@@ -1,20 +1,14 @@
--- Laws of the engine's slices around an event: who runs, what was done, and that they mean a sound Model again.
+-- Laws of who runs: its code in the head, and that the code fits.
 use mathlib.Core.Path.{_≡_, refl}
-use mathlib.Core.Bool.{true}
 use mathlib.Core.List.{List}
 use Prim.Native.Nat.{ℕ, zero, suc, _-_, _≤_, _<_}
 use native.Mathlib.Numerals.{sub-one}
 use native.Mathlib.Omega.{arith}
 use lib.ListN.{getD}
 use Rattle.rules.specs.Limits.{taskLimit}
-use Rattle.rules.specs.Events.{apply}
-use Rattle.rules.specs.declared.Event.{Event}
-use Rattle.rules.specs.declared.Answer.{Answer}
 use Rattle.rules.specs.declared.Runner.the-variants.{Nobody, Task as Runs}
-use Rattle.rules.proofs.Kept.{delayFits}
 use Rattle.rules.proofs.SoundLaws.{sound-is}
-use Rattle.rules.proofs.Soundness.{sound-kept}
-use Rattle.memory.specs.Memory.{runningCell, runnerOf, modelOf, Valid, Did}
+use Rattle.memory.specs.Memory.{runningCell, runnerOf, modelOf, Valid}
 
 -- who runs, from its code
 pub runner-none : (code : ℕ) → code ≡ 0 → Nobody ≡ runnerOf code
@@ -36,10 +30,3 @@ module _ {h ts hd cs qs : List ℕ} (v : Valid h ts hd cs qs) where
   code-fits =
       let n = sound-is (modelOf h ts hd cs qs) (v .sound) .numbers in
       code-most (getD h runningCell 0) (λ t e. omega (arith, n .runner t e, n .count))
-
-  pub event-did : {h' ts' hd' cs' qs' : List ℕ} {a : Answer} (e x : Event) → e ≡ x → delayFits x ≡ true →
-      Did h' ts' hd' cs' qs' a (apply (modelOf h ts hd cs qs) x) →
-      Did h' ts' hd' cs' qs' a (apply (modelOf h ts hd cs qs) e) × Valid h' ts' hd' cs' qs'
-  event-did e x i f d =
-      let kept = sound-kept (modelOf h ts hd cs qs) x f (v .sound) in
-      (rw i d, record { laid = d .laid; sound = rw (d .same) kept })
