@@ -8,7 +8,8 @@ use borrow.Author.Tests.{eqb-true, eqb-false, leb-true, leb-false}
 use lib.Dec.{eqb, leb}
 use lib.ListN.{length, getD, set, drop, length-set}
 use Rattle.rules.specs.Limits.{taskLimit, firstPriority, lastPriority}
-use Rattle.rules.specs.Model.{Model, TaskRecord, ceilingOf, activeOf, withPlace, taskAt, queue, withTask, active}
+use Rattle.rules.specs.Model.{Model, TaskRecord, ceilingOf, activeOf, withPlace, taskAt, queue, withTask, active, withReady}
+use Rattle.rules.specs.Model.{withRunning}
 use Rattle.rules.specs.Moves.{highest, stopped, becomeReady, preempt, start, dispatchBy, dispatch}
 use Rattle.rules.specs.Events.{timesIn}
 use Rattle.rules.specs.Sound.{queued, isReady, isRunning, runs}
@@ -42,7 +43,7 @@ module _ {ord : Bool} (m : Model) (x : ℕ) (c : Core ord m x) where
   -- only the standing has to be shown anew where bases stay
   pub again : (w : Runner) (qs : List (List ℕ)) (t : ℕ) (k : TaskRecord) (y : ℕ) → length qs ≡ lastPriority →
       firstPriority ≤ baseOf k → baseOf k ≤ lastPriority → Stand ord (m .ceilings) (set (m .tasks) t k) qs w y →
-      Core ord (record { now = m .now; running = w; tasks = set (m .tasks) t k; ceilings = m .ceilings; ready = qs }) y
+      Core ord (withReady (withRunning (withTask m t k) w) qs) y
   again w qs t k y e l h s = record {
     stand = s;
     count = omega (arith, c .count, length-set (m .tasks) t k);

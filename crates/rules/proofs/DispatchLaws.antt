@@ -6,9 +6,9 @@ use Prim.Native.Nat.{ℕ}
 use native.Mathlib.Omega.{arith}
 use borrow.Author.Tests.{eqb-false, leb-false}
 use lib.Dec.{eqb, leb}
-use lib.ListN.{length, set, length-set}
+use lib.ListN.{length, length-set}
 use Rattle.rules.specs.Limits.{taskLimit}
-use Rattle.rules.specs.Model.{Model, TaskRecord, blank, withPlace, taskAt, active}
+use Rattle.rules.specs.Model.{Model, TaskRecord, blank, withPlace, taskAt, active, withReady, withRunning, withTask}
 use Rattle.rules.specs.Moves.{highest, headOf, stopped, becomeReady, preempt, start, dispatchBy, dispatch}
 use Rattle.rules.specs.Sound.{isReady, isRunning, runs}
 use Rattle.rules.specs.declared.Place.{Place}
@@ -70,7 +70,7 @@ alike-then a b = record {
 }
 
 pub alike-place : (m : Model) (t : ℕ) (x : Place) (qs : List (List ℕ)) (w : Runner) → upright x ≡ upright (taskAt m t .place) →
-    Alike m (record { now = m .now; running = w; tasks = set (m .tasks) t (withPlace (taskAt m t) x); ceilings = m .ceilings; ready = qs })
+    Alike m (withReady (withRunning (withTask m t (withPlace (taskAt m t) x)) w) qs)
 alike-place m t x qs w e = record {
   now = refl;
   count = length-set (m .tasks) t _;

@@ -11,6 +11,8 @@ pub mod HeldLaws
 pub mod WakingLaws
 pub mod WakeOrder
 pub mod Pending
+pub mod Ways
+pub mod Refusals
 pub mod Kept
 pub mod StillLaws
 pub mod SoundLaws
@@ -18,7 +20,6 @@ pub mod Soundness
 pub mod FreshLaws
 pub mod Histories
 pub mod MoveLaws
-pub mod Refusals
 pub mod EventLaws
 pub mod Effects
 pub mod Unchanged

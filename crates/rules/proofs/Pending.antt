@@ -10,7 +10,7 @@ use lib.ListN.{length, set, take, length-set, length-append}
 use Rattle.rules.specs.Limits.{taskLimit, objectLimit, lastReading, lastDelay}
 use Rattle.rules.specs.Priorities.{inRange}
 use Rattle.rules.specs.Model.{Model, TaskRecord, Waiting, none, waits, blank, withPlace, withBase, withWaiting, withPermit, withHeld}
-use Rattle.rules.specs.Model.{withNow, taskAt, queue, withTask, withQueue, ceilingOf, activeOf, active}
+use Rattle.rules.specs.Model.{withNow, taskAt, queue, withTask, withQueue, ceilingOf, activeOf, active, withReady, withRunning}
 use Rattle.rules.specs.Moves.{stopped, becomeReady}
 use Rattle.rules.specs.Fresh.{allOf}
 use Rattle.rules.specs.Events.{timesIn, noObject, holds, inside, takeHold, giveUp, settleWith, settle}
@@ -117,7 +117,7 @@ fair-bare cs now k z w d = record {
 
 -- one record is replaced, with other queues and another runner
 abbrev replaced : Model → ℕ → TaskRecord → List (List ℕ) → Runner → Model
-replaced m t k qs w = record { now = m .now; running = w; tasks = set (m .tasks) t k; ceilings = m .ceilings; ready = qs }
+replaced m t k qs w = withReady (withRunning (withTask m t k) w) qs
 
 module _ (m : Model) (t : ℕ) (k : TaskRecord) (qs : List (List ℕ)) (w : Runner) where
   sizes-set : Sizes m → Sizes (replaced m t k qs w)

@@ -20,7 +20,9 @@ use Rattle.rules.specs.declared.Event.the-variants.{Enter, Leave, Delay,
 use Rattle.rules.specs.declared.Answer.{Answer}
 use Rattle.rules.specs.declared.Answer.the-variants.{Done, NoSuchTask, NoSuchObject, BadPriority, BadReading, NobodyRuns, EndedTask}
 use Rattle.rules.specs.declared.Answer.the-variants.{InsideAction, AboveCeiling, NotInnermost}
+use Rattle.rules.specs.Effect.{effect}
 use Rattle.rules.proofs.Choices.{both-ways, cond-true, cond-false}
+use Rattle.rules.proofs.Ways.{each-way}
 
 -- a test of the running task; it does not hold where nobody runs
 unfoldable pub ofRunner : Runner → (ℕ → Bool) → Bool
@@ -324,27 +326,18 @@ same-done : (m n : Model) → Unchanged m (accepted n)
 unfolding accepted
 same-done m n f = absurd (f refl)
 
-same-unless : (m : Model) (b : Bool) (a : Answer) (r : Moved) → Unchanged m r → Unchanged m (cond b (refused m a) r)
-same-unless m b a r h = both-ways (Unchanged m) b (refused m a) r (λ e f. refl) (λ e. h)
-
-same-by : (m : Model) (w : Runner) (f : ℕ → Moved) → ((t : ℕ) → Unchanged m (f t)) → Unchanged m (byRunning m w f)
-unfolding byRunning
-same-by m Nobody f h = λ g. refl
-same-by m (Task t) f h = h t
-
 pub refused-same : (m : Model) (e : Event) → (apply m e .answer ≡ Done → ⊥) → apply m e .model ≡ m
-unfolding apply enter leave delay suspend release clock setBase work finish
-refused-same m (Enter o) =
-    same-unless m (noObject m o) _ _ (same-by m (m .running) _ (λ t.
-    same-unless m (holds (taskAt m t) o) _ _ (same-unless m (overCeiling m o t) _ _ (same-done m _))))
-refused-same m (Leave o) =
-    same-unless m (noObject m o) _ _ (same-by m (m .running) _ (λ t. same-unless m (not (innermost (taskAt m t) o)) _ _ (same-done m _)))
-refused-same m (Delay d) = same-by m (m .running) _ (λ t. same-unless m (inside (taskAt m t)) _ _ (same-done m _))
-refused-same m Suspend = same-by m (m .running) _ (λ t. same-unless m (inside (taskAt m t)) _ _ (same-done m _))
-refused-same m (Release t) = same-unless m (noTask m t) _ _ (same-done m _)
-refused-same m (Clock r) = same-unless m (badReading (m .now) r) _ _ (same-done m _)
-refused-same m (Set t p) =
-    same-unless m (noTask m t) _ _
-    (same-unless m (not (inRange (p .0))) _ _ (same-unless m (isEnded (taskAt m t .place)) _ _ (same-done m _)))
-refused-same m Work = same-by m (m .running) _ (λ t. same-done m _)
-refused-same m Finish = same-by m (m .running) _ (λ t. same-unless m (inside (taskAt m t)) _ _ (same-done m _))
+refused-same m e = each-way (Unchanged m) m (λ a n f. refl) e (same-done m (effect m e))
+
+-- a fact of every refusal, and of the accepted event where no row applies, is one of the event
+pub each-done : (P : Moved → Type 0) (m : Model) (e : Event) → ((a : Answer) → 0 < numberOf a → P (refused m a)) →
+    (((j : ℕ) → appliesAt (table m e) j ≡ false) → P (accepted (effect m e))) → P (apply m e)
+unfolding accepted
+each-done P m e bad good =
+    each-way (λ (r : Moved). r ≡ apply m e → P r) m (λ a n q. bad a n) e
+    (λ q. good (done-only-when m e (ap (λ (r : Moved). r .answer) (sym q)))) refl
+
+-- of a test of the running task: what does not apply to it
+pub of-task : (w : Runner) (f : ℕ → Bool) (t : ℕ) → w ≡ Task t → ofRunner w f ≡ false → f t ≡ false
+unfolding ofRunner
+of-task w f t e h = sym (ap (λ (v : Runner). ofRunner v f) e) ∙ h

@@ -6,4 +6,5 @@ pub mod Moves
 pub mod Moved
 pub mod Fresh
 pub mod Events
+pub mod Effect
 pub mod Sound
