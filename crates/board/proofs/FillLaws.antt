@@ -13,10 +13,10 @@ use Rattle.rules.specs.Limits.{taskLimit, firstPriority, lastPriority}
 use Rattle.rules.specs.Priorities.{inRange}
 use Rattle.rules.specs.Model.{Model, taskAt, queue, active}
 use Rattle.rules.specs.Moves.{highest, headOf}
-use Rattle.rules.specs.Events.{timesIn}
 use Rattle.rules.specs.Sound.{isReady, queued, sound}
 use Rattle.rules.specs.declared.Place.{Place}
 use Rattle.rules.specs.declared.Place.the-variants.{Running, Ready, Delayed, Suspended, Ended}
+use Rattle.rules.specs.Lists.{timesIn}
 use Rattle.rules.proofs.Choices.{split, compare, clash, cond-true, cond-false}
 use Rattle.rules.proofs.Counts.{times-same, times-other, times-cons, times-append}
 use Rattle.rules.proofs.Counts.{times-head, times-none, queued-at, Row as Where, row-of}

@@ -7,7 +7,7 @@ use native.Mathlib.Omega.{arith}
 use lib.ListN.{length, take, drop, getD, replicate, length-map, length-take, List·getD-eq-default, List·getD-map}
 use lib.Seq.{take-at, length-take-le}
 use Rattle.rules.specs.Limits.{taskLimit, objectLimit, lastPriority}
-use Rattle.rules.specs.Model.{Model, TaskRecord, Waiting, none, waits, blank, taskAt}
+use Rattle.rules.specs.Model.{Model, TaskRecord, NextBase, none, waits, blank, taskAt}
 use Rattle.rules.specs.Sound.{sound}
 use Rattle.rules.specs.declared.Priority.{Priority}
 use Rattle.rules.specs.declared.Task.{Task}
@@ -29,7 +29,7 @@ use Rattle.dispatch.proofs.ListLaws.{padded-length, padded-at, padded-b
 use Rattle.dispatch.proofs.FlatLaws.{Short, lists-of, lists-back}
 
 -- a record and what it holds, taken apart and put together
-waiting-there : (w : Waiting) → waitingIn (waitingFor w) ≡ w
+waiting-there : (w : NextBase) → waitingIn (waitingFor w) ≡ w
 unfolding waitingIn waitingFor
 waiting-there none = refl
 waiting-there (waits p) = refl

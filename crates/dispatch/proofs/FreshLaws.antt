@@ -11,8 +11,9 @@ use lib.ListN.{length, drop, getD, drop-of-length-le}
 use lib.Seq.{drop-cons}
 use Rattle.rules.specs.Limits.{taskLimit, objectLimit}
 use Rattle.rules.specs.Priorities.{inRange}
-use Rattle.rules.specs.Fresh.{allOf, countsGood, freshModel, refusedFresh, fresh}
+use Rattle.rules.specs.Fresh.{countsGood, freshModel, refusedFresh, fresh}
 use Rattle.rules.specs.declared.Answer.the-variants.{Done, BadCounts, BadBases}
+use Rattle.rules.specs.Lists.{allOf}
 use Rattle.rules.proofs.Choices.{and-make}
 use Rattle.rules.proofs.Soundness.{good-sound}
 use Rattle.rules.proofs.FreshLaws.{fresh-good, fresh-13, fresh-15, fresh-0}

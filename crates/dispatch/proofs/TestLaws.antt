@@ -10,7 +10,7 @@ use lib.Dec.{leb, ltb}
 use lib.ListN.{getD}
 use Rattle.rules.specs.Limits.{taskLimit, objectLimit, lastPriority}
 use Rattle.rules.specs.Fresh.{countsGood}
-use Rattle.rules.specs.Sound.{below}
+use Rattle.rules.specs.Lists.{below}
 use Rattle.memory.specs.Rows.{heldWidth, queueWidth}
 use Rattle.dispatch.specs.declared.State.{State}
 use Rattle.dispatch.specs.Sound.{lengthsGood, sizesFit}

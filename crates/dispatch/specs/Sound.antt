@@ -6,7 +6,8 @@ use lib.Dec.{ltb}
 use lib.ListN.{getD}
 use Rattle.rules.specs.Limits.{lastPriority}
 use Rattle.rules.specs.Fresh.{countsGood}
-use Rattle.rules.specs.Sound.{below, sound}
+use Rattle.rules.specs.Sound.{sound}
+use Rattle.rules.specs.Lists.{below}
 use Rattle.memory.specs.Rows.{heldWidth, queueWidth}
 use Rattle.dispatch.specs.declared.State.{State}
 use Rattle.dispatch.specs.State.{view}

@@ -3,7 +3,7 @@ use mathlib.Core.List.{List, [], _++_, map, flatMap}
 use Prim.Native.Nat.{ℕ, _-_}
 use lib.ListN.{length, take, replicate}
 use Rattle.rules.specs.Limits.{taskLimit, objectLimit}
-use Rattle.rules.specs.Model.{TaskRecord, Model, Waiting, none, waits}
+use Rattle.rules.specs.Model.{TaskRecord, Model, NextBase, none, waits}
 use Rattle.rules.specs.declared.Priority.{Priority}
 use Rattle.rules.specs.declared.Task.{Task}
 use Rattle.rules.specs.declared.WaitingBase.{WaitingBase}
@@ -32,7 +32,7 @@ view s =
     }
 
 -- the record of a task, and what it holds
-unfoldable pub waitingFor : Waiting → WaitingBase
+unfoldable pub waitingFor : NextBase → WaitingBase
 waitingFor none = Nothing
 waitingFor (waits p) = Base (priority p)
 

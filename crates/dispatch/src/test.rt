@@ -3,7 +3,7 @@ ghost use mathlib.Core.Path.{_≡_};
 ghost use Prim.Native.Nat.{_*_, _≤_, _<_};
 ghost use lib.ListN.{length};
 ghost use Rattle.rules.specs.Priorities.{inRange};
-ghost use Rattle.rules.specs.Fresh.{allOf};
+ghost use Rattle.rules.specs.Lists.{allOf};
 ghost use Rattle.dispatch.specs.Sound.{lengthsGood, sizesFit};
 use crate::State;
 use memory::sizes::HELD_WIDTH;

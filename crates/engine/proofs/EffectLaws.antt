@@ -12,7 +12,7 @@ use Rattle.rules.specs.Limits.{taskLimit}
 use Rattle.rules.specs.Model.{Model, TaskRecord, none, waits, blank, withPlace, withWaiting}
 use Rattle.rules.specs.Model.{withNow, withRunning, taskAt, withTask, queue, withQueue}
 use Rattle.rules.specs.Moves.{becomeReady, stopped}
-use Rattle.rules.specs.Events.{inside, innermost, Due, nobody, earlier, dueAt, firstDue, wakeUp, without, requeue, takeHold, giveUp}
+use Rattle.rules.specs.Events.{inside, innermost, Due, nobody, earlier, dueAt, firstDue, wakeUp, requeue, takeHold, giveUp}
 use Rattle.rules.specs.Events.{takeReading}
 use Rattle.rules.specs.declared.Priority.{Priority}
 use Rattle.rules.specs.declared.Place.{Place}
@@ -21,6 +21,7 @@ use Rattle.rules.specs.declared.WaitingBase.{WaitingBase}
 use Rattle.rules.specs.declared.WaitingBase.the-variants.{Nothing, Base}
 use Rattle.rules.specs.declared.Runner.the-variants.{Nobody}
 use Rattle.rules.specs.declared.Task.{Task}
+use Rattle.rules.specs.Lists.{without}
 use Rattle.engine.specs.declared.effects.Due.{Due as Found}
 use Rattle.memory.specs.Rows.{heldBy, Held, HeldBecame}
 use Rattle.memory.specs.Tasks.{taskIn, Tasks, TaskBecame, placed, based, waited}

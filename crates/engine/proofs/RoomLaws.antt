@@ -12,11 +12,12 @@ use Rattle.rules.specs.Priorities.{inRange}
 use Rattle.rules.specs.Model.{Model, TaskRecord, none, waits, blank, withBase, withWaiting, withHeld, withNow}
 use Rattle.rules.specs.Model.{taskAt, withTask, queue, withQueue, active}
 use Rattle.rules.specs.Moves.{headOf, stopped}
-use Rattle.rules.specs.Events.{timesIn, holds, inside, giveUp, Due, nobody, task, firstDue, wake, wakeUp, without}
+use Rattle.rules.specs.Events.{holds, inside, giveUp, Due, nobody, task, firstDue, wake, wakeUp}
 use Rattle.rules.specs.Sound.{isReady, isRunning, runs, waitingGood}
 use Rattle.rules.specs.declared.Place.{Place}
 use Rattle.rules.specs.declared.Place.the-variants.{Running, Ready, Delayed, Suspended, Ended}
 use Rattle.rules.specs.declared.Runner.the-variants.{Task}
+use Rattle.rules.specs.Lists.{timesIn, without}
 use Rattle.rules.proofs.Choices.{compare, clash}
 use Rattle.rules.proofs.PriorityLaws.{in-bounds}
 use Rattle.rules.proofs.Counts.{times-same, times-head, queued-at}

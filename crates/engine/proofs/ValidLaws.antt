@@ -11,8 +11,9 @@ use lib.Seq.{getD-take}
 use Rattle.rules.specs.Limits.{taskLimit, objectLimit, firstPriority, lastPriority}
 use Rattle.rules.specs.Priorities.{inRange}
 use Rattle.rules.specs.Model.{Model, taskAt, ceilingOf, active}
-use Rattle.rules.specs.Events.{noTask, noObject, timesIn, holds, overCeiling}
+use Rattle.rules.specs.Events.{noTask, noObject, holds, overCeiling}
 use Rattle.rules.specs.declared.Runner.the-variants.{Task}
+use Rattle.rules.specs.Lists.{timesIn}
 use Rattle.rules.proofs.Pending.{Good, Pending, t-in}
 use Rattle.rules.proofs.Soundness.{sound-good}
 use Rattle.memory.specs.Rows.{heldBy, Held}

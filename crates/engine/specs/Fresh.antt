@@ -7,10 +7,11 @@ use lib.ListN.{length, drop}
 use Rattle.rules.specs.Limits.{taskLimit, objectLimit, lastPriority}
 use Rattle.rules.specs.Priorities.{inRange}
 use Rattle.rules.specs.Model.{Model}
-use Rattle.rules.specs.Fresh.{allOf, joinFrom}
+use Rattle.rules.specs.Fresh.{joinFrom}
 use Rattle.rules.specs.declared.Place.the-variants.{Suspended}
 use Rattle.rules.specs.declared.WaitingBase.the-variants.{Nothing}
 use Rattle.rules.specs.declared.Task.{Task}
+use Rattle.rules.specs.Lists.{allOf}
 use Rattle.memory.specs.Rows.{queueWidth, heldWidth}
 use Rattle.memory.specs.Tasks.{taskWidth, tasksIn, Tasks}
 use Rattle.memory.specs.Memory.{headWidth}

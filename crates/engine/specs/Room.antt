@@ -6,10 +6,11 @@ use lib.ListN.{length}
 use Rattle.rules.specs.Limits.{taskLimit}
 use Rattle.rules.specs.Model.{Model, none, waits, withBase, withWaiting, taskAt, withTask, queue, withQueue, active}
 use Rattle.rules.specs.Moves.{stopped, headOf}
-use Rattle.rules.specs.Events.{Due as RuleDue, inside, nobody, task, firstDue, wakeUp, without}
+use Rattle.rules.specs.Events.{Due as RuleDue, inside, nobody, task, firstDue, wakeUp}
 use Rattle.rules.specs.declared.Place.{Place}
 use Rattle.rules.specs.declared.Place.the-variants.{Running, Ready, Delayed, Suspended, Ended}
 use Rattle.rules.specs.declared.Runner.the-variants.{Task as Runs}
+use Rattle.rules.specs.Lists.{without}
 use Rattle.engine.specs.declared.effects.Due.{Due}
 use Rattle.engine.specs.declared.effects.Due.the-variants.{Nobody, Task}
 use Rattle.memory.specs.Rows.{HasQueue}

@@ -5,8 +5,7 @@ use mathlib.Core.List.{List, [], _∷_, _++_, map}
 use Prim.Native.Nat.{ℕ, _+_}
 use lib.ListN.{length}
 use Rattle.rules.specs.Model
-use Rattle.rules.specs.Events
-use Rattle.rules.specs.Sound
+use Rattle.rules.specs.Lists
 use Rattle.words.specs.Words
 use Rattle.format.specs.Answers
 use Rattle.format.specs.Answers.{numberOf, taskOf, positionOf}
@@ -41,7 +40,7 @@ unfolding Answers.first Words.wordAt Format.trailer Format.taskCount Format.obje
     Form.scriptForm Form.scriptsForm Form.formOf Form.scriptAnswer Form.scriptPart Check.heldAfter Check.heldBefore Check.ownSet
     Check.topOf
     Check.whileHeld Check.lowCeiling Check.notInnermost Check.otherTask Check.faultOf Check.faultIn Check.stepsFault
-    Check.topAt Check.scriptFault Check.rosterFault Check.checkOf Events.timesIn Model.highestOf Sound.below
+    Check.topAt Check.scriptFault Check.rosterFault Check.checkOf Lists.timesIn Model.highestOf Lists.below
 whole-case = refl
 
 -- the steps of the cases below; every number is under 256
@@ -98,5 +97,5 @@ unfolding faulty Answers.first Words.wordAt Format.trailer Format.taskCount Form
     Form.scriptForm Form.scriptsForm Form.formOf Form.scriptAnswer Form.scriptPart Check.heldAfter Check.heldBefore Check.ownSet
     Check.topOf
     Check.whileHeld Check.lowCeiling Check.notInnermost Check.otherTask Check.faultOf Check.faultIn Check.stepsFault
-    Check.topAt Check.scriptFault Check.rosterFault Check.checkOf Events.timesIn Model.highestOf Sound.below
+    Check.topAt Check.scriptFault Check.rosterFault Check.checkOf Lists.timesIn Model.highestOf Lists.below
 faults = refl

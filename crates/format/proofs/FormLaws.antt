@@ -10,7 +10,7 @@ use lib.Dec.{eqb, leb}
 use lib.ListN.{length}
 use Rattle.rules.specs.Limits.{taskLimit, objectLimit}
 use Rattle.rules.specs.Priorities.{inRange}
-use Rattle.rules.specs.Sound.{below}
+use Rattle.rules.specs.Lists.{below}
 use Rattle.format.specs.Limits.{taskRowSize, firstMark, secondMark, stepSize}
 use Rattle.words.specs.Words.{byteAt}
 use Rattle.format.specs.Format.{trailer, taskCount, objectCount, taskTable, objectTable}

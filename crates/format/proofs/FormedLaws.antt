@@ -8,7 +8,7 @@ use lib.Dec.{eqb, leb, ltb}
 use lib.ListN.{length}
 use Rattle.rules.specs.Limits.{taskLimit, objectLimit}
 use Rattle.rules.specs.Priorities.{inRange}
-use Rattle.rules.specs.Sound.{below}
+use Rattle.rules.specs.Lists.{below}
 use Rattle.format.specs.Limits.{taskRowSize}
 use Rattle.format.specs.Answers.{passed}
 use Rattle.words.specs.Words.{byteAt}

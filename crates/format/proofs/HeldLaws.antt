@@ -10,7 +10,7 @@ use borrow.Author.Tests.{eqb-true, eqb-false, eq-eqb, ne-eqb, lt-ltb, le-ltb}
 use lib.Dec.{eqb, ltb}
 use lib.ListN.{length, getD, set, take, drop, drop-of-length-le}
 use lib.Seq.{length-take-le, drop-cons, take-suc-set, take-take, getD-take}
-use Rattle.rules.specs.Events.{timesIn, without}
+use Rattle.rules.specs.Lists.{timesIn, without}
 use Rattle.format.specs.Check.{something, isHeld, isInnermost}
 use Rattle.format.proofs.TestLaws.{by-test, and-no, and-yes}
 

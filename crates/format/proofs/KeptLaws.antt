@@ -10,7 +10,6 @@ use lib.Dec.{eqb}
 use lib.ListN.{length, getD, take, length-append}
 use lib.Seq.{take-suc, take-all, getD-at}
 use Rattle.rules.specs.Model.{ceilingOf, highestOf}
-use Rattle.rules.specs.Events.{timesIn}
 use Rattle.rules.specs.declared.Priority.{Priority}
 use Rattle.format.specs.Steps.{stepIn}
 use Rattle.format.specs.Roster.{Roster, baseOf, scriptOf}

@@ -10,7 +10,7 @@ use lib.ListN.{length, List·getD-eq-default}
 use Rattle.rules.specs.Limits.{taskLimit, objectLimit}
 use Rattle.rules.specs.Model.{ceilingOf}
 use Rattle.rules.specs.Priorities.{inRange, checkedOf}
-use Rattle.rules.specs.Fresh.{allOf, countsGood}
+use Rattle.rules.specs.Fresh.{countsGood}
 use Rattle.rules.specs.declared.Priority.{Priority}
 use Rattle.rules.specs.declared.Checked.{Checked}
 use Rattle.rules.specs.declared.Checked.the-variants.{Good, OutOfRange}

@@ -8,7 +8,7 @@ use native.Mathlib.Nat.{not-suc-le-zero}
 use borrow.Author.Tests.{ltb-true, ltb-false}
 use lib.Dec.{ltb}
 use lib.ListN.{length, take}
-use Rattle.rules.specs.Events.{timesIn}
+use Rattle.rules.specs.Lists.{timesIn}
 use Rattle.format.specs.Answers.{first}
 use Rattle.format.specs.Steps.{stepIn}
 use Rattle.format.specs.Form.{namesListed}

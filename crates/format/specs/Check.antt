@@ -6,7 +6,7 @@ use Prim.Native.Nat.{ℕ, zero, suc, _-_, max}
 use lib.Dec.{eqb, ltb}
 use lib.ListN.{length, getD, take}
 use Rattle.rules.specs.Model.{ceilingOf, highestOf}
-use Rattle.rules.specs.Events.{timesIn}
+use Rattle.rules.specs.Lists.{timesIn}
 use Rattle.format.specs.Answers.{passed, first}
 use Rattle.format.specs.Steps.{stepIn}
 use Rattle.format.specs.Roster.{Roster, rosterOf, baseOf, scriptOf}

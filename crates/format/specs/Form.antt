@@ -7,7 +7,7 @@ use lib.Dec.{eqb, leb, ltb}
 use lib.ListN.{length}
 use Rattle.rules.specs.Priorities.{inRange}
 use Rattle.rules.specs.Fresh.{countsGood}
-use Rattle.rules.specs.Sound.{below}
+use Rattle.rules.specs.Lists.{below}
 use Rattle.format.specs.Limits.{smallestRoster, largestRoster, firstMark, secondMark, stepSize}
 use Rattle.format.specs.Answers.{passed, first}
 use Rattle.words.specs.Words.{byteAt}

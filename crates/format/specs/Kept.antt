@@ -5,7 +5,6 @@ use mathlib.Core.List.{List, [], _∷_, _++_}
 use Prim.Native.Nat.{ℕ, _≤_, _<_}
 use lib.ListN.{length}
 use Rattle.rules.specs.Model.{ceilingOf}
-use Rattle.rules.specs.Events.{timesIn}
 use Rattle.rules.specs.declared.Priority.{Priority}
 use Rattle.format.specs.Steps.{stepIn}
 use Rattle.format.specs.Roster.{Roster, baseOf, scriptOf}

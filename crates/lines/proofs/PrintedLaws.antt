@@ -8,7 +8,7 @@ use borrow.Author.Tests.{ltb-false, le-leb, leb-true, eq-eqb, ne-eqb}
 use lib.Dec.{eqb, leb, ltb}
 use lib.ListN.{length, take, drop, length-append}
 use lib.Seq.{take-append-seam}
-use Rattle.rules.specs.Sound.{below}
+use Rattle.rules.specs.Lists.{below}
 use Rattle.format.specs.Answers as Roster
 use Rattle.format.specs.Check.{checkOf}
 use Rattle.format.proofs.TestLaws.{truth, by-test, and-left, and-right}

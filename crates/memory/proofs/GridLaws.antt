@@ -12,7 +12,7 @@ use lib.ListN.{length, take, drop, getD, set, length-take, length-drop, length-s
 use lib.Seq.{take-at, drop-at, take-add, drop-drop, length-take-le, getD-set-same, getD-set-other, getD-take, getD-drop}
 use lib.Seq.{set-getD, set-set}
 use Rattle.rules.specs.Limits.{taskLimit, objectLimit, lastPriority}
-use Rattle.rules.specs.Events.{without}
+use Rattle.rules.specs.Lists.{without}
 use Rattle.memory.specs.Rows.{byteValues, rows, inRow, rowFor, Tidy, Open, lists, Lists, Became, HasQueue}
 use Rattle.memory.specs.Rows.{placeIn, cutAt, queueWidth, queueIn, Queues, QueueBecame, heldWidth, heldBy, Held, HeldBecame}
 use Rattle.memory.proofs.RowLaws.{row-length, in-row, tidy-row, row-head, row-item, cut-length, cut-last, cut-first}

@@ -9,7 +9,7 @@ use native.Mathlib.Omega.{arith}
 use lib.ListN.{length, take, drop, getD, set, length-set}
 use lib.Seq.{take-set-lt, drop-set-lt, getD-take, getD-set-same, getD-set-other, length-take-le}
 use Rattle.rules.specs.Limits.{taskLimit, objectLimit}
-use Rattle.rules.specs.Model.{Model, TaskRecord, Waiting, blank, withPlace, withBase, withWaiting, withPermit, withHeld}
+use Rattle.rules.specs.Model.{Model, TaskRecord, NextBase, blank, withPlace, withBase, withWaiting, withPermit, withHeld}
 use Rattle.rules.specs.Model.{withNow, withRunning, taskAt, withTask, withQueue}
 use Rattle.rules.specs.declared.Priority.{Priority}
 use Rattle.rules.specs.declared.Place.{Place}

@@ -11,7 +11,7 @@ use lib.ListN.{length, take, drop, getD, set, replicate, length-append, length-t
 use lib.ListN.{drop-of-length-le, List·getD-append, take-append-drop}
 use lib.Seq.{set-append-seam, append-snoc, take-append-seam, drop-append-seam, take-append-le, drop-append-le, take-all, drop-drop}
 use lib.Seq.{drop-cons}
-use Rattle.rules.specs.Events.{without, timesIn}
+use Rattle.rules.specs.Lists.{without, timesIn}
 use Rattle.memory.specs.Rows.{inRow, rowFor, Tidy, placeIn, cutAt}
 
 pub row-length : (w : ℕ) (l : List ℕ) → length l < w → length (rowFor w l) ≡ w

@@ -9,10 +9,8 @@ use borrow.Author.Tests.{eqb-true, eq-eqb}
 use lib.Dec.{eqb}
 use lib.ListN.{length, drop, getD, drop-of-length-le}
 use lib.Seq.{drop-cons}
-use Rattle.rules.specs.Fresh.{allOf}
-use Rattle.rules.specs.Events.{timesIn}
 use Rattle.rules.specs.Sound.{distinct}
-use Rattle.rules.specs.Sound.{below}
+use Rattle.rules.specs.Lists.{allOf, timesIn, below}
 use Rattle.rules.proofs.Choices.{compare, clash, and-make}
 use Rattle.rules.proofs.HeldLaws.{all-at, all-make, distinct-once, once-distinct}
 use Rattle.rules.proofs.SoundLaws.{below-at}

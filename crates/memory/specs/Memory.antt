@@ -5,7 +5,7 @@ use mathlib.Core.List.{List, [], _∷_}
 use Prim.Native.Nat.{ℕ, zero, suc, _-_, _≤_}
 use lib.ListN.{length, take, drop, getD, replicate}
 use Rattle.rules.specs.Limits.{taskLimit, objectLimit}
-use Rattle.rules.specs.Model.{Model, TaskRecord, Waiting, none, waits, blank}
+use Rattle.rules.specs.Model.{Model, TaskRecord, NextBase, none, waits, blank}
 use Rattle.rules.specs.Moved.{Moved}
 use Rattle.rules.specs.Sound.{sound}
 use Rattle.rules.specs.declared.Answer.{Answer}
@@ -45,7 +45,7 @@ runnerOf zero = Nobody
 runnerOf (suc t) = Runs t
 
 -- a task's record, with the list of what it holds, as the Model has it
-unfoldable pub waitingIn : WaitingBase → Waiting
+unfoldable pub waitingIn : WaitingBase → NextBase
 waitingIn Nothing = none
 waitingIn (Base p) = waits (p .0)
 

@@ -5,9 +5,8 @@ ghost use mathlib.Core.List.{[], _∷_, _++_};
 ghost use Prim.Native.Nat.{suc, _≤_, _<_};
 ghost use lib.Dec.{leb};
 ghost use lib.ListN.{length, take, drop};
-ghost use Rattle.rules.specs.Fresh.{allOf};
-ghost use Rattle.rules.specs.Events.{timesIn};
 ghost use Rattle.rules.specs.Sound.{distinct};
+ghost use Rattle.rules.specs.Lists.{allOf, timesIn};
 ghost use Rattle.memory.specs.Rows.{inRow, rowFor, Tidy, Open, placeIn, cutAt};
 
 // The first n cells move up by one, over the cell behind them, and x stands before them.

@@ -4,7 +4,7 @@ ghost use mathlib.Core.Bool.{true, _&&_};
 ghost use Prim.Native.Nat.{_<_};
 ghost use lib.Dec.{eqb};
 ghost use Rattle.rules.specs.Priorities.{inRange};
-ghost use Rattle.rules.specs.Sound.{below};
+ghost use Rattle.rules.specs.Lists.{below};
 ghost use Rattle.format.specs.Format.{taskCount, objectCount};
 ghost use Rattle.format.specs.Form.{lengthGood, markGood, countsKept, tablesGood, laidFrom, scriptsLaid};
 ghost use Rattle.format.specs.Form.{layoutGood, taskRowGood, objectRowGood, valuesGood};

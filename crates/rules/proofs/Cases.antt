@@ -4,6 +4,7 @@ use mathlib.Core.List.{List, [], _∷_, _++_, map}
 use Prim.Native.Nat.{ℕ, _-_}
 use lib.ListN.{set, replicate}
 use Rattle.rules.specs.Limits.{lastPriority}
+use Rattle.rules.specs.Lists
 use Rattle.rules.specs.Answers.{numberOf}
 use Rattle.rules.specs.Model
 use Rattle.rules.specs.Model.{Model}
@@ -102,9 +103,9 @@ markedCases =
 pub marked : map outcome markedCases ≡ map expected markedCases
 unfolding from outcome filled expected case markedCases Model.highestOf Moves.becomeReady Moves.stopped Moves.preempt
     Moves.start Moves.highestTo Moves.highest Moves.dispatchBy Moves.dispatch Moved.accepted Moved.byRunning
-    Fresh.allOf Fresh.newTasks Fresh.joinFrom Fresh.freshModel Fresh.refusedFresh Fresh.fresh Events.timesIn
+    Lists.allOf Fresh.newTasks Fresh.joinFrom Fresh.freshModel Fresh.refusedFresh Fresh.fresh Lists.timesIn
     Events.enter Events.settleWith Events.settle Events.leave Events.putOff Events.delay Events.rest Events.suspend
     Events.releaseFrom Events.release Events.dueAt Events.earlier Events.firstDue Events.wake Events.wakeUp
-    Events.badReading Events.clock Events.without Events.requeue Events.rebase Events.isEnded Events.setBase Events.work Events.finish
+    Events.badReading Events.clock Lists.without Events.requeue Events.rebase Events.isEnded Events.setBase Events.work Events.finish
     Events.apply
 marked = refl

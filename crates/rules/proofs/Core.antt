@@ -11,11 +11,11 @@ use Rattle.rules.specs.Limits.{taskLimit, firstPriority, lastPriority}
 use Rattle.rules.specs.Model.{Model, TaskRecord, ceilingOf, activeOf, withPlace, taskAt, queue, withTask, active, withReady}
 use Rattle.rules.specs.Model.{withRunning}
 use Rattle.rules.specs.Moves.{highest, stopped, becomeReady, preempt, start, dispatchBy, dispatch}
-use Rattle.rules.specs.Events.{timesIn}
 use Rattle.rules.specs.Sound.{queued, isReady, isRunning, runs}
 use Rattle.rules.specs.declared.Place.the-variants.{Running, Ready}
 use Rattle.rules.specs.declared.Runner.{Runner}
 use Rattle.rules.specs.declared.Runner.the-variants.{Nobody, Task}
+use Rattle.rules.specs.Lists.{timesIn}
 use Rattle.rules.proofs.Choices.{split, compare, both-ways}
 use Rattle.rules.proofs.Counts.{times-same, times-behind, times-head, times-none, queued-at, Row, row-of}
 use Rattle.rules.proofs.Levels.{highest-top, highest-above, highest-full, active-low, active-high}

@@ -13,11 +13,11 @@ use Rattle.rules.specs.Priorities.{inRange}
 use Rattle.rules.specs.Model.{Model, TaskRecord, blank, withPlace, taskAt}
 use Rattle.rules.specs.Moves.{becomeReady}
 use Rattle.rules.specs.Moved.{Moved}
-use Rattle.rules.specs.Fresh.{allOf, newTask, newTasks, unstarted, joinFrom, freshModel, refusedFresh, countsGood, fresh}
-use Rattle.rules.specs.Events.{timesIn}
+use Rattle.rules.specs.Fresh.{newTask, newTasks, unstarted, joinFrom, freshModel, refusedFresh, countsGood, fresh}
 use Rattle.rules.specs.Sound.{runs, isReady, isRunning, dueGood, sound}
 use Rattle.rules.specs.declared.Place.the-variants.{Ready}
 use Rattle.rules.specs.declared.Answer.the-variants.{Done, BadCounts, BadBases}
+use Rattle.rules.specs.Lists.{allOf, timesIn}
 use Rattle.rules.proofs.Choices.{split, both-ways, cond-true, cond-false, and-left, and-right}
 use Rattle.rules.proofs.PriorityLaws.{in-bounds}
 use Rattle.rules.proofs.Counts.{queued-empty}

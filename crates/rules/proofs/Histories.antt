@@ -5,9 +5,10 @@ use mathlib.Core.List.{List, [], _∷_}
 use Prim.Native.Nat.{ℕ, _<_}
 use Rattle.rules.specs.Model.{Model, taskAt}
 use Rattle.rules.specs.Fresh.{fresh}
-use Rattle.rules.specs.Events.{timesIn, apply}
+use Rattle.rules.specs.Events.{apply}
 use Rattle.rules.specs.Sound.{sound}
 use Rattle.rules.specs.declared.Event.{Event}
+use Rattle.rules.specs.Lists.{timesIn}
 use Rattle.rules.proofs.Choices.{and-left, and-right}
 use Rattle.rules.proofs.Pending.{Good}
 use Rattle.rules.proofs.Kept.{delayFits, keep, one-holder}

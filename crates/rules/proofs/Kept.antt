@@ -13,14 +13,13 @@ use Rattle.rules.specs.Model.{Model, TaskRecord}
 use Rattle.rules.specs.Model.{taskAt, ceilingOf}
 use Rattle.rules.specs.Moves.{dispatch}
 use Rattle.rules.specs.Moved.{Moved, accepted}
-use Rattle.rules.specs.Fresh.{allOf}
-use Rattle.rules.specs.Events.{timesIn}
 use Rattle.rules.specs.Events.{apply}
 use Rattle.rules.specs.declared.Runner.{Runner}
 use Rattle.rules.specs.declared.Runner.the-variants.{Nobody, Task}
 use Rattle.rules.specs.declared.Event.{Event}
 use Rattle.rules.specs.declared.Event.the-variants.{Enter, Leave, Delay, Suspend, Release, Clock, Set, Work, Finish}
 use Rattle.rules.specs.Effect.{effect, forRunner}
+use Rattle.rules.specs.Lists.{allOf, timesIn}
 use Rattle.rules.proofs.Choices.{split, compare}
 use Rattle.rules.proofs.TaskLaws.{running, out-of}
 use Rattle.rules.proofs.Standing.{exclusive}

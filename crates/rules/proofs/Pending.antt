@@ -9,18 +9,18 @@ use lib.Dec.{eqb, leb, ltb}
 use lib.ListN.{length, set, take, length-set, length-append}
 use Rattle.rules.specs.Limits.{taskLimit, objectLimit, lastReading, lastDelay}
 use Rattle.rules.specs.Priorities.{inRange}
-use Rattle.rules.specs.Model.{Model, TaskRecord, Waiting, none, waits, blank, withPlace, withBase, withWaiting, withPermit, withHeld}
+use Rattle.rules.specs.Model.{Model, TaskRecord, NextBase, none, waits, blank, withPlace, withBase, withWaiting, withPermit, withHeld}
 use Rattle.rules.specs.Model.{withNow, taskAt, queue, withTask, withQueue, ceilingOf, activeOf, active, withReady, withRunning}
 use Rattle.rules.specs.Moves.{stopped, becomeReady}
-use Rattle.rules.specs.Fresh.{allOf}
-use Rattle.rules.specs.Events.{timesIn, noObject, holds, inside, takeHold, giveUp, settleWith, settle}
-use Rattle.rules.specs.Events.{putOff, rest, end, permitOn, releaseFrom, without}
+use Rattle.rules.specs.Events.{noObject, holds, inside, takeHold, giveUp, settleWith, settle}
+use Rattle.rules.specs.Events.{putOff, rest, end, permitOn, releaseFrom}
 use Rattle.rules.specs.Events.{requeue, rebase, overCeiling, takeReading}
 use Rattle.rules.specs.Sound.{isReady, isRunning, runs, waitingGood, distinct, rising, dueGood}
 use Rattle.rules.specs.declared.Place.{Place}
 use Rattle.rules.specs.declared.Place.the-variants.{Running, Ready, Delayed, Suspended, Ended}
 use Rattle.rules.specs.declared.Runner.{Runner}
 use Rattle.rules.specs.declared.Runner.the-variants.{Nobody, Task}
+use Rattle.rules.specs.Lists.{allOf, timesIn, without}
 use Rattle.rules.proofs.Choices.{split, both-ways, and-right, and-make}
 use Rattle.rules.proofs.PriorityLaws.{in-bounds}
 use Rattle.rules.proofs.TaskLaws.{entry, ready, running, depth, baseOf, runs-named, runs-is, at-same, at-other}
@@ -286,7 +286,7 @@ module _ {ord : Bool} (m : Model) (t : ℕ) (h : Good ord m) (e : m .running ≡
       (λ z. left-on (λ i. absurd (omega (arith, i, ltb-true 0 (depth (taskAt (giveUp m t) t)) z, ap depth left-at))))
       (λ z. by-waiting (taskAt (giveUp m t) t .waiting) refl (hold-none (taskAt (giveUp m t) t) z))
     where
-      by-waiting : (w : Waiting) → taskAt (giveUp m t) t .waiting ≡ w → depth (taskAt (giveUp m t) t) ≡ 0 →
+      by-waiting : (w : NextBase) → taskAt (giveUp m t) t .waiting ≡ w → depth (taskAt (giveUp m t) t) ≡ 0 →
           Pending ord (settleWith (giveUp m t) t w)
       by-waiting none w z = left-runs (λ i. sym (ap (λ (v : TaskRecord). v .waiting) left-at) ∙ w)
       by-waiting (waits p) w z = left-rebased p w z

@@ -10,17 +10,17 @@ use lib.Dec.{eqb, leb, ltb}
 use lib.ListN.{length, getD}
 use Rattle.rules.specs.Limits.{taskLimit, objectLimit, lastReading, lastDelay, lastPriority}
 use Rattle.rules.specs.Priorities.{inRange}
-use Rattle.rules.specs.Model.{Model, TaskRecord, Waiting, none, waits, taskAt, queue, ceilingOf, active}
+use Rattle.rules.specs.Model.{Model, TaskRecord, NextBase, none, waits, taskAt, queue, ceilingOf, active}
 use Rattle.rules.specs.Moves.{highestTo, highest}
-use Rattle.rules.specs.Fresh.{allOf}
-use Rattle.rules.specs.Events.{timesIn, noTask, inside}
-use Rattle.rules.specs.Sound.{below, sizesGood, waitingGood, recordGood, runnerGood, numbersGood, isRunning, isReady, runs, queued}
+use Rattle.rules.specs.Events.{noTask, inside}
+use Rattle.rules.specs.Sound.{sizesGood, waitingGood, recordGood, runnerGood, numbersGood, isRunning, isReady, runs, queued}
 use Rattle.rules.specs.Sound.{onePlace, ownQueue, dueGood, dueAhead, highestRuns, distinct, rising, heldGood, holdersHere, isNone}
 use Rattle.rules.specs.Sound.{waitingInside, sound}
 use Rattle.rules.specs.declared.Place.{Place}
 use Rattle.rules.specs.declared.Place.the-variants.{Running, Ready, Delayed, Suspended, Ended}
 use Rattle.rules.specs.declared.Runner.{Runner}
 use Rattle.rules.specs.declared.Runner.the-variants.{Nobody, Task}
+use Rattle.rules.specs.Lists.{allOf, timesIn, below}
 use Rattle.rules.proofs.Choices.{split, compare, and-left, and-right, and-make, or-right, or-first, or-second}
 use Rattle.rules.proofs.Counts.{times-same, times-cons, times-none, queued-at, Row, row-of}
 use Rattle.rules.proofs.Levels.{highest-top, highest-above, highest-full}
@@ -76,11 +76,11 @@ below-make zero f h = refl
 below-make (suc n) f h = and-make (below n f) (f n) (below-make n f (λ i g. h i (omega arith))) (h n (omega arith))
 
 -- single tests and what they say
-pub waiting-is : (w : Waiting) → waitingGood w ≡ true → (p : ℕ) → w ≡ waits p → inRange p ≡ true
+pub waiting-is : (w : NextBase) → waitingGood w ≡ true → (p : ℕ) → w ≡ waits p → inRange p ≡ true
 unfolding waitingGood
 waiting-is w e p q = sym (ap waitingGood q) ∙ e
 
-pub waiting-make : (w : Waiting) → ((p : ℕ) → w ≡ waits p → inRange p ≡ true) → waitingGood w ≡ true
+pub waiting-make : (w : NextBase) → ((p : ℕ) → w ≡ waits p → inRange p ≡ true) → waitingGood w ≡ true
 unfolding waitingGood
 waiting-make none h = refl
 waiting-make (waits p) h = h p refl
@@ -129,7 +129,7 @@ calm-is : (k : TaskRecord) → (inside k || isNone (k .waiting)) ≡ true → de
 unfolding isNone
 calm-is k e z = none-is (k .waiting) (or-right (inside k) (isNone (k .waiting)) (le-ltb 0 (depth k) (omega arith)) e)
   where
-    none-is : (w : Waiting) → isNone w ≡ true → w ≡ none
+    none-is : (w : NextBase) → isNone w ≡ true → w ≡ none
     none-is none i = refl
     none-is (waits p) i = absurd (let y : _≡_ {A = ℕ} 0 1 = cc in omega arith)
 

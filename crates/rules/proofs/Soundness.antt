@@ -9,12 +9,12 @@ use lib.ListN.{length, getD, List·getD-eq-default}
 use Rattle.rules.specs.Limits.{taskLimit, lastPriority}
 use Rattle.rules.specs.Priorities.{inRange}
 use Rattle.rules.specs.Model.{Model, taskAt, queue, ceilingOf, active}
-use Rattle.rules.specs.Fresh.{allOf}
-use Rattle.rules.specs.Events.{timesIn, apply}
+use Rattle.rules.specs.Events.{apply}
 use Rattle.rules.specs.Sound.{runs, queued, isRunning, isReady, sound}
 use Rattle.rules.specs.declared.Event.{Event}
 use Rattle.rules.specs.declared.Runner.{Runner}
 use Rattle.rules.specs.declared.Runner.the-variants.{Nobody, Task}
+use Rattle.rules.specs.Lists.{allOf, timesIn}
 use Rattle.rules.proofs.Choices.{compare, and-left, and-right}
 use Rattle.rules.proofs.PriorityLaws.{in-bounds, bounds-in}
 use Rattle.rules.proofs.Counts.{times-none, queued-at, queued-none}

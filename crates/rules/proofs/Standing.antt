@@ -8,11 +8,11 @@ use native.Mathlib.Omega.{arith}
 use lib.ListN.{length, getD, set, drop}
 use Rattle.rules.specs.Limits.{lastPriority}
 use Rattle.rules.specs.Model.{TaskRecord, ceilingOf, activeOf, withPlace}
-use Rattle.rules.specs.Events.{timesIn, without}
 use Rattle.rules.specs.Sound.{queued, isReady, isRunning, runs}
 use Rattle.rules.specs.declared.Place.the-variants.{Running, Ready}
 use Rattle.rules.specs.declared.Runner.{Runner}
 use Rattle.rules.specs.declared.Runner.the-variants.{Nobody, Task}
+use Rattle.rules.specs.Lists.{timesIn, without}
 use Rattle.rules.proofs.Choices.{split, compare}
 use Rattle.rules.proofs.Counts.{times-same, times-other, times-cons, times-append, times-behind, times-head, times-tail}
 use Rattle.rules.proofs.Counts.{without-less, without-self, without-other, without-behind, queued-set, queued-at, Row}

@@ -5,12 +5,12 @@ use mathlib.Core.List.{List}
 use Prim.Native.Nat.{ℕ, zero, suc, _-_}
 use lib.Dec.{eqb, leb}
 use lib.ListN.{length, length-set}
-use Rattle.rules.specs.Model.{Model, Waiting, none, waits, TaskRecord, withRunning, withReady, withNow, taskAt, withTask, withQueue}
+use Rattle.rules.specs.Model.{Model, NextBase, none, waits, TaskRecord, withRunning, withReady, withNow, taskAt, withTask, withQueue}
 use Rattle.rules.specs.Model.{queue, active}
 use Rattle.rules.specs.Moves.{stopped, becomeReady, preempt, start, highest, dispatchBy, dispatch}
 use Rattle.rules.specs.Moved.{Moved, accepted}
 use Rattle.rules.specs.Events.{inside, giveUp, settleWith, settle, putOff, rest, releaseFrom, Due, nobody, task}
-use Rattle.rules.specs.Events.{firstDue, wake, wakeUp, without, requeue, rebase, end, apply}
+use Rattle.rules.specs.Events.{firstDue, wake, wakeUp, requeue, rebase, end, apply}
 use Rattle.rules.specs.Effect.{forRunner, effect}
 use Rattle.rules.specs.declared.Place.{Place}
 use Rattle.rules.specs.declared.Place.the-variants.{Running, Ready, Delayed, Suspended, Ended}
@@ -18,6 +18,7 @@ use Rattle.rules.specs.declared.Event.{Event}
 use Rattle.rules.specs.declared.Event.the-variants.{Enter, Leave, Delay, Suspend, Release, Clock, Set, Work, Finish}
 use Rattle.rules.specs.declared.Runner.{Runner}
 use Rattle.rules.specs.declared.Runner.the-variants.{Nobody, Task}
+use Rattle.rules.specs.Lists.{without}
 use Rattle.rules.proofs.Choices.{both-ways}
 use Rattle.rules.proofs.Ways.{each-way}
 
@@ -55,7 +56,7 @@ module _ (P : Model → Type 0)
   unfolding settle settleWith
   on-settle m t h = both-ways P (inside (taskAt m t)) m _ (λ e. h) (λ e. go (taskAt m t .waiting))
     where
-      go : (w : Waiting) → P (settleWith m t w)
+      go : (w : NextBase) → P (settleWith m t w)
       go none = h
       go (waits p) = on-ready _ t (on-stopped _ (put m t _ h))
 

@@ -6,7 +6,7 @@ use lib.Dec.{eqb, leb, ltb}
 use lib.ListN.{length, getD, take}
 use Rattle.rules.specs.Limits.{lastReading}
 use Rattle.rules.specs.Priorities.{inRange}
-use Rattle.rules.specs.Model.{TaskRecord, Model, Waiting, none, waits, withPlace, withBase, withWaiting, withPermit, withHeld}
+use Rattle.rules.specs.Model.{TaskRecord, Model, NextBase, none, waits, withPlace, withBase, withWaiting, withPermit, withHeld}
 use Rattle.rules.specs.Model.{withNow, taskAt, withTask, queue, withQueue, ceilingOf, active}
 use Rattle.rules.specs.Moves.{becomeReady, stopped}
 use Rattle.rules.specs.Moved.{Moved, accepted, refuseIf, byRunning}
@@ -16,6 +16,7 @@ use Rattle.rules.specs.declared.Event.{Event}
 use Rattle.rules.specs.declared.Event.the-variants.{Enter, Leave, Delay, Suspend, Release, Clock, Set, Work, Finish}
 use Rattle.rules.specs.declared.Answer.the-variants.{NoSuchTask, NoSuchObject, BadPriority, BadReading, EndedTask}
 use Rattle.rules.specs.declared.Answer.the-variants.{InsideAction, AboveCeiling, NotInnermost}
+use Rattle.rules.specs.Lists.{timesIn, without}
 
 -- answer 1: "no such task"; answer 2: "no such object"
 abbrev pub noTask : Model → ℕ → Bool
@@ -23,11 +24,6 @@ noTask m t = leb (length (m .tasks)) t
 
 abbrev pub noObject : Model → ℕ → Bool
 noObject m o = leb (length (m .ceilings)) o
-
--- how often a number stands in a list
-unfoldable pub timesIn : ℕ → List ℕ → ℕ
-timesIn x [] = 0
-timesIn x (y ∷ ys) = cond (eqb y x) (suc (timesIn x ys)) (timesIn x ys)
 
 -- "an object that the task holds"
 abbrev pub holds : TaskRecord → ℕ → Bool
@@ -64,7 +60,7 @@ giveUp m t = withTask m t (withHeld (taskAt m t) (take (length (taskAt m t .held
 
 -- "The task runs on, unless a waiting base is due": it "takes effect when t leaves its outermost object: t then goes to the
 -- tail, even where p equals the base"
-unfoldable pub settleWith : Model → ℕ → Waiting → Model
+unfoldable pub settleWith : Model → ℕ → NextBase → Model
 settleWith m t none = m
 settleWith m t (waits p) = becomeReady (stopped (withTask m t (withWaiting (withBase (taskAt m t) p) none))) t
 
@@ -161,11 +157,6 @@ takeReading m r = wakeUp r (length (m .tasks)) (withNow m r)
 -- 4
 unfoldable pub clock : Model → ℕ → Moved
 clock m r = refuseIf m (badReading (m .now) r) BadReading (accepted (takeReading m r))
-
--- a list without the first of a number
-unfoldable pub without : ℕ → List ℕ → List ℕ
-without x [] = []
-without x (y ∷ ys) = cond (eqb y x) ys (y ∷ without x ys)
 
 -- "a ready or running t goes to the tail of the queue for its active priority"; a ready one leaves the queue for p, where it stood
 unfoldable pub requeue : Model → ℕ → ℕ → Place → Model

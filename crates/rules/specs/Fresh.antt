@@ -1,5 +1,5 @@
 -- The fresh start.
-use mathlib.Core.Bool.{Bool, true, false, cond, not, _&&_}
+use mathlib.Core.Bool.{Bool, false, cond, not, _&&_}
 use mathlib.Core.List.{List, [], _∷_}
 use Prim.Native.Nat.{ℕ, zero, suc}
 use lib.Dec.{leb}
@@ -12,11 +12,7 @@ use Rattle.rules.specs.Moved.{Moved}
 use Rattle.rules.specs.declared.Place.the-variants.{Suspended}
 use Rattle.rules.specs.declared.Runner.the-variants.{Nobody}
 use Rattle.rules.specs.declared.Answer.the-variants.{Done, BadCounts, BadBases}
-
--- every number of a list passes a test
-unfoldable pub allOf : (ℕ → Bool) → List ℕ → Bool
-allOf f [] = true
-allOf f (x ∷ xs) = f x && allOf f xs
+use Rattle.rules.specs.Lists.{allOf}
 
 -- a task of base p that has not joined a queue yet: "permits are off"
 abbrev pub newTask : ℕ → TaskRecord

@@ -1,4 +1,5 @@
 pub mod Limits
+pub mod Lists
 pub mod Priorities
 pub mod Answers
 pub mod Model

@@ -9,15 +9,15 @@ use Rattle.rules.specs.declared.Place.the-variants.{Ended}
 use Rattle.rules.specs.declared.Runner.{Runner}
 
 -- a base that waits for the task's outermost Leave ("Inside an action p waits"), or none
-pub data Waiting : Type 0 where
-  none : Waiting
-  waits : ℕ → Waiting
+pub data NextBase : Type 0 where
+  none : NextBase
+  waits : ℕ → NextBase
 
 -- what is known of one task; held objects stand outermost first
 pub record TaskRecord : Type 0 where
   pub place : Place
   pub base : ℕ
-  pub waiting : Waiting
+  pub waiting : NextBase
   pub permit : Bool
   pub held : List ℕ
 
@@ -40,7 +40,7 @@ withPlace k x = record { place = x; base = k .base; waiting = k .waiting; permit
 abbrev pub withBase : TaskRecord → ℕ → TaskRecord
 withBase k p = record { place = k .place; base = p; waiting = k .waiting; permit = k .permit; held = k .held }
 
-abbrev pub withWaiting : TaskRecord → Waiting → TaskRecord
+abbrev pub withWaiting : TaskRecord → NextBase → TaskRecord
 withWaiting k w = record { place = k .place; base = k .base; waiting = w; permit = k .permit; held = k .held }
 
 abbrev pub withPermit : TaskRecord → Bool → TaskRecord

@@ -1,24 +1,20 @@
 -- What is unsound, clause by clause in document 01's order ("Unsound means: .."). Each definition below says that its clause is kept.
 use mathlib.Core.Bool.{Bool, true, false, not, _&&_, _||_}
 use mathlib.Core.List.{List, [], _∷_}
-use Prim.Native.Nat.{ℕ, zero, suc, _+_}
+use Prim.Native.Nat.{ℕ, suc, _+_}
 use lib.Dec.{eqb, leb, ltb}
 use lib.ListN.{length}
 use Rattle.rules.specs.Limits.{lastPriority, lastReading, lastDelay}
 use Rattle.rules.specs.Priorities.{inRange}
-use Rattle.rules.specs.Model.{TaskRecord, Model, Waiting, none, waits, taskAt, queue, ceilingOf, active}
+use Rattle.rules.specs.Model.{TaskRecord, Model, NextBase, none, waits, taskAt, queue, ceilingOf, active}
 use Rattle.rules.specs.Moves.{highest}
-use Rattle.rules.specs.Fresh.{allOf, countsGood}
-use Rattle.rules.specs.Events.{noTask, noObject, timesIn, inside}
+use Rattle.rules.specs.Fresh.{countsGood}
+use Rattle.rules.specs.Events.{noTask, noObject, inside}
 use Rattle.rules.specs.declared.Place.{Place}
 use Rattle.rules.specs.declared.Place.the-variants.{Running, Ready, Delayed, Suspended, Ended}
 use Rattle.rules.specs.declared.Runner.{Runner}
 use Rattle.rules.specs.declared.Runner.the-variants.{Nobody, Task}
-
--- a test of every number below n
-unfoldable pub below : ℕ → (ℕ → Bool) → Bool
-below zero f = true
-below (suc n) f = below n f && f n
+use Rattle.rules.specs.Lists.{below, allOf, timesIn}
 
 -- a test of every task's record; of every priority
 abbrev pub eachTask : Model → (TaskRecord → Bool) → Bool
@@ -34,7 +30,7 @@ sizesGood m =
     leb (m .now) lastReading && allOf inRange (m .ceilings)
 
 -- .. the bases, the waiting bases and the held objects
-unfoldable pub waitingGood : Waiting → Bool
+unfoldable pub waitingGood : NextBase → Bool
 waitingGood none = true
 waitingGood (waits p) = inRange p
 
@@ -118,7 +114,7 @@ unfoldable pub holdersHere : Model → Bool
 holdersHere m = eachTask m (λ k. not (inside k) || eqb (isReady (k .place) + isRunning (k .place)) 1)
 
 -- "a waiting base outside an action"
-unfoldable pub isNone : Waiting → Bool
+unfoldable pub isNone : NextBase → Bool
 isNone none = true
 isNone (waits p) = false
 

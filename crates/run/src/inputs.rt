@@ -4,7 +4,7 @@ ghost use mathlib.Core.Bool.{_&&_};
 ghost use Prim.Native.Nat.{_+_, _<_};
 ghost use lib.Dec.{eqb};
 ghost use lib.ListN.{length};
-ghost use Rattle.rules.specs.Sound.{below};
+ghost use Rattle.rules.specs.Lists.{below};
 ghost use Rattle.words.specs.Words.{wordAt};
 ghost use Rattle.trace.specs.Inputs.{ifUnused, decode, valueAt, decodedAt, eventCount, isGood, recordGood};
 ghost use Rattle.trace.specs.Inputs.{eventsGood, inputIn, inputAt};

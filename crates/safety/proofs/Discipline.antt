@@ -11,9 +11,8 @@ use lib.ListN.{length, getD, take, List·getD-eq-default}
 use Rattle.rules.specs.Limits.{taskLimit, objectLimit, lastDelay}
 use Rattle.rules.specs.Priorities.{inRange}
 use Rattle.rules.specs.Model.{waits, ceilingOf, highestOf}
-use Rattle.rules.specs.Fresh.{allOf}
-use Rattle.rules.specs.Events.{timesIn, without}
 use Rattle.rules.specs.declared.Priority.{Priority}
+use Rattle.rules.specs.Lists.{allOf, timesIn, without}
 use Rattle.rules.proofs.Choices.{compare}
 use Rattle.rules.proofs.Counts.{times-same, times-cons}
 use Rattle.format.specs.Answers.{numberOf}

@@ -8,14 +8,15 @@ use native.Mathlib.Omega.{arith}
 use borrow.Author.Tests.{eqb-true, ltb-true, leb-false}
 use lib.Dec.{eqb, ltb}
 use lib.ListN.{length, getD, set, take, length-set, length-map, List·getD-map}
-use Rattle.rules.specs.Model.{Model, Waiting, none, waits, taskAt, ceilingOf, highestOf, activeOf}
+use Rattle.rules.specs.Model.{Model, NextBase, none, waits, taskAt, ceilingOf, highestOf, activeOf}
 use Rattle.rules.specs.Moved.{Moved, refused}
-use Rattle.rules.specs.Events.{timesIn, without, noTask, clock, release, apply, badReading}
+use Rattle.rules.specs.Events.{noTask, clock, release, apply, badReading}
 use Rattle.rules.specs.Events
 use Rattle.rules.specs.declared.Runner.{Runner}
 use Rattle.rules.specs.declared.Runner.the-variants.{Nobody, Task}
 use Rattle.rules.specs.declared.Answer.{Answer}
 use Rattle.rules.specs.declared.Answer.the-variants.{Done, NoSuchTask, BadReading}
+use Rattle.rules.specs.Lists.{timesIn, without}
 use Rattle.rules.specs.declared.Event.the-variants as E
 use Rattle.rules.proofs.Choices.{split, both-ways, cond-true, cond-false, and-left, and-right}
 use Rattle.rules.proofs.TaskLaws.{at-same, at-other, at-keeps}
@@ -287,7 +288,7 @@ module _ (r : Roster) (k : Keeps r) (m : Model) (ps : List ℕ) (b : Reckoning) 
     awaits = own .awaits;
   }
 
-  settled : (o : ℕ) → stepOf r t (accountAt b t) ≡ Leave o → (w : Waiting) → accountAt b t .waiting ≡ w →
+  settled : (o : ℕ) → stepOf r t (accountAt b t) ≡ Leave o → (w : NextBase) → accountAt b t .waiting ≡ w →
       Fits r t (atPosition (counts (insideOf (accountAt b t) (without o (accountAt b t .inside))) w) (suc (accountAt b t .position)))
   unfolding counts own
   settled o n none i = left o n

@@ -9,9 +9,9 @@ use lib.ListN.{length, getD, take, drop, List·getD-eq-default, length-take}
 use lib.Seq.{getD-take, getD-drop}
 use Rattle.rules.specs.Limits.{lastDelay}
 use Rattle.rules.specs.Priorities.{inRange, checkedOf}
-use Rattle.rules.specs.Fresh.{allOf}
 use Rattle.rules.specs.declared.Checked.{Checked}
 use Rattle.rules.specs.declared.Checked.the-variants.{Good, OutOfRange}
+use Rattle.rules.specs.Lists.{allOf}
 use Rattle.rules.proofs.Choices.{compare, both-ways, clash, and-make}
 use Rattle.format.specs.Limits.{stepSize, enterCode, leaveCode, delayCode, workCode, suspendCode, releaseCode, setCode, againCode}
 use Rattle.format.specs.Answers.{passed}

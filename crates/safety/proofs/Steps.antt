@@ -9,11 +9,11 @@ use lib.Dec.{eqb, leb}
 use lib.ListN.{length, getD, take, length-set, length-map, List·getD-map}
 use Rattle.rules.specs.Limits.{lastDelay}
 use Rattle.rules.specs.Priorities.{inRange}
-use Rattle.rules.specs.Model.{Model, TaskRecord, Waiting, none, waits, blank, withPlace, withBase, withWaiting, withHeld, withNow}
+use Rattle.rules.specs.Model.{Model, TaskRecord, NextBase, none, waits, blank, withPlace, withBase, withWaiting, withHeld, withNow}
 use Rattle.rules.specs.Model.{taskAt, withTask, ceilingOf, activeOf, active}
 use Rattle.rules.specs.Moves.{becomeReady, stopped, dispatch}
 use Rattle.rules.specs.Moved.{Moved, accepted}
-use Rattle.rules.specs.Events.{timesIn, without, inside, innermost, takeHold, giveUp, settle, putOff, rest, end}
+use Rattle.rules.specs.Events.{inside, innermost, takeHold, giveUp, settle, putOff, rest, end}
 use Rattle.rules.specs.Events.{permitOn, releaseFrom, requeue, rebase, isEnded, enter, leave, delay, suspend, release, clock}
 use Rattle.rules.specs.Events.{setBase}
 use Rattle.rules.specs.Events.{work, finish, badReading, takeReading}
@@ -21,6 +21,7 @@ use Rattle.rules.specs.declared.Place.{Place}
 use Rattle.rules.specs.declared.Place.the-variants.{Running, Ready, Delayed, Suspended, Ended}
 use Rattle.rules.specs.declared.Runner.the-variants.{Task}
 use Rattle.rules.specs.declared.Answer.the-variants.{Done}
+use Rattle.rules.specs.Lists.{timesIn, without}
 use Rattle.rules.proofs.Choices.{cond-true, cond-false}
 use Rattle.rules.proofs.TaskLaws.{at-same}
 use Rattle.rules.proofs.DispatchLaws.{runner-place, running-place, alike-dispatch}
@@ -291,7 +292,7 @@ module _ (ps : List ℕ) (b : Reckoning) (m : Model) (h : Good true m) (a : Agre
       running-n : taskAt n t .place ≡ Running
       running-n = ap (λ (v : TaskRecord). v .place) at-n ∙ place-is
 
-      by-waiting : (w : Waiting) → taskAt n t .waiting ≡ w → inside (taskAt n t) ≡ false →
+      by-waiting : (w : NextBase) → taskAt n t .waiting ≡ w → inside (taskAt n t) ≡ false →
           Agree (withAccount b t (counts y w)) (settle n t .now) (settle n t .tasks) ps
       by-waiting none w g = at-model ps _ (settle n t) n (settle-none n t g w) left
       by-waiting (waits p) w g =
@@ -305,7 +306,7 @@ module _ (ps : List ℕ) (b : Reckoning) (m : Model) (h : Good true m) (a : Agre
           (at-model ps _ (settle n t) n (settle-inside n t g) left)
       settles false g =
           chosen _ _ ps b t (eqb (length (y .inside)) 0) _ _ (eq-eqb (length (y .inside)) 0 (depth-is ∙ hold-none (taskAt n t) g))
-          (subst (λ (w : Waiting). Agree (withAccount b t (counts y w)) (settle n t .now) (settle n t .tasks) ps) (sym waiting-is)
+          (subst (λ (w : NextBase). Agree (withAccount b t (counts y w)) (settle n t .now) (settle n t .tasks) ps) (sym waiting-is)
           (by-waiting (taskAt n t .waiting) refl g))
 
 -- Release, by an event or a step

@@ -11,13 +11,13 @@ use lib.ListN.{length, getD, replicate, length-replicate, List·getD-eq-default}
 use Rattle.rules.specs.Limits.{taskLimit}
 use Rattle.rules.specs.Model.{Model, TaskRecord, blank, withPlace, taskAt, highestOf, active}
 use Rattle.rules.specs.Fresh.{newTask, freshModel}
-use Rattle.rules.specs.Events.{timesIn}
 use Rattle.rules.specs.Sound.{queued, runs, isReady, isRunning}
 use Rattle.rules.specs.declared.Place.{Place}
 use Rattle.rules.specs.declared.Place.the-variants.{Running, Ready, Delayed, Suspended, Ended}
 use Rattle.rules.specs.declared.Runner.{Runner}
 use Rattle.rules.specs.declared.Runner.the-variants.{Nobody, Task}
 use Rattle.rules.specs.declared.Answer.the-variants.{Done, NobodyRuns}
+use Rattle.rules.specs.Lists.{timesIn}
 use Rattle.rules.proofs.Choices.{split, compare, clash, cond-true, cond-false}
 use Rattle.rules.proofs.Counts.{times-same, times-other, queued-at, queued-two, Row, row-of}
 use Rattle.rules.proofs.TaskLaws.{ready, running, one-place, runs-named}

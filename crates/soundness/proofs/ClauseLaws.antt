@@ -11,12 +11,13 @@ use Rattle.rules.specs.Limits.{taskLimit, objectLimit, lastPriority, lastReadin
 use Rattle.rules.specs.Priorities.{inRange}
 use Rattle.rules.specs.Model.{Model, TaskRecord, blank, highestOf, active, taskAt, queue}
 use Rattle.rules.specs.Moves.{highestTo, highest}
-use Rattle.rules.specs.Fresh.{allOf, countsGood}
+use Rattle.rules.specs.Fresh.{countsGood}
 use Rattle.rules.specs.Events.{noTask, inside}
 use Rattle.rules.specs.Sound.{sizesGood, recordGood, waitingGood, runnerGood, runs, isRunning, queued, isReady, dueGood, distinct}
-use Rattle.rules.specs.Sound.{rising, highestRuns, isNone, below, eachPriority}
+use Rattle.rules.specs.Sound.{rising, highestRuns, isNone, eachPriority}
 use Rattle.rules.specs.declared.Place.{Place}
 use Rattle.rules.specs.declared.WaitingBase.{WaitingBase}
+use Rattle.rules.specs.Lists.{allOf, below}
 use Rattle.memory.specs.Rows.{queueWidth, queuesIn, queueIn, heldBy}
 use Rattle.memory.specs.Tasks.{taskIn}
 use Rattle.memory.specs.Memory.{nowCell, runningCell, taskCount, objectCount, runnerOf, waitingIn, modelOf, Laid}

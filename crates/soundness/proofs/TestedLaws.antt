@@ -11,15 +11,15 @@ use lib.ListN.{length, drop, getD, drop-of-length-le}
 use lib.Seq.{drop-cons}
 use Rattle.rules.specs.Limits.{lastPriority, lastDelay}
 use Rattle.rules.specs.Model.{Model, taskAt, queue, ceilingOf, active}
-use Rattle.rules.specs.Fresh.{allOf}
-use Rattle.rules.specs.Events.{noTask, timesIn}
+use Rattle.rules.specs.Events.{noTask}
 use Rattle.rules.specs.Sound.{sizesGood, recordGood, runnerGood, runs, queued}
 use Rattle.rules.specs.Sound.{highestRuns, dueGood, rising, eachTask, eachPriority}
-use Rattle.rules.specs.Sound.{below, numbersGood, onePlace, ownQueue, dueAhead, heldGood, holdersHere, waitingInside, sound}
+use Rattle.rules.specs.Sound.{numbersGood, onePlace, ownQueue, dueAhead, heldGood, holdersHere, waitingInside, sound}
 use Rattle.rules.specs.declared.Place.{Place}
 use Rattle.rules.specs.declared.Place.the-variants.{Delayed}
 use Rattle.rules.specs.declared.Runner.{Runner}
 use Rattle.rules.specs.declared.Runner.the-variants.{Task}
+use Rattle.rules.specs.Lists.{allOf, timesIn, below}
 use Rattle.rules.proofs.Choices.{and-left, and-right, and-make}
 use Rattle.rules.proofs.TaskLaws.{runs-self, runs-apart}
 use Rattle.rules.proofs.SoundLaws.{below-at, below-make}

@@ -4,10 +4,10 @@ use Prim.Native.Nat.{ℕ, _+_}
 use lib.Dec.{eqb}
 use lib.ListN.{length}
 use Rattle.rules.specs.Model.{Model, TaskRecord, taskAt, queue, active}
-use Rattle.rules.specs.Fresh.{allOf}
 use Rattle.rules.specs.Events.{noTask, inside}
 use Rattle.rules.specs.Sound.{recordGood, runs, isRunning, queued, isReady, dueGood, distinct, rising, isNone}
-use Rattle.rules.specs.Sound.{sizesGood, runnerGood, highestRuns, below, eachPriority}
+use Rattle.rules.specs.Sound.{sizesGood, runnerGood, highestRuns, eachPriority}
+use Rattle.rules.specs.Lists.{allOf, below}
 
 -- "a task in two places, or in none"
 abbrev pub onePlaceAt : Model → ℕ → Bool

@@ -4,7 +4,7 @@ use mathlib.Core.List.{List}
 use Prim.Native.Nat.{ℕ, _+_, _*_, _/_, _%_}
 use lib.Dec.{eqb, leb}
 use lib.ListN.{length}
-use Rattle.rules.specs.Sound.{below}
+use Rattle.rules.specs.Lists.{below}
 use Rattle.words.specs.Words.{byteAt, wordAt}
 use Rattle.words.specs.Words.{tabulate}
 use Rattle.trace.specs.Limits.{eventSize, largestEvents, clockKind, releaseKind, stepKind, setKind}

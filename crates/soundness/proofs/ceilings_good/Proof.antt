@@ -6,8 +6,8 @@ use borrow.Author.Needs.{needs}
 use borrow.Author.Tests.{not-true, not-false}
 use lib.ListN.{length, take, drop}
 use lib.Seq.{length-take-le, getD-take}
-use Rattle.rules.specs.Fresh.{allOf}
 use Rattle.rules.specs.Priorities.{inRange}
+use Rattle.rules.specs.Lists.{allOf}
 use Rattle.memory.proofs.TestLaws.{all-more, all-fails, all-end}
 use Rattle.soundness.proofs.ceilings_good.Statement.{statement}
 use Rattle.soundness.proofs.ceilings_good.Tie as tie

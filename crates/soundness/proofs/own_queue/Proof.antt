@@ -7,8 +7,8 @@ use borrow.Author.Tests.{eq-eqb, ne-eqb}
 use lib.Dec.{eqb}
 use lib.ListN.{length, drop}
 use Rattle.rules.specs.Limits.{taskLimit}
-use Rattle.rules.specs.Fresh.{allOf}
 use Rattle.rules.specs.Model.{active}
+use Rattle.rules.specs.Lists.{allOf}
 use Rattle.memory.specs.Memory.{modelOf}
 use Rattle.memory.specs.Rows.{queueIn, queueWidth}
 use Rattle.memory.proofs.GridLaws.{queue-length, queue-size, queue-item}

@@ -7,7 +7,7 @@ use native.Mathlib.Omega.{arith}
 use borrow.Author.Needs.{needs}
 use borrow.Author.Tests.{not-true, not-false}
 use Rattle.rules.specs.Limits.{lastPriority}
-use Rattle.rules.specs.Sound.{below}
+use Rattle.rules.specs.Lists.{below}
 use Rattle.memory.specs.Memory.{modelOf}
 use Rattle.soundness.specs.Tested.{queueSound}
 use Rattle.memory.proofs.TestLaws.{below-more, below-fails}

@@ -5,7 +5,7 @@ use Prim.Native.Nat.{_-_, _≤_}
 use native.Mathlib.Omega.{arith}
 use borrow.Author.Needs.{needs}
 use borrow.Author.Tests.{not-true, not-false}
-use Rattle.rules.specs.Sound.{below}
+use Rattle.rules.specs.Lists.{below}
 use Rattle.memory.specs.Memory.{modelOf, taskCount}
 use Rattle.soundness.specs.Tested.{taskSound}
 use Rattle.memory.proofs.TestLaws.{below-more, below-fails}

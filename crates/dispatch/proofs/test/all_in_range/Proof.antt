@@ -3,7 +3,7 @@ use mathlib.Core.Path.{_≡_, refl, _∙_, sym}
 use Prim.Native.Nat.{_-_, _≤_}
 use lib.ListN.{length, drop}
 use Rattle.rules.specs.Priorities.{inRange}
-use Rattle.rules.specs.Fresh.{allOf}
+use Rattle.rules.specs.Lists.{allOf}
 use native.Mathlib.Omega.{arith}
 use borrow.Author.Needs.{needs}
 use Rattle.dispatch.proofs.FreshLaws.{all-next, all-fail, all-end}

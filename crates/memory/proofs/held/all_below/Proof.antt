@@ -4,7 +4,7 @@ use mathlib.Core.Bool.{not}
 use Prim.Native.Nat.{_-_}
 use borrow.Author.Needs.{needs}
 use lib.Dec.{leb}
-use Rattle.rules.specs.Fresh.{allOf}
+use Rattle.rules.specs.Lists.{allOf}
 use Rattle.memory.proofs.GridLaws.{held-tidy, held-list}
 use Rattle.memory.proofs.held.all_below.Statement.{statement}
 use Rattle.memory.proofs.held.all_below.Tie as tie

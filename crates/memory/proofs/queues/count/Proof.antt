@@ -2,7 +2,7 @@
 use mathlib.Core.Path.{ap, _∙_}
 use Prim.Native.Nat.{_-_}
 use borrow.Author.Needs.{needs}
-use Rattle.rules.specs.Events.{timesIn}
+use Rattle.rules.specs.Lists.{timesIn}
 use Rattle.memory.proofs.GridLaws.{queue-tidy, queue-list}
 use Rattle.memory.proofs.queues.count.Statement.{statement}
 use Rattle.memory.proofs.queues.count.Tie as tie

@@ -7,7 +7,7 @@ use borrow.Author.Needs.{needs}
 use borrow.Author.Tests.{lt-leb, le-leb}
 use lib.Dec.{leb}
 use lib.ListN.{length, drop}
-use Rattle.rules.specs.Fresh.{allOf}
+use Rattle.rules.specs.Lists.{allOf}
 use Rattle.memory.specs.Rows.{inRow}
 use Rattle.memory.proofs.RowLaws.{row-item}
 use Rattle.memory.proofs.TestLaws.{all-more, all-fails, all-end}

@@ -5,7 +5,7 @@ use Prim.Native.Nat.{_+_, _-_, _≤_}
 use native.Mathlib.Omega.{arith}
 use borrow.Author.Needs.{needs}
 use lib.ListN.{length, drop}
-use Rattle.rules.specs.Events.{timesIn}
+use Rattle.rules.specs.Lists.{timesIn}
 use Rattle.memory.specs.Rows.{inRow}
 use Rattle.memory.proofs.RowLaws.{row-item, count-hit, count-end, count-miss}
 use Rattle.memory.proofs.rows.count.Statement.{statement}

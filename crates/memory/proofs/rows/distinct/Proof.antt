@@ -6,9 +6,8 @@ use borrow.Author.Needs.{needs}
 use borrow.Author.Tests.{eq-eqb, ne-eqb}
 use lib.Dec.{eqb}
 use lib.ListN.{length, drop}
-use Rattle.rules.specs.Events.{timesIn}
-use Rattle.rules.specs.Fresh.{allOf}
 use Rattle.rules.specs.Sound.{distinct}
+use Rattle.rules.specs.Lists.{timesIn, allOf}
 use Rattle.memory.specs.Rows.{inRow}
 use Rattle.memory.proofs.RowLaws.{row-item}
 use Rattle.memory.proofs.TestLaws.{all-more, all-fails, all-end, distinct-all}

@@ -4,7 +4,7 @@ use borrow.Author.Tests.{not-true, not-false}
 use mathlib.Core.Path.{_≡_, refl}
 use mathlib.Core.Bool.{true}
 use Prim.Native.Nat.{_≤_, _*_, _-_}
-use Rattle.rules.specs.Sound.{below}
+use Rattle.rules.specs.Lists.{below}
 use borrow.Author.Needs.{needs}
 use Rattle.format.specs.Form.{scriptsEnd, scriptLaid}
 use Rattle.format.proofs.TestLaws.{turn-fails, turn-on}

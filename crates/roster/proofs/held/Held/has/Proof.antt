@@ -6,7 +6,7 @@ use lib.ListN.{length}
 use Rattle.rules.specs.Limits.{objectLimit}
 use borrow.Author.Needs.{needs}
 use lib.ListN.{take, drop}
-use Rattle.rules.specs.Events.{timesIn}
+use Rattle.rules.specs.Lists.{timesIn}
 use Rattle.roster.specs.Held.{listOf}
 use Rattle.format.proofs.HeldLaws.{seen-here, seen-on, seen-none}
 use Rattle.roster.proofs.held.Held.has.Statement.{statement}
