@@ -17,12 +17,13 @@ use Rattle.rules.specs.Sound.{isReady, queued, sound}
 use Rattle.rules.specs.declared.Place.{Place}
 use Rattle.rules.specs.declared.Place.the-variants.{Running, Ready, Delayed, Suspended, Ended}
 use Rattle.rules.specs.Lists.{timesIn}
+use Rattle.rules.specs.Clauses.{Sound}
 use Rattle.rules.proofs.Choices.{split, compare, clash, cond-true, cond-false}
 use Rattle.rules.proofs.Counts.{times-same, times-other, times-cons, times-append}
 use Rattle.rules.proofs.Counts.{times-head, times-none, queued-at, Row as Where, row-of}
 use Rattle.rules.proofs.Core.{Core, Highest, highest-is, act-low, act-high}
 use Rattle.rules.proofs.PriorityLaws.{bounds-in}
-use Rattle.rules.proofs.SoundLaws.{Sound, sound-is, one-less, under-highest}
+use Rattle.rules.proofs.SoundLaws.{sound-is, one-less, under-highest}
 use Rattle.rules.proofs.Soundness.{sound-good}
 use Rattle.board.specs.declared.Row.{Row}
 use Rattle.board.specs.declared.NextAnswer.{NextAnswer}

@@ -13,8 +13,9 @@ use Rattle.rules.specs.declared.Priority.{Priority}
 use Rattle.rules.specs.declared.Task.{Task}
 use Rattle.rules.specs.declared.WaitingBase.{WaitingBase}
 use Rattle.rules.specs.declared.WaitingBase.the-variants.{Nothing, Base}
+use Rattle.rules.specs.Clauses.{Numbers}
 use Rattle.rules.proofs.Choices.{compare}
-use Rattle.rules.proofs.SoundLaws.{Numbers, sound-is}
+use Rattle.rules.proofs.SoundLaws.{sound-is}
 use Rattle.rules.proofs.Soundness.{ready-room, held-room-of}
 use Rattle.memory.specs.Rows.{rowFor, heldWidth, heldIn, queueWidth, queuesIn}
 use Rattle.memory.specs.Tasks.{blankTask, tasksIn}

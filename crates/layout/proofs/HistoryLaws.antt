@@ -17,9 +17,10 @@ use Rattle.rules.specs.Fresh.{fresh}
 use Rattle.rules.specs.declared.Place.{Place}
 use Rattle.rules.specs.declared.Place.the-variants.{Running, Ready, Delayed, Suspended, Ended}
 use Rattle.rules.specs.declared.Event.{Event}
+use Rattle.rules.specs.Histories.{delayFits}
+use Rattle.rules.specs.Clauses.{Numbers}
 use Rattle.rules.proofs.Choices.{compare, cond-false, and-right}
-use Rattle.rules.proofs.Kept.{delayFits}
-use Rattle.rules.proofs.SoundLaws.{Numbers, sound-is}
+use Rattle.rules.proofs.SoundLaws.{sound-is}
 use Rattle.rules.proofs.Soundness.{sound-kept, ready-room, held-room-of}
 use Rattle.rules.proofs.FreshLaws.{fresh-sound}
 use Rattle.memory.specs.Rows.{heldWidth, queueWidth}

@@ -5,7 +5,6 @@ use mathlib.Core.List.{List}
 use Prim.Native.Nat.{ℕ, _-_, _≤_, _<_}
 use native.Mathlib.Omega.{arith}
 use borrow.Author.Tests.{leb-true, leb-false, not-false}
-use lib.Dec.{leb}
 use lib.ListN.{length}
 use Rattle.rules.specs.Limits.{lastDelay}
 use Rattle.rules.specs.Priorities.{inRange}
@@ -20,6 +19,8 @@ use Rattle.rules.specs.declared.Event.{Event}
 use Rattle.rules.specs.declared.Event.the-variants.{Enter, Leave, Delay, Suspend, Release, Clock, Set, Work, Finish}
 use Rattle.rules.specs.Effect.{effect, forRunner}
 use Rattle.rules.specs.Lists.{allOf, timesIn}
+use Rattle.rules.specs.Refusals.{table, appliesAt, noSuchTask, noSuchObject, badPriority, badClock, insideAction, aboveCeiling}
+use Rattle.rules.specs.Histories.{delayFits, OneHolder}
 use Rattle.rules.proofs.Choices.{split, compare}
 use Rattle.rules.proofs.TaskLaws.{running, out-of}
 use Rattle.rules.proofs.Standing.{exclusive}
@@ -29,8 +30,7 @@ use Rattle.rules.proofs.HeldLaws.{rising-covers}
 use Rattle.rules.proofs.Pending.{Fair, Pending, Good, fair-unplaced, fair-placed, pending-enter, pending-leave, pending-delay}
 use Rattle.rules.proofs.Pending.{pending-rest, pending-end, pending-release, pending-clock, pending-rebase}
 use Rattle.rules.proofs.Readings.{reading-early, reading-low}
-use Rattle.rules.proofs.Refusals.{each-done, of-task, table, appliesAt, noSuchTask, noSuchObject, badPriority, badClock}
-use Rattle.rules.proofs.Refusals.{insideAction, aboveCeiling}
+use Rattle.rules.proofs.Refusals.{each-done, of-task}
 
 -- a dispatch
 pub good-dispatch : {ord : Bool} (m : Model) → Pending ord m → Good ord (dispatch m)
@@ -66,18 +66,6 @@ keep-accepted : {ord : Bool} (m : Model) → Pending ord m → Keeps ord (accept
 unfolding accepted
 keep-accepted m h = good-dispatch m h
 
--- a Delay has 16 bits
-unfoldable pub delayFits : Event → Bool
-delayFits (Enter o) = true
-delayFits (Leave o) = true
-delayFits (Delay d) = leb d lastDelay
-delayFits Suspend = true
-delayFits (Release t) = true
-delayFits (Clock r) = true
-delayFits (Set t p) = true
-delayFits Work = true
-delayFits Finish = true
-
 -- for the running task, if there is one
 for-runner : {ord : Bool} (m : Model) (x : ℕ → Model) → Pending ord m → ((t : ℕ) → m .running ≡ Task t → Pending ord (x t)) →
     Pending ord (forRunner m (m .running) x)
@@ -111,7 +99,7 @@ pub keep : {ord : Bool} (m : Model) (e : Event) → delayFits e ≡ true → Goo
 keep {ord} m e f h = each-done (Keeps ord) m e (λ a n. h) (λ none. keep-accepted (effect m e) (pending-effect m e f h none))
 
 -- one holder for each object, wherever the ceiling order holds
-pub one-holder : (m : Model) → Good true m → (t u o : ℕ) → 0 < timesIn o (taskAt m t .held) → 0 < timesIn o (taskAt m u .held) → t ≡ u
+pub one-holder : (m : Model) → Good true m → OneHolder m
 unfolding timesIn
 one-holder m h t u o i j =
     split t u (λ e. e) (λ n. absurd (exclusive (h .pending .core .stand) covered t u o i j n))

@@ -15,6 +15,8 @@ use Rattle.rules.specs.declared.Event.{Event}
 use Rattle.rules.specs.declared.Runner.{Runner}
 use Rattle.rules.specs.declared.Runner.the-variants.{Nobody, Task}
 use Rattle.rules.specs.Lists.{allOf, timesIn}
+use Rattle.rules.specs.Histories.{delayFits, KeptClaim}
+use Rattle.rules.specs.Clauses.{Numbers, Sound}
 use Rattle.rules.proofs.Choices.{compare, and-left, and-right}
 use Rattle.rules.proofs.PriorityLaws.{in-bounds, bounds-in}
 use Rattle.rules.proofs.Counts.{times-none, queued-at, queued-none}
@@ -24,8 +26,8 @@ use Rattle.rules.proofs.Core.{Core, Top, runner-in}
 use Rattle.rules.proofs.Room.{queue-most}
 use Rattle.rules.proofs.HeldLaws.{all-at, all-make, distinct-once, once-distinct, held-most}
 use Rattle.rules.proofs.Pending.{listed, Fair, Good}
-use Rattle.rules.proofs.Kept.{delayFits, keep}
-use Rattle.rules.proofs.SoundLaws.{Numbers, Sound, sound-is, sound-make, one-less, waiting-is, waiting-make}
+use Rattle.rules.proofs.Kept.{keep}
+use Rattle.rules.proofs.SoundLaws.{sound-is, sound-make, one-less, waiting-is, waiting-make}
 use Rattle.rules.proofs.SoundLaws.{due-is, due-make, rising-is, rising-make}
 
 -- all ceilings in range: none above the last priority
@@ -177,7 +179,7 @@ pub good-sound : {ord : Bool} (m : Model) → Good ord m → sound m ≡ true
 good-sound m g = sound-make m (sound-of m g)
 
 -- every event, accepted or refused, keeps a sound Model sound; a Delay has 16 bits
-pub sound-kept : (m : Model) (e : Event) → delayFits e ≡ true → sound m ≡ true → sound (apply m e .model) ≡ true
+pub sound-kept : KeptClaim
 sound-kept m e f s = good-sound (apply m e .model) (keep m e f (sound-good m s))
 
 -- after it somebody runs if anybody is ready, and no ready task has a higher active priority

@@ -9,3 +9,7 @@ pub mod Fresh
 pub mod Events
 pub mod Effect
 pub mod Sound
+pub mod Clauses
+pub mod Refusals
+pub mod Histories
+pub mod Cases

@@ -15,7 +15,7 @@ use Rattle.rules.specs.declared.Event.the-variants.{Set}
 use Rattle.rules.specs.declared.Priority.{Priority}
 use Rattle.rules.specs.declared.Checked.{Checked}
 use Rattle.rules.specs.declared.Checked.the-variants.{Good, OutOfRange}
-use Rattle.rules.proofs.Kept.{delayFits}
+use Rattle.rules.specs.Histories.{delayFits}
 use Rattle.rules.proofs.Soundness.{sound-kept}
 use Rattle.format.specs.declared.Step.{Step}
 use Rattle.format.specs.declared.Step.the-variants.{Again}

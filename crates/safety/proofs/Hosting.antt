@@ -18,11 +18,13 @@ use Rattle.rules.specs.declared.Runner.{Runner}
 use Rattle.rules.specs.declared.Runner.the-variants.{Nobody, Task}
 use Rattle.rules.specs.declared.Answer.{Answer}
 use Rattle.rules.specs.declared.Answer.the-variants.{Unsound}
+use Rattle.rules.specs.Refusals.{table, appliesAt}
 use Rattle.rules.proofs.Choices.{clash}
 use Rattle.rules.proofs.SoundLaws.{sound-is, below-make}
 use Rattle.rules.proofs.Soundness.{good-sound}
 use Rattle.rules.proofs.EventLaws.{work-5}
-use Rattle.rules.proofs.Refusals.{table, appliesAt, exactly-when, refused-same}
+use Rattle.rules.specs.Refusals.{table, appliesAt}
+use Rattle.rules.proofs.Refusals.{exactly-when, refused-same}
 use Rattle.format.specs.Roster.{Roster, rosterOf}
 use Rattle.format.specs.declared.Step.{Step}
 use Rattle.format.specs.declared.Step.the-variants.{Enter, Leave, Delay, Work, Suspend, Release, Set, Again, Finish}

@@ -6,7 +6,7 @@ use borrow.Author.Tests.{le-leb}
 use Rattle.rules.specs.Limits.{lastDelay}
 use Rattle.rules.specs.Events.{apply}
 use Rattle.rules.specs.declared.Event.the-variants.{Enter, Leave, Delay, Suspend, Release, Clock, Set, Work, Finish}
-use Rattle.rules.proofs.Kept.{delayFits}
+use Rattle.rules.specs.Histories.{delayFits}
 use Rattle.engine.proofs.ApplyLaws.{event-moves}
 use Rattle.engine.proofs.any.apply.Statement.{statement}
 use Rattle.engine.proofs.any.apply.Tie as tie

@@ -2,7 +2,7 @@
 use mathlib.Core.Path.{refl}
 use Rattle.rules.specs.Events.{apply}
 use Rattle.rules.specs.declared.Event.the-variants.{Clock, Release, Set}
-use Rattle.rules.proofs.Kept.{delayFits}
+use Rattle.rules.specs.Histories.{delayFits}
 use Rattle.rules.proofs.Unchanged.{count-kept}
 use Rattle.trace.specs.Config.{happen}
 use Rattle.run.proofs.MoveLaws.{moves-of}
