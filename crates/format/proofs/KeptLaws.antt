@@ -1,5 +1,6 @@
 -- The check passes exactly the rosters whose scripts keep the written rules, and what it names is the first fault.
 use mathlib.Core.Path.{_≡_, refl, ap, sym, _∙_}
+use Rattle.rules.specs.Lists.{timesIn}
 use mathlib.Core.Bool.{Bool, true, false, cond, not}
 use mathlib.Core.List.{List, [], _∷_, _++_}
 use Prim.Native.Nat.{ℕ, zero, suc, _-_, _≤_, _<_, max}

@@ -1,5 +1,6 @@
 -- What a roster that passes gives of each task and step: counts, bases, ceilings and numbers in range, and the rules at each position.
 use mathlib.Core.Path.{_≡_, refl, ap, sym, _∙_, subst}
+use Rattle.rules.specs.Lists.{allOf}
 use mathlib.Core.Bool.{Bool, true, cond, _&&_}
 use mathlib.Core.List.{List}
 use Prim.Native.Nat.{ℕ, zero, suc, _≤_, _<_}

@@ -1,5 +1,6 @@
 -- Laws of tests: conjunctions, tests of every number below one, and the first of several verdicts that is not Passed.
 use mathlib.Core.Path.{_≡_, refl, ap, sym, _∙_}
+use Rattle.rules.specs.Lists.{below}
 use mathlib.Core.Bool.{Bool, true, false, cond, _&&_}
 use Prim.Native.Nat.{ℕ, zero, suc, _+_, _≤_, _<_}
 use native.Mathlib.Numerals.{add-one}

@@ -1,6 +1,7 @@
 -- What it means that scripts keep the written rules 17 to 20, told for each task and step and not by a scan: what is held before a step
 -- is what the steps before it left (heldBefore).
 use mathlib.Core.Path.{_≡_}
+use Rattle.rules.specs.Lists.{timesIn}
 use mathlib.Core.List.{List, [], _∷_, _++_}
 use Prim.Native.Nat.{ℕ, _≤_, _<_}
 use lib.ListN.{length}
