@@ -11,6 +11,7 @@ use lib.ListN.{length}
 use Rattle.rules.specs.Limits.{taskLimit, objectLimit}
 use Rattle.rules.specs.Priorities.{inRange}
 use Rattle.rules.specs.Lists.{below}
+use Rattle.rules.proofs.Choices.{and-left, and-right}
 use Rattle.format.specs.Limits.{taskRowSize, firstMark, secondMark, stepSize}
 use Rattle.words.specs.Words.{byteAt}
 use Rattle.format.specs.Format.{trailer, taskCount, objectCount, taskTable, objectTable}
@@ -22,7 +23,7 @@ use Rattle.format.specs.Form.{taskRowGood, objectRowGood, unusedZero, na
 use Rattle.format.specs.declared.Step.{Step}
 use Rattle.format.specs.declared.Verdict.{Verdict}
 use Rattle.format.specs.declared.Verdict.the-variants.{Passed, BadLength, BadMark, BadCounts, BadLayout, BadValues, BadStep}
-use Rattle.format.proofs.TestLaws.{and-no, and-yes, and-left, and-right, by-test, three-first, three-second, three-third}
+use Rattle.format.proofs.TestLaws.{and-no, and-yes, by-test, three-first, three-second, three-third}
 use Rattle.format.proofs.TestLaws.{below-at}
 
 module _ (s : List ℕ) where
@@ -181,7 +182,7 @@ module _ (s : List ℕ) where
   script-form n m t part v e f g h = cc
 
   -- the scripts of more tasks end no earlier
-  pub ends-rise : (t n : ℕ) → t ≤ n → scriptsEnd s t ≤ scriptsEnd s n
+  ends-rise : (t n : ℕ) → t ≤ n → scriptsEnd s t ≤ scriptsEnd s n
   unfolding scriptsEnd
   ends-rise t zero h = ap≤ (let z : t ≡ 0 = omega arith in z)
     where
@@ -194,7 +195,7 @@ module _ (s : List ℕ) where
 
   -- what the layout says of a script: it stands inside the roster, and is whole steps
   module _ (good : layoutGood s ≡ true) where
-    pub tables-laid : (taskRow s (taskCount s) ≡ objectTable s) × (objectRow s (objectCount s) ≡ trailer s)
+    tables-laid : (taskRow s (taskCount s) ≡ objectTable s) × (objectRow s (objectCount s) ≡ trailer s)
     unfolding layoutGood tablesGood
     tables-laid =
         let e : tablesGood s ≡ true = and-left (tablesGood s) (scriptsLaid s) good in
@@ -206,19 +207,13 @@ module _ (s : List ℕ) where
     unfolding layoutGood
     scripts-are = and-right (tablesGood s) (scriptsLaid s) good
 
-    pub script-starts : (t : ℕ) → t < taskCount s → startAt s t ≡ scriptsEnd s t
+    script-starts : (t : ℕ) → t < taskCount s → startAt s t ≡ scriptsEnd s t
     unfolding scriptsLaid scriptLaid laidFrom
     script-starts t h =
         let e = below-at (scriptLaid s) (taskCount s) t (and-left (below (taskCount s) (scriptLaid s)) _ scripts-are) h in
         eqb-true _ _ (and-left (eqb (startAt s t) (scriptsEnd s t)) (eqb (lengthAt s t % stepSize) 0) e)
 
-    pub script-whole : (t : ℕ) → t < taskCount s → lengthAt s t % stepSize ≡ 0
-    unfolding scriptsLaid scriptLaid laidFrom
-    script-whole t h =
-        let e = below-at (scriptLaid s) (taskCount s) t (and-left (below (taskCount s) (scriptLaid s)) _ scripts-are) h in
-        eqb-true _ _ (and-right (eqb (startAt s t) (scriptsEnd s t)) (eqb (lengthAt s t % stepSize) 0) e)
-
-    pub scripts-close : scriptsEnd s (taskCount s) ≡ taskTable s
+    scripts-close : scriptsEnd s (taskCount s) ≡ taskTable s
     unfolding scriptsLaid
     scripts-close =
         eqb-true _ _ (and-right (below (taskCount s) (scriptLaid s)) (eqb (scriptsEnd s (taskCount s)) (taskTable s)) scripts-are)

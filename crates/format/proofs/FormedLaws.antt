@@ -9,6 +9,7 @@ use lib.ListN.{length}
 use Rattle.rules.specs.Limits.{taskLimit, objectLimit}
 use Rattle.rules.specs.Priorities.{inRange}
 use Rattle.rules.specs.Lists.{below}
+use Rattle.rules.proofs.Choices.{and-left, and-right}
 use Rattle.format.specs.Limits.{taskRowSize}
 use Rattle.format.specs.Answers.{passed}
 use Rattle.words.specs.Words.{byteAt}
@@ -17,7 +18,7 @@ use Rattle.format.specs.Steps.{aAt, bAt, stepAt, stepCount, stepsOf, ste
 use Rattle.format.specs.Form.{lengthGood, markGood, countsKept, layoutGood, valuesGood, taskRowGood, objectRowGood}
 use Rattle.format.specs.Form.{unusedZero, namesListed, standsRight, stepGood, stepForm, stepsForm, scriptForm, scriptsForm, formOf}
 use Rattle.format.specs.declared.Verdict.the-variants.{Passed, BadLength, BadMark, BadCounts, BadLayout, BadValues, BadStep}
-use Rattle.format.proofs.TestLaws.{truth, past, by-test, and-left, and-right, below-at, first-at}
+use Rattle.format.proofs.TestLaws.{truth, past, by-test, below-at, first-at}
 use Rattle.format.proofs.StepLaws.{steps-at, steps-past}
 use Rattle.format.proofs.FormLaws.{form-6, script-inside, task-row-inside}
 

@@ -12,6 +12,8 @@ use lib.ListN.{length, getD, take, length-append}
 use lib.Seq.{take-suc, take-all, getD-at}
 use Rattle.rules.specs.Model.{ceilingOf, highestOf}
 use Rattle.rules.specs.declared.Priority.{Priority}
+use Rattle.rules.proofs.Choices.{split, and-left, and-right}
+use Rattle.rules.proofs.Counts.{times-same, times-other, times-cons}
 use Rattle.format.specs.Steps.{stepIn}
 use Rattle.format.specs.Roster.{Roster, baseOf, scriptOf}
 use Rattle.format.specs.Check.{something, isInnermost, ownSet}
@@ -22,8 +24,7 @@ use Rattle.format.specs.declared.Step.{Step}
 use Rattle.format.specs.declared.Step.the-variants.{Enter, Leave, Delay, Work, Suspend, Release, Set, Again, Finish}
 use Rattle.format.specs.declared.Verdict.{Verdict}
 use Rattle.format.specs.declared.Verdict.the-variants.{Passed}
-use Rattle.format.proofs.TestLaws.{and-left, and-right, and-yes}
-use Rattle.format.proofs.HeldLaws.{split, times-same, times-other}
+use Rattle.format.proofs.TestLaws.{and-yes}
 use Rattle.format.proofs.WalkLaws.{clean, faultless}
 
 -- the highest of a base and own Set values is the least number that is as high as each
@@ -74,9 +75,9 @@ pub highest-held : (cs : List ℕ) (p : ℕ) (l : List ℕ) (i : ℕ) → 0 < ti
 unfolding highestOf timesIn
 highest-held cs p [] i h = absurd (not-suc-le-zero h)
 highest-held cs p (o ∷ l) i h =
-    split o i
+    split i o
     (λ e. omega (arith, ap (ceilingOf cs) e, highest-low cs (max p (ceilingOf cs o)) l))
-    (λ e. highest-held cs (max p (ceilingOf cs o)) l i (omega (arith, times-other i o l e, h)))
+    (λ e. highest-held cs (max p (ceilingOf cs o)) l i (omega (arith, times-cons i o l, times-other o i e, h)))
 
 pub highest-least : (cs : List ℕ) (p most : ℕ) (l : List ℕ) → p ≤ most → ((i : ℕ) → 0 < timesIn i l → ceilingOf cs i ≤ most) →
     highestOf cs p l ≤ most
@@ -84,10 +85,8 @@ unfolding highestOf
 highest-least cs p most [] b h = b
 highest-least cs p most (o ∷ l) b h =
     highest-least cs (max p (ceilingOf cs o)) most l
-    (omega (arith, h o (omega (arith, times-same o o l refl))))
-    (λ i g. h i (split o i
-    (λ e. omega (arith, times-same i o l e))
-    (λ e. omega (arith, times-other i o l e, g))))
+    (omega (arith, h o (omega (arith, times-cons o o l, times-same o o refl))))
+    (λ i g. h i (omega (arith, times-cons i o l, g)))
 
 -- nothing is held, an object is not, an object is the innermost
 none-held : (l : List ℕ) → something l ≡ false → l ≡ []

@@ -9,7 +9,7 @@ pub mod FormedLaws
 pub mod AnswerLaws
 pub mod KeptLaws
 pub mod ExactLaws
-pub mod PassedLaws
 pub mod ScriptLaws
+pub mod PassedLaws
 pub mod PositionLaws
 pub mod WrittenLaws

@@ -7,6 +7,7 @@ use native.Mathlib.Omega.{arith}
 use borrow.Author.Tests.{leb-true}
 use lib.Dec.{leb, eqb}
 use lib.ListN.{length, drop, length-take, length-drop}
+use Rattle.rules.proofs.Choices.{and-right}
 use Rattle.format.specs.Limits.{smallestRoster, largestRoster}
 use Rattle.format.specs.Answers.{passed, positionOf, first}
 use Rattle.format.specs.Format.{taskCount, objectCount, startAt, lengthAt, partAt}
@@ -20,7 +21,7 @@ use Rattle.format.specs.declared.Step.{Step}
 use Rattle.format.specs.declared.Verdict.{Verdict}
 use Rattle.format.specs.declared.Verdict.the-variants.{Passed, BadLength, BadMark, BadCounts, BadLayout, BadValues}
 use Rattle.format.specs.declared.Verdict.the-variants.{BadStep, WhileHeld, LowCeiling, NotInnermost, OtherTask}
-use Rattle.format.proofs.TestLaws.{by-test, and-right}
+use Rattle.format.proofs.TestLaws.{by-test}
 use Rattle.format.proofs.StepLaws.{steps-length}
 use Rattle.format.proofs.FormatLaws.{script-listed, script-count}
 use Rattle.format.proofs.FormLaws.{form-1}

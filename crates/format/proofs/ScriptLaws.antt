@@ -1,172 +1,103 @@
--- The scripts of a roster that passes: the values that their steps carry, and the walk of what is left of a script from what is held there.
-use mathlib.Core.Path.{_≡_, refl, ap, sym, _∙_}
-use mathlib.Core.Bool.{Bool, true, false, not, _&&_}
-use mathlib.Core.List.{List, [], _∷_}
-use Prim.Native.Nat.{ℕ, zero, suc, _+_, _-_, _*_, _≤_, _<_}
+-- The values that the steps of a roster carry, from its bytes: a Delay its second operand, a Set a priority.
+use mathlib.Core.Path.{_≡_, refl, _∙_, sym, subst}
+use mathlib.Core.Bool.{true}
+use mathlib.Core.List.{List, []}
+use Prim.Native.Nat.{ℕ, _+_, _*_, _≤_, _<_}
 use native.Mathlib.Omega.{arith}
-use borrow.Author.Tests.{ltb-true, ltb-false}
-use lib.Dec.{ltb}
-use lib.ListN.{length, take, drop, drop-of-length-le, List·getD-eq-default, length-take}
-use lib.Seq.{drop-cons, getD-take, getD-drop}
+use lib.Dec.{eqb}
+use lib.ListN.{take, drop, List·getD-eq-default, length-take}
+use lib.Seq.{getD-take, getD-drop}
 use Rattle.rules.specs.Limits.{lastDelay}
 use Rattle.rules.specs.Priorities.{inRange, checkedOf}
 use Rattle.rules.specs.declared.Priority.{Priority}
 use Rattle.rules.specs.declared.Checked.{Checked}
 use Rattle.rules.specs.declared.Checked.the-variants.{Good, OutOfRange}
-use Rattle.format.specs.Limits.{stepSize}
-use Rattle.words.specs.Words.{byteAt, wordAt}
-use Rattle.format.specs.Format.{startAt, lengthAt, partAt}
-use Rattle.format.specs.Steps.{setStep, stepOf, bAt, stepAt, stepIn}
+use Rattle.rules.proofs.Choices.{compare, both-ways}
+use Rattle.words.specs.Words.{byteAt, Bytes, wordAt}
+use Rattle.format.specs.Limits.{stepSize, enterCode, leaveCode, delayCode, workCode, suspendCode, releaseCode, setCode, againCode}
+use Rattle.format.specs.Format.{taskCount, startAt, lengthAt, partAt}
+use Rattle.format.specs.Steps.{setStep, stepOf, codeAt, aAt, bAt, stepAt, stepCount, stepIn}
 use Rattle.format.specs.Roster.{rosterOf, scriptOf}
-use Rattle.format.specs.Answers.{passed}
-use Rattle.format.specs.Check.{something, heldAfter, heldBefore, topAt, whileHeld, faultOf, faultIn, Passes}
-use Rattle.format.specs.Kept.{stepFor, heldAt}
 use Rattle.format.specs.declared.Step.{Step}
 use Rattle.format.specs.declared.Step.the-variants.{Enter, Leave, Delay, Work, Suspend, Release, Set, Again, Finish}
-use Rattle.format.proofs.TestLaws.{truth, by-test, and-yes}
-use Rattle.format.proofs.HeldLaws.{split}
-use Rattle.format.proofs.StepLaws.{step-none}
-use Rattle.format.proofs.WalkLaws.{Clean, clean, faultless}
-use Rattle.format.proofs.KeptLaws.{of-keeps}
-use Rattle.format.proofs.PassedLaws.{set-range, passes-keeps, passes-scripts, at-bytes}
+use Rattle.format.proofs.StepLaws.{steps-at, steps-past}
+use Rattle.format.proofs.FormatLaws.{script-listed, script-count}
 
--- which steps are a Set, a Delay, a Finish
-unfoldable isFinish : Step → Bool
-isFinish (Enter o) = false
-isFinish (Leave o) = false
-isFinish (Delay d) = false
-isFinish Work = false
-isFinish Suspend = false
-isFinish (Release u) = false
-isFinish (Set u p) = false
-isFinish Again = false
-isFinish Finish = true
+-- a step's values, b being its second operand
+abbrev Shape : ℕ → Step → Type 0
+Shape b (Enter o) = Unit
+Shape b (Leave o) = Unit
+Shape b (Delay d) = d ≡ b
+Shape b Work = Unit
+Shape b Suspend = Unit
+Shape b (Release t) = Unit
+Shape b (Set t p) = inRange (p .0) ≡ true
+Shape b Again = Unit
+Shape b Finish = Unit
 
-unfoldable isSet : Step → Bool
-isSet (Enter o) = false
-isSet (Leave o) = false
-isSet (Delay d) = false
-isSet Work = false
-isSet Suspend = false
-isSet (Release u) = false
-isSet (Set u p) = true
-isSet Again = false
-isSet Finish = false
+set-shape : (a b : ℕ) → Shape b (setStep a (checkedOf b))
+unfolding setStep
+set-shape a b =
+    both-ways (λ (v : Checked). Shape b (setStep a v)) (inRange b) (Good (record { 0 = b })) OutOfRange (λ e. e) (λ e. tt)
 
-unfoldable isDelay : Step → Bool
-isDelay (Enter o) = false
-isDelay (Leave o) = false
-isDelay (Delay d) = true
-isDelay Work = false
-isDelay Suspend = false
-isDelay (Release u) = false
-isDelay (Set u p) = false
-isDelay Again = false
-isDelay Finish = false
+shape : (code a b : ℕ) → Shape b (stepOf code a b)
+unfolding stepOf
+shape code a b =
+    both-ways (Shape b) (eqb code enterCode) _ _ (λ e. tt) (λ e.
+    both-ways (Shape b) (eqb code leaveCode) _ _ (λ e. tt) (λ e.
+    both-ways (Shape b) (eqb code delayCode) _ _ (λ e. refl) (λ e.
+    both-ways (Shape b) (eqb code workCode) _ _ (λ e. tt) (λ e.
+    both-ways (Shape b) (eqb code suspendCode) _ _ (λ e. tt) (λ e.
+    both-ways (Shape b) (eqb code releaseCode) _ _ (λ e. tt) (λ e.
+    both-ways (Shape b) (eqb code setCode) _ _ (λ e. set-shape a b) (λ e.
+    both-ways (Shape b) (eqb code againCode) _ _ (λ e. tt) (λ e. tt))))))))
 
-set-no-delay : (a : ℕ) (v : Checked) → isDelay (setStep a v) ≡ false
-unfolding setStep isDelay
-set-no-delay a (Good p) = refl
-set-no-delay a OutOfRange = refl
+-- the bytes of a part are bytes of the whole, and a word of bytes has 16 bits
+part-bytes : (s : List ℕ) → Bytes s → (t : ℕ) → Bytes (partAt s t)
+unfolding partAt
+part-bytes s y t = record { below = λ i. compare (lengthAt s t) i (past i) (within i) }
+  where
+    rest : List ℕ
+    rest = drop (startAt s t) s
 
--- a step that was read as Set or Delay carries what its bytes say
-module _ (c a b : ℕ) where
-  pub read-set : (u : ℕ) (p : Priority) → stepOf c a b ≡ Set u p → inRange (p .0) ≡ true
-  unfolding stepOf isSet
-  read-set u p e =
-      let no : isSet (stepOf c a b) ≡ false → inRange (p .0) ≡ true = λ f. absurd (truth (sym (ap isSet e) ∙ f)) in
-      let at : (x : ℕ) → c ≡ x → isSet (stepOf c a b) ≡ isSet (stepOf x a b) = λ x i. ap (λ (y : ℕ). isSet (stepOf y a b)) i in
-      split c 7 (λ i. set-range a b (checkedOf b) u p refl (sym (ap (λ (x : ℕ). stepOf x a b) i) ∙ e)) (λ n7.
-      split c 1 (λ i. no (at 1 i)) (λ n1. split c 2 (λ i. no (at 2 i)) (λ n2. split c 3 (λ i. no (at 3 i)) (λ n3.
-      split c 4 (λ i. no (at 4 i)) (λ n4. split c 5 (λ i. no (at 5 i)) (λ n5. split c 6 (λ i. no (at 6 i)) (λ n6.
-      split c 8 (λ i. no (at 8 i)) (λ n8. no (ap isSet (step-none c a b n1 n2 n3 n4 n5 n6 n7 n8))))))))))
+    past : (i : ℕ) → lengthAt s t ≤ i → byteAt (take (lengthAt s t) rest) i < 256
+    past i h =
+        let none = List·getD-eq-default (take (lengthAt s t) rest) 0 {n = i} (omega (arith, h, length-take (lengthAt s t) rest)) in
+        subst (λ (v : ℕ). v < 256) (sym none) (omega arith)
 
-  pub read-delay : (d : ℕ) → stepOf c a b ≡ Delay d → d ≡ b
-  unfolding stepOf isDelay setStep
-  read-delay d e =
-      let no : isDelay (stepOf c a b) ≡ false → d ≡ b = λ f. absurd (truth (sym (ap isDelay e) ∙ f)) in
-      let at : (x : ℕ) → c ≡ x → isDelay (stepOf c a b) ≡ isDelay (stepOf x a b) = λ x i. ap (λ (y : ℕ). isDelay (stepOf y a b)) i in
-      split c 3 (λ i. let g : stepOf c a b ≡ Delay b = ap (λ (x : ℕ). stepOf x a b) i in cc) (λ n3.
-      split c 1 (λ i. no (at 1 i)) (λ n1. split c 2 (λ i. no (at 2 i)) (λ n2. split c 4 (λ i. no (at 4 i)) (λ n4.
-      split c 5 (λ i. no (at 5 i)) (λ n5. split c 6 (λ i. no (at 6 i)) (λ n6.
-      split c 7 (λ i. no (at 7 i ∙ set-no-delay a (checkedOf b))) (λ n7.
-      split c 8 (λ i. no (at 8 i)) (λ n8. no (ap isDelay (step-none c a b n1 n2 n3 n4 n5 n6 n7 n8))))))))))
+    within : (i : ℕ) → i < lengthAt s t → byteAt (take (lengthAt s t) rest) i < 256
+    within i h =
+        subst (λ (v : ℕ). v < 256) (sym (getD-take (lengthAt s t) rest i 0 h ∙ getD-drop (startAt s t) s i 0)) (y .below (startAt s t + i))
 
--- bytes below 256, as a lent slice has them
-pub Bytes : List ℕ → Type 0
-Bytes s = (i : ℕ) → byteAt s i < 256
+word-small : (s : List ℕ) → Bytes s → (i : ℕ) → wordAt s i ≤ lastDelay
+unfolding wordAt
+word-small s y i = omega (arith, y .below i, y .below (i + 1))
 
-word-small : (s : List ℕ) (i : ℕ) → Bytes s → wordAt s i ≤ lastDelay
-unfolding wordAt Bytes
-word-small s i h = omega (arith, h i, h (i + 1))
+module _ (s : List ℕ) where
+  -- each step of a script of the roster, as its bytes have it
+  step-shape : (t k : ℕ) (x : Step) → stepIn (scriptOf (rosterOf s) t) k ≡ x → Shape (bAt (partAt s t) k) x
+  unfolding stepAt
+  step-shape t k x e = subst (Shape (bAt (partAt s t) k)) e (compare (taskCount s) t outside within)
+    where
+      part : List ℕ
+      part = partAt s t
 
-part-small : (s : List ℕ) (t : ℕ) → Bytes s → Bytes (partAt s t)
-unfolding partAt Bytes
-part-small s t h i =
-    let l = drop (startAt s t) s in
-    by-test (ltb i (lengthAt s t))
-    (λ e. omega (arith, getD-take (lengthAt s t) l i 0 (ltb-true i _ e), getD-drop (startAt s t) s i 0, h (startAt s t + i)))
-    (λ e.
-    let past : length (take (lengthAt s t) l) ≤ i = omega (arith, length-take (lengthAt s t) l, ltb-false i _ e) in
-    omega (arith, List·getD-eq-default (take (lengthAt s t) l) 0 {n = i} past))
+      outside : taskCount s ≤ t → Shape (bAt part k) (stepIn (scriptOf (rosterOf s) t) k)
+      outside h =
+          let none = List·getD-eq-default (rosterOf s .scripts) [] {n = t} (omega (arith, h, script-count s)) in
+          subst (λ (l : List Step). Shape (bAt part k) (stepIn l k)) (sym none) tt
 
--- the walk of a script: no step at fault from what is held, and nothing held at the end
-unfoldable pub walk : List ℕ → ℕ → ℕ → List ℕ → List Step → Bool
-walk cs top t held [] = not (something held)
-walk cs top t held (x ∷ steps) = passed (faultOf cs top held t 0 x) && walk cs top t (heldAfter held x) steps
+      within : t < taskCount s → Shape (bAt part k) (stepIn (scriptOf (rosterOf s) t) k)
+      within h =
+          subst (λ (l : List Step). Shape (bAt part k) (stepIn l k)) (sym (script-listed s t h))
+          (compare (stepCount part) k
+          (λ g. subst (Shape (bAt part k)) (sym (steps-past part k g)) tt)
+          (λ g. subst (Shape (bAt part k)) (sym (steps-at part k g)) (shape (codeAt part k) (aAt part k) (bAt part k))))
 
-module _ (s : List ℕ) (ok : Passes s) (t : ℕ) (h : t < length (rosterOf s .bases)) where
-  -- a step that is not Finish stands inside the script
-  inside : (k : ℕ) (x : Step) → stepFor (rosterOf s) t k ≡ x → isFinish x ≡ false → k < length (scriptOf (rosterOf s) t)
-  unfolding isFinish
-  inside k x e f =
-      by-test (ltb k (length (scriptOf (rosterOf s) t))) (λ g. ltb-true k _ g) (λ g.
-      let past : stepFor (rosterOf s) t k ≡ Finish = List·getD-eq-default (scriptOf (rosterOf s) t) Finish {n = k} (ltb-false k _ g) in
-      absurd (truth (sym (ap isFinish past) ∙ (ap isFinish e ∙ f))))
+  -- "Delay d (16 bits, 0 to 65,535)"
+  pub script-delay : Bytes s → (t k d : ℕ) → stepIn (scriptOf (rosterOf s) t) k ≡ Delay d → d ≤ lastDelay
+  unfolding bAt
+  script-delay y t k d e = omega (arith, step-shape t k (Delay d) e, word-small (partAt s t) (part-bytes s y t) (stepSize * k + 2))
 
-  clean-at : (k : ℕ) → k ≤ length (scriptOf (rosterOf s) t) →
-      Clean (rosterOf s .ceilings) (topAt (rosterOf s) t) (heldAt (rosterOf s) t k) t (stepFor (rosterOf s) t k)
-  unfolding faultIn
-  clean-at k g =
-      clean (rosterOf s .ceilings) (topAt (rosterOf s) t) (heldAt (rosterOf s) t k) t k (stepFor (rosterOf s) t k)
-      (of-keeps (rosterOf s) t k (passes-keeps s ok t k (record { task = omega (arith, passes-scripts s ok); step = g })))
-
-  walk-from : (n k : ℕ) → k + n ≡ length (scriptOf (rosterOf s) t) →
-      walk (rosterOf s .ceilings) (topAt (rosterOf s) t) t (heldAt (rosterOf s) t k) (drop k (scriptOf (rosterOf s) t)) ≡ true
-  unfolding walk heldBefore whileHeld
-  walk-from zero k e =
-      let steps = scriptOf (rosterOf s) t in
-      let cs = rosterOf s .ceilings in
-      let top = topAt (rosterOf s) t in
-      let end : stepFor (rosterOf s) t k ≡ Finish = List·getD-eq-default steps Finish {n = k} (omega arith) in
-      let free = sym (ap (whileHeld (heldAt (rosterOf s) t k)) end) ∙ clean-at k (omega arith) .free in
-      ap (walk cs top t (heldAt (rosterOf s) t k)) (drop-of-length-le steps {i = k} (omega arith)) ∙ ap not free
-  walk-from (suc n) k e =
-      let steps = scriptOf (rosterOf s) t in
-      let cs = rosterOf s .ceilings in
-      let top = topAt (rosterOf s) t in
-      let held = heldAt (rosterOf s) t k in
-      let fits = ap passed (faultless cs top held t 0 (stepIn steps k) (clean-at k (omega arith))) in
-      ap (walk cs top t held) (drop-cons steps k Finish (omega arith)) ∙
-      sym (and-yes _ _ true fits (sym (walk-from n (suc k) (omega arith))))
-
-  -- from every position, the walk of what is left passes
-  pub passes-walk : (k : ℕ) → k ≤ length (scriptOf (rosterOf s) t) →
-      walk (rosterOf s .ceilings) (topAt (rosterOf s) t) t (heldAt (rosterOf s) t k) (drop k (scriptOf (rosterOf s) t)) ≡ true
-  passes-walk k g = walk-from (length (scriptOf (rosterOf s) t) - k) k (omega arith)
-
-  -- what a Set and a Delay carry
-  pub passes-set : (k u : ℕ) (p : Priority) → stepFor (rosterOf s) t k ≡ Set u p → inRange (p .0) ≡ true
-  unfolding stepAt isFinish
-  passes-set k u p e = read-set _ _ _ u p (sym (at-bytes s ok t h k (inside k (Set u p) e refl) .1) ∙ e)
-
-  pub passes-delay : Bytes s → (k d : ℕ) → stepFor (rosterOf s) t k ≡ Delay d → d ≤ lastDelay
-  unfolding stepAt bAt isFinish
-  passes-delay small k d e =
-      let part = partAt s t in
-      omega (
-        arith,
-        read-delay _ _ _ d (sym (at-bytes s ok t h k (inside k (Delay d) e refl) .1) ∙ e),
-        word-small part
-            (stepSize * k + 2) (part-small s t small),
-      )
+  pub script-set : (t k u : ℕ) (p : Priority) → stepIn (scriptOf (rosterOf s) t) k ≡ Set u p → inRange (p .0) ≡ true
+  script-set t k u p e = step-shape t k (Set u p) e

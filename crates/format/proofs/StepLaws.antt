@@ -3,11 +3,13 @@ use mathlib.Core.Path.{_≡_, ap}
 use mathlib.Core.List.{List}
 use Prim.Native.Nat.{ℕ, _≤_, _<_}
 use borrow.Author.Tests.{ne-eqb}
-use lib.ListN.{length}
+use lib.ListN.{length, List·getD-eq-default}
+use Rattle.rules.proofs.Choices.{compare}
 use Rattle.rules.specs.declared.Priority.{Priority}
 use Rattle.rules.specs.declared.Checked.{Checked}
 use Rattle.rules.specs.declared.Checked.the-variants.{Good, OutOfRange}
 use Rattle.format.specs.Steps.{setStep, stepOf, stepAt, stepCount, stepsOf, stepIn}
+use Rattle.format.specs.declared.Step.{Step}
 use Rattle.format.specs.declared.Step.the-variants.{Set, Finish}
 use Rattle.words.proofs.TableLaws.{length-tabulate, tabulate-at, tabulate-past}
 
@@ -40,3 +42,7 @@ set-bad a v e = ap (setStep a) e
 pub steps-length : (part : List ℕ) → length (stepsOf part) ≡ stepCount part
 unfolding stepsOf
 steps-length part = length-tabulate (stepCount part) (stepAt part)
+
+-- a step that is not the script's end stands in the script
+pub in-script : (steps : List Step) (k : ℕ) → (stepIn steps k ≡ Finish → ⊥) → k < length steps
+in-script steps k n = compare (length steps) k (λ h. absurd (n (List·getD-eq-default steps Finish {n = k} h))) (λ h. h)

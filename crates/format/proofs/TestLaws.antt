@@ -12,6 +12,7 @@ use Rattle.rules.specs.Priorities.{inRange, checkedOf}
 use Rattle.rules.specs.declared.Priority.{Priority}
 use Rattle.rules.specs.declared.Checked.{Checked}
 use Rattle.rules.specs.declared.Checked.the-variants.{Good, OutOfRange}
+use Rattle.rules.proofs.Choices.{and-left, and-right}
 use Rattle.format.specs.Answers.{passed, first}
 use Rattle.format.specs.declared.Verdict.{Verdict}
 use Rattle.format.specs.declared.Verdict.the-variants.{Passed, NoSuchTask, BadLength, BadMark, BadCounts, BadLayout, BadValues}
@@ -36,18 +37,6 @@ three-second a b d e f = and-no (a && b) d (sym (and-yes a b false e (sym f)))
 
 pub three-third : (a b d y : Bool) → a ≡ true → b ≡ true → y ≡ d → y ≡ (a && b && d)
 three-third a b d y e f g = and-yes (a && b) d y (sym (and-yes a b true e (sym f))) g
-
-pub and-left : (a b : Bool) → (a && b) ≡ true → a ≡ true
-and-left true b e = refl
-and-left false b e = e
-
-pub and-right : (a b : Bool) → (a && b) ≡ true → b ≡ true
-and-right true b e = e
-and-right false b e = absurd (truth (sym e))
-
--- two numbers that are equal or not, by names for them
-pub same-eqb : (a b x y : ℕ) → a ≡ x → b ≡ y → eqb a b ≡ eqb x y
-same-eqb a b x y e f = cc
 
 -- by cases on a test
 pub by-test : {A : Type 0} (b : Bool) → (b ≡ true → A) → (b ≡ false → A) → A

@@ -10,7 +10,7 @@ use lib.Dec.{leb, ltb}
 use lib.ListN.{length, getD, set, drop, length-append, length-drop}
 use lib.Seq.{sets, length-sets, sets-eq, drop-cons}
 use Rattle.format.proofs.TestLaws.{by-test, and-no, and-yes}
-use Rattle.format.proofs.HeldLaws.{split}
+use Rattle.rules.proofs.Choices.{split}
 use Rattle.trace.specs.Limits.{pairSize, nobodyByte}
 use Rattle.lines.specs.Lines.{newline, space, dash, firstDigit, digitsTo, decimal, runningText, pairLine, pairLines}
 use Rattle.lines.specs.Lines.{passedWord, endWord, refusedWord, placeText, refusedLine, passedLines, linesOf, pairRoom, otherRoom}

@@ -11,7 +11,8 @@ use lib.Seq.{take-append-seam}
 use Rattle.rules.specs.Lists.{below}
 use Rattle.format.specs.Answers as Roster
 use Rattle.format.specs.Check.{checkOf}
-use Rattle.format.proofs.TestLaws.{truth, by-test, and-left, and-right}
+use Rattle.rules.proofs.Choices.{and-left, and-right}
+use Rattle.format.proofs.TestLaws.{truth, by-test}
 use Rattle.trace.specs.Limits.{eventSize, largestEvents, pairSize}
 use Rattle.trace.specs.Inputs.{eventCount, recordGood, eventsGood}
 use Rattle.trace.specs.Answers.{numberOf, taskOf, positionOf, ran}

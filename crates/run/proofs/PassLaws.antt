@@ -10,7 +10,7 @@ use Rattle.rules.specs.Limits.{taskLimit}
 use Rattle.rules.specs.Answers.{numberOf}
 use Rattle.rules.specs.declared.Answer.{Answer}
 use Rattle.format.specs.Roster.{Roster}
-use Rattle.format.proofs.HeldLaws.{split}
+use Rattle.rules.proofs.Choices.{split}
 use Rattle.words.proofs.TableLaws.{length-tabulate, tabulate-at}
 use Rattle.format.proofs.FormedLaws.{tasks-few}
 use Rattle.memory.specs.Memory.{runningCell, runnerOf}

@@ -1,91 +1,28 @@
 -- The scripts of a roster that passes: at its position in its script, what is reckoned of a task fits the step that comes next.
 use mathlib.Core.Path.{_≡_, refl, ap, _∙_, sym, subst}
-use mathlib.Core.Bool.{Bool, true, false, cond}
+use mathlib.Core.Bool.{Bool, true, cond}
 use mathlib.Core.List.{List, [], _∷_}
-use Prim.Native.Nat.{ℕ, zero, suc, _-_, _≤_, _<_, max}
+use Prim.Native.Nat.{ℕ, suc, _-_, _≤_, _<_}
 use native.Mathlib.Nat.{not-suc-le-zero}
 use native.Mathlib.Omega.{arith}
 use borrow.Author.Tests.{eqb-true, eq-eqb, ne-eqb, ltb-true, ltb-false, not-false}
 use lib.Dec.{eqb}
-use lib.ListN.{length, getD, take, List·getD-eq-default}
-use Rattle.rules.specs.Limits.{taskLimit, objectLimit, lastDelay}
-use Rattle.rules.specs.Priorities.{inRange}
+use lib.ListN.{length, getD, take}
 use Rattle.rules.specs.Model.{waits, ceilingOf, highestOf}
+use Rattle.rules.specs.Lists.{timesIn, without}
 use Rattle.rules.specs.declared.Priority.{Priority}
-use Rattle.rules.specs.Lists.{allOf, timesIn, without}
-use Rattle.rules.proofs.Choices.{compare}
 use Rattle.rules.proofs.Counts.{times-same, times-cons}
-use Rattle.format.specs.Answers.{numberOf}
-use Rattle.format.specs.Steps.{stepIn}
 use Rattle.format.specs.Roster.{Roster, scriptOf, baseOf}
 use Rattle.format.specs.Form.{namesListed}
-use Rattle.format.specs.Check.{something, isInnermost, heldAfter, heldBefore, ownSet, topOf, whileHeld, lowCeiling, notInnermost}
-use Rattle.format.specs.Check.{otherTask, faultOf, faultIn, topAt}
+use Rattle.format.specs.Check.{something, isInnermost, heldAfter, heldBefore, whileHeld, lowCeiling, notInnermost}
+use Rattle.format.specs.Check.{otherTask, topAt}
 use Rattle.format.specs.declared.Step.{Step}
 use Rattle.format.specs.declared.Step.the-variants.{Enter, Leave, Delay, Suspend, Release, Set, Again, Finish}
-use Rattle.format.specs.declared.Verdict.{Verdict}
-use Rattle.format.specs.declared.Verdict.the-variants.{Passed, WhileHeld, LowCeiling, NotInnermost, OtherTask}
+use Rattle.format.proofs.StepLaws.{in-script}
+use Rattle.format.proofs.WalkLaws.{Clean}
+use Rattle.format.proofs.KeptLaws.{top-set, highest-low, highest-held, highest-least}
+use Rattle.format.proofs.PassedLaws.{Orderly}
 use Rattle.safety.specs.Reckon.{Account, stepOf}
-
--- what a roster that passes keeps to
-pub record Keeps (r : Roster) : Type 0 where
-  pub some : 1 ≤ length (r .bases)
-  pub count : length (r .bases) ≤ taskLimit
-  pub objects : length (r .ceilings) ≤ objectLimit
-  pub bases : allOf inRange (r .bases) ≡ true
-  pub ceilings : allOf inRange (r .ceilings) ≡ true
-  pub rules : (t k : ℕ) → t < length (r .bases) → k ≤ length (scriptOf r t) →
-      faultIn (r .ceilings) (topAt r t) t (scriptOf r t) k ≡ Passed
-  pub names : (t k : ℕ) → t < length (r .bases) → k < length (scriptOf r t) →
-      namesListed (length (r .bases)) (length (r .ceilings)) (stepIn (scriptOf r t) k) ≡ true
-  pub delays : (t k d : ℕ) → stepIn (scriptOf r t) k ≡ Delay d → d ≤ lastDelay
-  pub sets : (t k u : ℕ) (p : Priority) → stepIn (scriptOf r t) k ≡ Set u p → inRange (p .0) ≡ true
-
--- a step without a fault keeps each of the rules 17 to 20
-record Clean (cs : List ℕ) (top t : ℕ) (held : List ℕ) (x : Step) : Type 0 where
-  free : whileHeld held x ≡ false
-  high : lowCeiling cs top held x ≡ false
-  inner : notInnermost held x ≡ false
-  own : otherTask t x ≡ false
-
-clean : (cs : List ℕ) (top t k : ℕ) (held : List ℕ) (x : Step) → faultOf cs top held t k x ≡ Passed → Clean cs top t held x
-unfolding faultOf
-clean cs top t k held x e =
-    go (whileHeld held x) (lowCeiling cs top held x) (notInnermost held x) (otherTask t x) refl refl refl refl e
-  where
-    clash : (v : Verdict) → v ≡ Passed → (n : ℕ) → numberOf v ≡ suc n → ⊥
-    clash v f n g = omega (arith, g, ap numberOf f)
-
-    go : (a b c d : Bool) → whileHeld held x ≡ a → lowCeiling cs top held x ≡ b → notInnermost held x ≡ c → otherTask t x ≡ d →
-        cond a (WhileHeld t k) (cond b (LowCeiling t k) (cond c (NotInnermost t k) (cond d (OtherTask t k) Passed))) ≡ Passed →
-        Clean cs top t held x
-    go true b c d i j v w f = absurd (clash (WhileHeld t k) f 16 refl)
-    go false true c d i j v w f = absurd (clash (LowCeiling t k) f 17 refl)
-    go false false true d i j v w f = absurd (clash (NotInnermost t k) f 18 refl)
-    go false false false true i j v w f = absurd (clash (OtherTask t k) f 19 refl)
-    go false false false false i j v w f = record { free = i; high = j; inner = v; own = w }
-
--- a step that is not the script's end stands in the script
-pub in-script : (steps : List Step) (k : ℕ) → (stepIn steps k ≡ Finish → ⊥) → k < length steps
-in-script steps k n = compare (length steps) k (λ h. absurd (n (List·getD-eq-default steps Finish {n = k} h))) (λ h. h)
-
--- the highest own Set value
-pub top-low : (t b : ℕ) (steps : List Step) → b ≤ topOf t b steps
-unfolding topOf
-top-low t b [] = omega arith
-top-low t b (x ∷ steps) = omega (arith, top-low t (max b (ownSet t x)) steps)
-
-pub top-set : (t b : ℕ) (steps : List Step) (k : ℕ) → k < length steps → ownSet t (stepIn steps k) ≤ topOf t b steps
-unfolding topOf
-top-set t b [] k h = absurd (not-suc-le-zero h)
-top-set t b (x ∷ steps) zero h = omega (arith, top-low t (max b (ownSet t x)) steps)
-top-set t b (x ∷ steps) (suc k) h = top-set t (max b (ownSet t x)) steps k (omega arith)
-
--- a higher base makes no lower active priority
-pub highest-more : (cs : List ℕ) (b c : ℕ) (l : List ℕ) → b ≤ c → highestOf cs b l ≤ highestOf cs c l
-unfolding highestOf
-highest-more cs b c [] h = h
-highest-more cs b c (o ∷ l) h = highest-more cs (max b (ceilingOf cs o)) (max c (ceilingOf cs o)) l (omega arith)
 
 -- to leave the innermost of distinct objects is to give up the last
 last-in : (o : ℕ) (l : List ℕ) → 0 < length l → getD l (length l - 1) 0 ≡ o → 0 < timesIn o l
@@ -117,19 +54,15 @@ pub record Fits (r : Roster) (t : ℕ) (a : Account) : Type 0 where
   pub based : a .base ≤ topAt r t
   pub awaits : (p : ℕ) → a .waiting ≡ waits p → p ≤ topAt r t
 
-module _ (r : Roster) (k : Keeps r) (t : ℕ) (low : t < length (r .bases)) (a : Account) (f : Fits r t a) where
+module _ (r : Roster) (k : Orderly r) (t : ℕ) (low : t < length (r .bases)) (a : Account) (f : Fits r t a) where
   -- the rules of the step that comes next
-  rule : (x : Step) → stepOf r t a ≡ x → Clean (r .ceilings) (topAt r t) t (a .inside) x
-  unfolding faultIn
+  rule : (x : Step) → stepOf r t a ≡ x → Clean (r .ceilings) (topAt r t) (a .inside) t x
   rule x e =
-      subst (Clean (r .ceilings) (topAt r t) t (a .inside)) e
-      (subst (λ (h : List ℕ). Clean (r .ceilings) (topAt r t) t h (stepOf r t a)) (sym (f .held))
-      (clean (r .ceilings) (topAt r t) t (a .position) _ (stepOf r t a) (k .rules t (a .position) low (f .within))))
+      subst (Clean (r .ceilings) (topAt r t) (a .inside) t) e
+      (subst (λ (h : List ℕ). Clean (r .ceilings) (topAt r t) h t (stepOf r t a)) (sym (f .held)) (k .rules t (a .position) low (f .within)))
 
-  listed : (x : Step) → stepOf r t a ≡ x → (x ≡ Finish → ⊥) → namesListed (length (r .bases)) (length (r .ceilings)) x ≡ true
-  listed x e n =
-      subst (λ (y : Step). namesListed (length (r .bases)) (length (r .ceilings)) y ≡ true) e
-      (k .names t (a .position) low (in-script (scriptOf r t) (a .position) (λ i. n (sym e ∙ i))))
+  listed : (x : Step) → stepOf r t a ≡ x → namesListed (length (r .bases)) (length (r .ceilings)) x ≡ true
+  listed x e = ap (namesListed (length (r .bases)) (length (r .ceilings))) (sym e) ∙ k .names t (a .position) low
 
   -- the position behind a step that is not the end
   pub fits-next : (x : Step) → stepOf r t a ≡ x → (x ≡ Finish → ⊥) → suc (a .position) ≤ length (scriptOf r t)
@@ -162,7 +95,7 @@ module _ (r : Roster) (k : Keeps r) (t : ℕ) (low : t < length (r .bases)) (a :
   -- Enter: the object is listed and not held, and its ceiling is high enough
   pub enter-listed : (o : ℕ) → stepOf r t a ≡ Enter o → o < length (r .ceilings)
   unfolding namesListed
-  enter-listed o e = ltb-true o (length (r .ceilings)) (listed (Enter o) e (λ i. absurd (let z : _≡_ {A = ℕ} 0 1 = cc in omega arith)))
+  enter-listed o e = ltb-true o (length (r .ceilings)) (listed (Enter o) e)
 
   pub enter-free : (o : ℕ) → stepOf r t a ≡ Enter o → timesIn o (a .inside) ≡ 0
   unfolding whileHeld
@@ -171,16 +104,16 @@ module _ (r : Roster) (k : Keeps r) (t : ℕ) (low : t < length (r .bases)) (a :
   pub enter-high : (o : ℕ) → stepOf r t a ≡ Enter o → highestOf (r .ceilings) (a .base) (a .inside) ≤ ceilingOf (r .ceilings) o
   unfolding lowCeiling
   enter-high o e =
-      omega (
-        arith,
-        ltb-false (ceilingOf (r .ceilings) o) (highestOf (r .ceilings) (topAt r t) (a .inside)) (rule (Enter o) e .high),
-        highest-more (r .ceilings) (a .base) (topAt r t) (a .inside) (f .based),
-      )
+      let cs = r .ceilings in
+      let high = ltb-false (ceilingOf cs o) (highestOf cs (topAt r t) (a .inside)) (rule (Enter o) e .high) in
+      highest-least cs (a .base) (ceilingOf cs o) (a .inside)
+      (omega (arith, high, f .based, highest-low cs (topAt r t) (a .inside)))
+      (λ i h. omega (arith, high, highest-held cs (topAt r t) (a .inside) i h))
 
   -- Leave: the object is listed and the innermost held
   pub leave-listed : (o : ℕ) → stepOf r t a ≡ Leave o → o < length (r .ceilings)
   unfolding namesListed
-  leave-listed o e = ltb-true o (length (r .ceilings)) (listed (Leave o) e (λ i. absurd (let z : _≡_ {A = ℕ} 0 1 = cc in omega arith)))
+  leave-listed o e = ltb-true o (length (r .ceilings)) (listed (Leave o) e)
 
   pub leave-inner : (o : ℕ) → stepOf r t a ≡ Leave o → isInnermost (a .inside) o ≡ true
   unfolding notInnermost
@@ -189,16 +122,13 @@ module _ (r : Roster) (k : Keeps r) (t : ℕ) (low : t < length (r .bases)) (a :
   -- Release and Set: the task is listed; a Set is its own
   pub release-listed : (u : ℕ) → stepOf r t a ≡ Release u → u < length (r .bases)
   unfolding namesListed
-  release-listed u e = ltb-true u (length (r .bases)) (listed (Release u) e (λ i. absurd (let z : _≡_ {A = ℕ} 0 1 = cc in omega arith)))
+  release-listed u e = ltb-true u (length (r .bases)) (listed (Release u) e)
 
   pub set-own : (u : ℕ) (p : Priority) → stepOf r t a ≡ Set u p → u ≡ t
   unfolding otherTask
   set-own u p e = eqb-true u t (not-false (eqb u t) (rule (Set u p) e .own))
 
   pub set-under : (u : ℕ) (p : Priority) → stepOf r t a ≡ Set u p → p .0 ≤ topAt r t
-  unfolding topAt ownSet
+  unfolding topAt
   set-under u p e =
-      let l = in-script (scriptOf r t) (a .position) (λ i. absurd (let z : _≡_ {A = ℕ} 0 1 = cc in omega arith)) in
-      let h = top-set t (baseOf r t) (scriptOf r t) (a .position) l in
-      let own : ownSet t (stepOf r t a) ≡ p .0 = ap (ownSet t) e ∙ ap (λ (b : Bool). cond b (p .0) 0) (eq-eqb u t (set-own u p e)) in
-      omega (arith, h, own)
+      top-set t (baseOf r t) (scriptOf r t) (a .position) p (e ∙ ap (λ (v : ℕ). Set v p) (set-own u p e))

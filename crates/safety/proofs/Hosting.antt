@@ -23,13 +23,14 @@ use Rattle.rules.proofs.Choices.{clash}
 use Rattle.rules.proofs.SoundLaws.{sound-is, below-make}
 use Rattle.rules.proofs.Soundness.{good-sound}
 use Rattle.rules.proofs.EventLaws.{work-5}
-use Rattle.rules.specs.Refusals.{table, appliesAt}
 use Rattle.rules.proofs.Refusals.{exactly-when, refused-same}
 use Rattle.format.specs.Roster.{Roster, rosterOf}
+use Rattle.format.specs.Check.{checkOf}
 use Rattle.format.specs.declared.Step.{Step}
 use Rattle.format.specs.declared.Step.the-variants.{Enter, Leave, Delay, Work, Suspend, Release, Set, Again, Finish}
 use Rattle.memory.specs.Rows.{rowFor, heldWidth, queueWidth, Lists}
 use Rattle.memory.proofs.GridLaws.{list-room, count-at}
+use Rattle.format.proofs.PassedLaws.{Orderly, orderly}
 use Rattle.trace.specs.Config.{Config, Outcome, startOf, perform, positionOf, nextStep, advance, outside, stepBy, happen}
 use Rattle.dispatch.specs.declared.Stepped.{Stepped}
 use Rattle.dispatch.specs.State.{view, holding, padded, encode}
@@ -42,10 +43,9 @@ use Rattle.safety.specs.History as history
 use Rattle.safety.specs.History.{inputOf, afterFrom, after}
 use Rattle.safety.specs.Reckon.{Reckoning}
 use Rattle.safety.specs.Host.{Host, Reply, opening, called, stepOn, call, hostFrom, host, Hosted, Bridge}
-use Rattle.safety.proofs.Discipline.{Keeps}
 use Rattle.safety.proofs.Invariant.{Inv, by-event}
 use Rattle.safety.proofs.Theorem.{invariant}
-use Rattle.safety.proofs.Passing.{keeps}
+use Rattle.format.proofs.TestLaws.{passed-is}
 
 -- rows made of lists say their lengths
 lengths-of : (w n k : ℕ) (l : List ℕ) → Lists w n l → k ≤ n → lengthsGood w k l ≡ true
@@ -150,7 +150,7 @@ module _ (c : Config) (s : sound (c .model) ≡ true) where
   event-never r history.step u = step-never r (c .model .running) u
 
 -- every list
-hosted-from : (r : Roster) → Keeps r → (es : List history.Event) (c : Config) (b : Reckoning) → Inv r c b →
+hosted-from : (r : Roster) → Orderly r → (es : List history.Event) (c : Config) (b : Reckoning) → Inv r c b →
     hostFrom r (beside c) es ≡ beside (afterFrom r c es)
 unfolding hostFrom afterFrom
 hosted-from r k [] c b i = refl
@@ -158,13 +158,13 @@ hosted-from r k (e ∷ es) c b i =
     ap (λ (x : Reply). hostFrom r (x .host) es) (call-is c (good-sound (c .model) (i .good)) r e) ∙
     hosted-from r k es _ _ (by-event r k c b i e)
 
-opened-is : (r : Roster) → Keeps r → opening r ≡ beside (startOf r)
+opened-is : (r : Roster) → Orderly r → opening r ≡ beside (startOf r)
 unfolding opening startOf
 opened-is r k =
     ap (λ (x : Stepped). record { state = x .state; positions = replicate (length (r .bases)) 0 })
     (sym (done-0 (r .bases) (r .ceilings) (k .some) (k .count) (k .objects) (k .bases) (k .ceilings)))
 
-module _ (r : Roster) (k : Keeps r) (es : List history.Event) where
+module _ (r : Roster) (k : Orderly r) (es : List history.Event) where
   host-is : host r es ≡ beside (after r es)
   unfolding afterFrom
   host-is = ap (λ (h : Host). hostFrom r h es) (opened-is r k) ∙ hosted-from r k es (startOf r) _ (invariant r k [])
@@ -185,4 +185,4 @@ module _ (r : Roster) (k : Keeps r) (es : List history.Event) where
 
 -- the bridge
 pub bridge : Bridge
-bridge s y ok es = hosted (rosterOf s) (keeps s y ok) es
+bridge s y ok es = hosted (rosterOf s) (orderly s (passed-is (checkOf s) ok) y) es

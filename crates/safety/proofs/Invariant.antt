@@ -10,13 +10,12 @@ use lib.Dec.{eqb, ltb}
 use lib.ListN.{length, getD, set, take, length-set, length-map, List·getD-map}
 use Rattle.rules.specs.Model.{Model, NextBase, none, waits, taskAt, ceilingOf, highestOf, activeOf}
 use Rattle.rules.specs.Moved.{Moved, refused}
-use Rattle.rules.specs.Events.{noTask, clock, release, apply, badReading}
-use Rattle.rules.specs.Events
+use Rattle.rules.specs.Lists.{timesIn, without}
+use Rattle.rules.specs.Events.{noTask, clock, release, apply}
 use Rattle.rules.specs.declared.Runner.{Runner}
 use Rattle.rules.specs.declared.Runner.the-variants.{Nobody, Task}
 use Rattle.rules.specs.declared.Answer.{Answer}
 use Rattle.rules.specs.declared.Answer.the-variants.{Done, NoSuchTask, BadReading}
-use Rattle.rules.specs.Lists.{timesIn, without}
 use Rattle.rules.specs.declared.Event.the-variants as E
 use Rattle.rules.proofs.Choices.{split, both-ways, cond-true, cond-false, and-left, and-right}
 use Rattle.rules.proofs.TaskLaws.{at-same, at-other, at-keeps}
@@ -28,6 +27,7 @@ use Rattle.format.specs.Roster.{Roster, scriptOf}
 use Rattle.format.specs.Check.{isInnermost, heldAfter, heldBefore}
 use Rattle.format.specs.declared.Step.{Step}
 use Rattle.format.specs.declared.Step.the-variants.{Enter, Leave, Delay, Work, Suspend, Release, Set, Again, Finish}
+use Rattle.format.proofs.PassedLaws.{Orderly}
 use Rattle.trace.specs.Config.{Config, perform, positionAfter, isDone, advance, nextStep, positionOf, stepBy, outside, happen}
 use Rattle.safety.specs.History.{Event, clock as read, release as free, step, inputOf}
 use Rattle.safety.specs.Reckon.{Away, here, until, resting, gone, Account, Reckoning, unknown, accountAt, withAccount, atPosition}
@@ -35,7 +35,7 @@ use Rattle.safety.specs.Reckon.{insideOf}
 use Rattle.safety.specs.Reckon.{permitted, goes, awayAfter, readAt, released, releaseOf, counts, tookBy, movedOn}
 use Rattle.safety.specs.Reckon.{stepOf, took, happened, noted}
 use Rattle.safety.proofs.Agree.{accountOf, Agree, agree-position}
-use Rattle.safety.proofs.Discipline.{Keeps, Fits, fits-next, held-next, free-delay, free-suspend, free-again, free-finish}
+use Rattle.safety.proofs.Discipline.{Fits, fits-next, held-next, free-delay, free-suspend, free-again, free-finish}
 use Rattle.safety.proofs.Discipline.{enter-listed}
 use Rattle.safety.proofs.Discipline.{enter-free, enter-high, leave-listed, leave-inner, release-listed, set-own, set-under}
 use Rattle.safety.proofs.Discipline.{without-last}
@@ -164,7 +164,7 @@ unfolding heldBefore
 none-before steps = refl
 
 -- the step of the running task t
-module _ (r : Roster) (k : Keeps r) (m : Model) (ps : List ℕ) (b : Reckoning) (h : Good true m) (a : Agree b (m .now) (m .tasks) ps)
+module _ (r : Roster) (k : Orderly r) (m : Model) (ps : List ℕ) (b : Reckoning) (h : Good true m) (a : Agree b (m .now) (m .tasks) ps)
     (cs : m .ceilings ≡ r .ceilings) (size : length (b .tasks) ≡ length (r .bases))
     (fit : (u : ℕ) → u < length (r .bases) → Fits r u (accountAt b u)) (t : ℕ) (e : m .running ≡ Task t) where
   low : t < length (r .bases)
@@ -398,7 +398,7 @@ module _ (r : Roster) (k : Keeps r) (m : Model) (ps : List ℕ) (b : Reckoning) 
           ap (λ (l : List ℕ). set l t at) (sym cp) ∙
           sym (cond-true (isDone (perform m x .answer)) (set (c .positions) t at) (c .positions) (done-is _ (f .done)))
 
-by-step : (r : Roster) → Keeps r → (c : Config) (b : Reckoning) → Inv r c b → (w : Runner) → c .model .running ≡ w →
+by-step : (r : Roster) → Orderly r → (c : Config) (b : Reckoning) → Inv r c b → (w : Runner) → c .model .running ≡ w →
     Inv r (stepBy r c w .config) (cond (isDone (stepBy r c w .answer)) (took r b w) b)
 unfolding stepBy
 by-step r k c b i Nobody e = i
@@ -407,7 +407,7 @@ by-step r k c b i (Task t) e =
     (ap (λ (v : Account). v .position) (sym (i .agree .each t)))
 
 -- every event
-pub by-event : (r : Roster) → Keeps r → (c : Config) (b : Reckoning) → Inv r c b → (e : Event) →
+pub by-event : (r : Roster) → Orderly r → (c : Config) (b : Reckoning) → Inv r c b → (e : Event) →
     Inv r (happen r c (inputOf e) .config)
     (noted r b (record { event = e; answer = happen r c (inputOf e) .answer; ran = c .model .running }))
 unfolding happen inputOf noted happened
@@ -416,7 +416,7 @@ by-event r k c b i (free t) = by-release r c b i t
 by-event r k c b i step = by-step r k c b i (c .model .running) refl
 
 -- a step is done where somebody runs
-pub step-done : (r : Roster) → Keeps r → (c : Config) (b : Reckoning) → Inv r c b → (t : ℕ) → c .model .running ≡ Task t →
+pub step-done : (r : Roster) → Orderly r → (c : Config) (b : Reckoning) → Inv r c b → (t : ℕ) → c .model .running ≡ Task t →
     stepBy r c (c .model .running) .answer ≡ Done
 unfolding stepBy advance
 step-done r k c b i t e =

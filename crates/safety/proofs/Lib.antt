@@ -3,6 +3,5 @@ pub mod Discipline
 pub mod Steps
 pub mod Invariant
 pub mod Theorem
-pub mod Passing
 pub mod Written
 pub mod Hosting

@@ -1,4 +1,4 @@
--- Every list of readings, releases and steps from the fresh start of a roster that keeps the rules is safe.
+-- Every list of readings, releases and steps from the fresh start of a roster that passes is safe: the theorem.
 use mathlib.Core.Path.{_≡_, refl, ap, _∙_, sym, subst}
 use mathlib.Core.Bool.{true, false}
 use mathlib.Core.List.{List, [], _∷_}
@@ -24,15 +24,18 @@ use Rattle.rules.proofs.TaskLaws.{ready, running, one-place, runs-named}
 use Rattle.rules.proofs.Standing.{all-runs, all-queueing}
 use Rattle.rules.proofs.Kept.{one-holder}
 use Rattle.rules.proofs.FreshLaws.{fresh-good, fresh-now, fresh-ceilings, fresh-count, fresh-task}
-use Rattle.format.specs.Roster.{Roster, scriptOf, baseOf}
-use Rattle.format.specs.Check.{heldBefore, topAt}
+use Rattle.format.specs.Roster.{Roster, rosterOf, scriptOf, baseOf}
+use Rattle.format.specs.Check.{heldBefore, topAt, checkOf}
+use Rattle.format.proofs.TestLaws.{passed-is}
+use Rattle.format.proofs.KeptLaws.{top-low}
+use Rattle.format.proofs.PassedLaws.{Orderly, orderly}
 use Rattle.trace.specs.Config.{Config, startOf, stepBy, happen}
 use Rattle.safety.specs.History.{Event, inputOf, afterFrom, after, entriesFrom}
 use Rattle.safety.specs.Reckon.{Account, Reckoning, unknown, accountAt, reckonFrom, opened, reckon, activeIn, isHere, readyBy}
 use Rattle.safety.specs.Safe as claim
-use Rattle.safety.specs.Safe.{reckoned, stepAnswer, Idle, Refusal, Once, Safe}
+use Rattle.safety.specs.Safe.{reckoned, stepAnswer, Idle, Refusal, Once, Safe, Claim}
 use Rattle.safety.proofs.Agree.{awayOf, accountOf, account-unplaced}
-use Rattle.safety.proofs.Discipline.{Keeps, Fits, top-low}
+use Rattle.safety.proofs.Discipline.{Fits}
 use Rattle.safety.proofs.Steps.{away-is}
 use Rattle.safety.proofs.Invariant.{Inv, by-event, step-done}
 
@@ -53,7 +56,7 @@ all-zero zero u = refl
 all-zero (suc n) zero = refl
 all-zero (suc n) (suc u) = all-zero n u
 
-module _ (r : Roster) (k : Keeps r) where
+module _ (r : Roster) (k : Orderly r) where
   b₀ : Reckoning
   b₀ = record { now = 0; tasks = opened (r .bases) }
 
@@ -103,13 +106,13 @@ module _ (r : Roster) (k : Keeps r) where
   }
 
 -- every list
-by-events : (r : Roster) → Keeps r → (es : List Event) (c : Config) (b : Reckoning) → Inv r c b →
+by-events : (r : Roster) → Orderly r → (es : List Event) (c : Config) (b : Reckoning) → Inv r c b →
     Inv r (afterFrom r c es) (reckonFrom r b (entriesFrom r c es))
 unfolding afterFrom entriesFrom reckonFrom
 by-events r k [] c b i = i
 by-events r k (e ∷ es) c b i = by-events r k es _ _ (by-event r k c b i e)
 
-pub invariant : (r : Roster) → Keeps r → (es : List Event) → Inv r (after r es) (reckoned r es)
+pub invariant : (r : Roster) → Orderly r → (es : List Event) → Inv r (after r es) (reckoned r es)
 unfolding reckon b₀
 invariant r k es = by-events r k es (startOf r) _ (start r k)
 
@@ -181,7 +184,7 @@ step-refused : (r : Roster) (c : Config) → c .model .running ≡ Nobody → st
 unfolding stepBy
 step-refused r c e = ap (λ (w : Runner). stepBy r c w .answer) e
 
-refusal : (r : Roster) → Keeps r → (es : List Event) → Refusal r es
+refusal : (r : Roster) → Orderly r → (es : List Event) → Refusal r es
 unfolding happen inputOf
 refusal r k es = record { only = go (claim.running r es) refl; when = when }
   where
@@ -208,7 +211,7 @@ just-once qs t e =
       others = λ q n. omega (arith, v .has, queued-two qs q (v .at) t n);
     }
 
-pub safe-of : (r : Roster) → Keeps r → (es : List Event) → Safe r es
+safe-of : (r : Roster) → Orderly r → (es : List Event) → Safe r es
 unfolding isHere
 safe-of r k es = record {
   refused = λ before behind f. refusal r k before;
@@ -234,3 +237,7 @@ safe-of r k es = record {
 
     i : Inv r c b
     i = invariant r k es
+
+-- the theorem
+pub safe : Claim
+safe s y ok es = safe-of (rosterOf s) (orderly s (passed-is (checkOf s) ok) y) es

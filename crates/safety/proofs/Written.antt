@@ -1,29 +1,30 @@
 -- What a run writes is what the claim speaks of: the answer byte of each Step, and the task byte of each event.
-use mathlib.Core.Path.{_≡_, refl, ap, _∙_, sym, subst}
+use mathlib.Core.Path.{_≡_, refl, ap, _∙_, sym}
 use mathlib.Core.Logic.{_↔_}
 use mathlib.Core.Bool.{Bool, true, false, cond, not}
 use mathlib.Core.List.{List, [], _∷_, _++_, map}
-use Prim.Native.Nat.{ℕ, zero, suc, _+_, _*_, _≤_, _<_}
+use Prim.Native.Nat.{ℕ, suc, _+_, _*_, _<_}
 use native.Mathlib.Omega.{arith}
 use lib.ListN.{length, getD, drop, length-append, List·getD-append}
 use Rattle.rules.specs.Answers.{numberOf}
 use Rattle.rules.specs.declared.Answer.{Answer}
 use Rattle.rules.specs.declared.Answer.the-variants.{Done, NoSuchTask, NoSuchObject, BadPriority, BadReading, NobodyRuns, EndedTask}
 use Rattle.rules.specs.declared.Answer.the-variants.{InsideAction, AboveCeiling, NotInnermost, Unsound, BadCounts, BadBases}
-use Rattle.rules.proofs.Choices.{clash, cond-true}
+use Rattle.rules.proofs.Choices.{cond-true}
+use Rattle.words.specs.Words.{Bytes}
 use Rattle.format.specs.Answers.{passed}
 use Rattle.format.specs.Roster.{Roster, rosterOf}
 use Rattle.format.specs.Check.{checkOf}
 use Rattle.trace.specs.Config.{Config, startOf, happen}
-use Rattle.trace.specs.Inputs.{eventsGood, eventCount, inputsOf}
+use Rattle.trace.specs.Inputs.{inputsOf}
 use Rattle.trace.specs.Answers as run
 use Rattle.trace.specs.Run.{answerOf, runningByte, pairOf, pairsFrom, pairsOf, bufferOf}
 use Rattle.trace.specs.declared.Input.{Input}
 use Rattle.trace.specs.declared.RunAnswer.{RunAnswer}
-use Rattle.trace.specs.declared.RunAnswer.the-variants.{Done as Ran, BadRoster, BadEvents, ShortBuffer}
-use Rattle.safety.specs.History.{Event, step, inputOf, afterFrom, after}
-use Rattle.safety.specs.Safe.{running, stepAnswer, Idle, Bytes}
-use Rattle.safety.proofs.Passing.{safe}
+use Rattle.trace.specs.declared.RunAnswer.the-variants.{Done as Ran, BadRoster}
+use Rattle.safety.specs.History.{Event, step, inputOf, afterFrom}
+use Rattle.safety.specs.Safe.{running, stepAnswer, Idle}
+use Rattle.safety.proofs.Theorem.{safe}
 
 -- the two bytes at an event, from any configuration on
 module _ (r : Roster) where

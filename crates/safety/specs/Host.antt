@@ -8,6 +8,7 @@ use Rattle.rules.specs.declared.Runner.{Runner}
 use Rattle.rules.specs.declared.Runner.the-variants.{Nobody, Task}
 use Rattle.rules.specs.declared.Answer.{Answer}
 use Rattle.rules.specs.declared.Answer.the-variants.{Done, Unsound}
+use Rattle.words.specs.Words.{Bytes}
 use Rattle.format.specs.Answers.{passed}
 use Rattle.format.specs.Roster.{Roster, rosterOf}
 use Rattle.format.specs.Check.{checkOf}
@@ -19,7 +20,6 @@ use Rattle.dispatch.specs.declared.Stepped.{Stepped}
 use Rattle.dispatch.specs.State.{view}
 use Rattle.dispatch.specs.Methods.{enterOf, leaveOf, delayOf, suspendOf, releaseOf, clockOf, setOf, workOf, finishOf, freshOf}
 use Rattle.safety.specs.History.{Event, clock, release, step, inputOf, after}
-use Rattle.safety.specs.Safe.{Bytes}
 
 pub record Host : Type 0 where
   pub state : State

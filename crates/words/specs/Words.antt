@@ -1,10 +1,14 @@
 -- Bytes and little-endian words of a list, and a list given entry by entry. What lies past the last byte reads as 0.
 use mathlib.Core.List.{List, [], _∷_}
-use Prim.Native.Nat.{ℕ, zero, suc, _+_, _*_}
+use Prim.Native.Nat.{ℕ, zero, suc, _+_, _*_, _<_}
 use lib.ListN.{getD}
 
 abbrev pub byteAt : List ℕ → ℕ → ℕ
 byteAt s i = getD s i 0
+
+-- every element is a byte, as in a lent slice
+pub record Bytes (s : List ℕ) : Type 0 where
+  pub below : (i : ℕ) → byteAt s i < 256
 
 -- "Little-endian"
 unfoldable pub wordAt : List ℕ → ℕ → ℕ

@@ -8,7 +8,6 @@ use native.Mathlib.Omega.{arith}
 use Rattle.rules.specs.Events.{apply}
 use Rattle.rules.specs.Histories.{delayFits}
 use Rattle.rules.specs.declared.Event as Event
-use Rattle.rules.specs.Histories.{delayFits}
 use Rattle.trace.specs.Config.{perform}
 use Rattle.run.proofs.MoveLaws.{step-moves}
 use borrow.Author.Needs.{needs}
