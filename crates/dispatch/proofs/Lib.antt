@@ -8,3 +8,4 @@ pub mod RunnerLaws
 pub mod ReaderLaws
 pub mod FreshLaws
 pub mod MethodLaws
+pub mod RuleLaws

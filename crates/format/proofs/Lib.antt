@@ -12,4 +12,4 @@ pub mod ExactLaws
 pub mod ScriptLaws
 pub mod PassedLaws
 pub mod PositionLaws
-pub mod WrittenLaws
+pub mod BrokenLaws

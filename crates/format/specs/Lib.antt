@@ -6,4 +6,4 @@ pub mod Roster
 pub mod Form
 pub mod Check
 pub mod Kept
-pub mod Written
+pub mod Broken

@@ -22,7 +22,7 @@ use Rattle.format.proofs.StepLaws.{in-script}
 use Rattle.format.proofs.WalkLaws.{Clean}
 use Rattle.format.proofs.KeptLaws.{top-set, highest-low, highest-held, highest-least}
 use Rattle.format.proofs.PassedLaws.{Orderly}
-use Rattle.safety.specs.Reckon.{Account, stepOf}
+use Rattle.safety.specs.Reckon.{Status, stepOf}
 
 -- to leave the innermost of distinct objects is to give up the last
 last-in : (o : ℕ) (l : List ℕ) → 0 < length l → getD l (length l - 1) 0 ≡ o → 0 < timesIn o l
@@ -48,13 +48,13 @@ without-last o (x ∷ y ∷ l) h e g =
     ap (λ (v : ℕ). take v (x ∷ y ∷ l)) (sym i)
 
 -- what is reckoned of the task t fits its script
-pub record Fits (r : Roster) (t : ℕ) (a : Account) : Type 0 where
+pub record Fits (r : Roster) (t : ℕ) (a : Status) : Type 0 where
   pub within : a .position ≤ length (scriptOf r t)
   pub held : a .inside ≡ heldBefore (scriptOf r t) (a .position)
   pub based : a .base ≤ topAt r t
   pub awaits : (p : ℕ) → a .waiting ≡ waits p → p ≤ topAt r t
 
-module _ (r : Roster) (k : Orderly r) (t : ℕ) (low : t < length (r .bases)) (a : Account) (f : Fits r t a) where
+module _ (r : Roster) (k : Orderly r) (t : ℕ) (low : t < length (r .bases)) (a : Status) (f : Fits r t a) where
   -- the rules of the step that comes next
   rule : (x : Step) → stepOf r t a ≡ x → Clean (r .ceilings) (topAt r t) (a .inside) t x
   rule x e =

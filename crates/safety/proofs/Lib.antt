@@ -3,5 +3,5 @@ pub mod Discipline
 pub mod Steps
 pub mod Invariant
 pub mod Theorem
-pub mod Written
+pub mod RunWrites
 pub mod Hosting

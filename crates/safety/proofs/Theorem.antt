@@ -30,11 +30,11 @@ use Rattle.format.proofs.TestLaws.{passed-is}
 use Rattle.format.proofs.KeptLaws.{top-low}
 use Rattle.format.proofs.PassedLaws.{Orderly, orderly}
 use Rattle.trace.specs.Config.{Config, startOf, stepBy, happen}
-use Rattle.safety.specs.History.{Event, inputOf, afterFrom, after, entriesFrom}
-use Rattle.safety.specs.Reckon.{Account, Reckoning, unknown, accountAt, reckonFrom, opened, reckon, activeIn, isHere, readyBy}
+use Rattle.safety.specs.History.{Event, inputOf, afterFrom, after, happeningsFrom}
+use Rattle.safety.specs.Reckon.{Status, Reckoning, unknown, statusAt, reckonFrom, opened, reckon, activeIn, isHere, readyBy}
 use Rattle.safety.specs.Safe as claim
 use Rattle.safety.specs.Safe.{reckoned, stepAnswer, Idle, Refusal, Once, Safe, Claim}
-use Rattle.safety.proofs.Agree.{awayOf, accountOf, account-unplaced}
+use Rattle.safety.proofs.Agree.{awayOf, statusOf, status-unplaced}
 use Rattle.safety.proofs.Discipline.{Fits}
 use Rattle.safety.proofs.Steps.{away-is}
 use Rattle.safety.proofs.Invariant.{Inv, by-event, step-done}
@@ -45,7 +45,7 @@ unfolding opened
 opened-length [] = refl
 opened-length (b ∷ bs) = ap suc (opened-length bs)
 
-opened-at : (bs : List ℕ) (u : ℕ) → u < length bs → getD (opened bs) u unknown ≡ accountOf (withPlace (newTask (getD bs u 0)) Ready) 0
+opened-at : (bs : List ℕ) (u : ℕ) → u < length bs → getD (opened bs) u unknown ≡ statusOf (withPlace (newTask (getD bs u 0)) Ready) 0
 unfolding opened awayOf
 opened-at [] u h = absurd (not-suc-le-zero h)
 opened-at (b ∷ bs) zero h = refl
@@ -63,25 +63,25 @@ module _ (r : Roster) (k : Orderly r) where
   m₀ : Model
   m₀ = freshModel (r .bases) (r .ceilings)
 
-  task₀ : (u : ℕ) → u < length (r .bases) → accountOf (taskAt m₀ u) 0 ≡ accountOf (withPlace (newTask (getD (r .bases) u 0)) Ready) 0
+  task₀ : (u : ℕ) → u < length (r .bases) → statusOf (taskAt m₀ u) 0 ≡ statusOf (withPlace (newTask (getD (r .bases) u 0)) Ready) 0
   unfolding m₀
   task₀ u h =
-      sym (account-unplaced (taskAt m₀ u) 0) ∙
-      ap (λ (x : TaskRecord). accountOf x 0) (fresh-task (r .bases) (r .ceilings) (k .count) (k .bases) (k .ceilings) u h)
+      sym (status-unplaced (taskAt m₀ u) 0) ∙
+      ap (λ (x : TaskRecord). statusOf x 0) (fresh-task (r .bases) (r .ceilings) (k .count) (k .bases) (k .ceilings) u h)
 
-  each₀ : (u : ℕ) → getD (opened (r .bases)) u unknown ≡ accountOf (taskAt m₀ u) (getD (replicate (length (r .bases)) 0) u 0)
+  each₀ : (u : ℕ) → getD (opened (r .bases)) u unknown ≡ statusOf (taskAt m₀ u) (getD (replicate (length (r .bases)) 0) u 0)
   unfolding m₀ awayOf
   each₀ u =
       compare (length (r .bases)) u
       (λ h. List·getD-eq-default (opened (r .bases)) unknown {n = u} (omega (arith, h, opened-length (r .bases))) ∙
-      ap (λ (x : TaskRecord). accountOf x 0) (sym (List·getD-eq-default (m₀ .tasks) blank {n = u} (omega (arith, h, count₀)))))
+      ap (λ (x : TaskRecord). statusOf x 0) (sym (List·getD-eq-default (m₀ .tasks) blank {n = u} (omega (arith, h, count₀)))))
       (λ h. opened-at (r .bases) u h ∙ sym (task₀ u h)) ∙
-      ap (accountOf (taskAt m₀ u)) (sym (all-zero (length (r .bases)) u))
+      ap (statusOf (taskAt m₀ u)) (sym (all-zero (length (r .bases)) u))
     where
       count₀ : length (m₀ .tasks) ≡ length (r .bases)
       count₀ = fresh-count (r .bases) (r .ceilings) (k .count) (k .bases) (k .ceilings)
 
-  fits₀ : (u : ℕ) → u < length (r .bases) → Fits r u (accountAt b₀ u)
+  fits₀ : (u : ℕ) → u < length (r .bases) → Fits r u (statusAt b₀ u)
   unfolding b₀ heldBefore topAt awayOf
   fits₀ u h = subst (Fits r u) (sym (opened-at (r .bases) u h)) (record {
     within = omega arith;
@@ -107,8 +107,8 @@ module _ (r : Roster) (k : Orderly r) where
 
 -- every list
 by-events : (r : Roster) → Orderly r → (es : List Event) (c : Config) (b : Reckoning) → Inv r c b →
-    Inv r (afterFrom r c es) (reckonFrom r b (entriesFrom r c es))
-unfolding afterFrom entriesFrom reckonFrom
+    Inv r (afterFrom r c es) (reckonFrom r b (happeningsFrom r c es))
+unfolding afterFrom happeningsFrom reckonFrom
 by-events r k [] c b i = i
 by-events r k (e ∷ es) c b i = by-events r k es _ _ (by-event r k c b i e)
 
@@ -140,23 +140,23 @@ module _ (r : Roster) (c : Config) (b : Reckoning) (i : Inv r c b) where
   runners : (u : ℕ) → runs (c .model .running) u ≡ running (taskAt (c .model) u)
   runners u = all-runs _ _ _ _ taskLimit (i .good .pending .core .stand) (i .good .pending .core .count) u
 
-  away : (u : ℕ) → accountAt b u .away ≡ awayOf (taskAt (c .model) u .place)
-  away u = ap (λ (a : Account). a .away) (i .agree .each u)
+  away : (u : ℕ) → statusAt b u .away ≡ awayOf (taskAt (c .model) u .place)
+  away u = ap (λ (a : Status). a .away) (i .agree .each u)
 
-  not-runner : (w : Runner) (t : ℕ) → readyBy b w t ≡ true → (runs w t ≡ 0) × (isHere (accountAt b t .away) ≡ true)
+  not-runner : (w : Runner) (t : ℕ) → readyBy b w t ≡ true → (runs w t ≡ 0) × (isHere (statusAt b t .away) ≡ true)
   unfolding readyBy runs
   not-runner Nobody t e = (refl, e)
   not-runner (Task u) t e =
       split t u
-      (λ i. absurd (let z : false ≡ true = sym (cond-true (eqb u t) false (isHere (accountAt b t .away)) (eq-eqb u t (sym i))) ∙ e in
+      (λ i. absurd (let z : false ≡ true = sym (cond-true (eqb u t) false (isHere (statusAt b t .away)) (eq-eqb u t (sym i))) ∙ e in
       clash (sym z)))
-      (λ n. (times-other u t n, sym (cond-false (eqb u t) false (isHere (accountAt b t .away)) (ne-eqb u t (λ i. n (sym i)))) ∙ e))
+      (λ n. (times-other u t n, sym (cond-false (eqb u t) false (isHere (statusAt b t .away)) (ne-eqb u t (λ i. n (sym i)))) ∙ e))
 
-  is-ready : (w : Runner) (t : ℕ) → runs w t ≡ 0 → isHere (accountAt b t .away) ≡ true → readyBy b w t ≡ true
+  is-ready : (w : Runner) (t : ℕ) → runs w t ≡ 0 → isHere (statusAt b t .away) ≡ true → readyBy b w t ≡ true
   unfolding readyBy runs
   is-ready Nobody t z e = e
   is-ready (Task u) t z e =
-      cond-false (eqb u t) false (isHere (accountAt b t .away)) (ne-eqb u t (λ i. omega (arith, z, times-same u t i))) ∙ e
+      cond-false (eqb u t) false (isHere (statusAt b t .away)) (ne-eqb u t (λ i. omega (arith, z, times-same u t i))) ∙ e
 
   ready-queued : (t : ℕ) → readyBy b (c .model .running) t ≡ true → queued (c .model .ready) t ≡ 1
   ready-queued t e =
@@ -171,13 +171,13 @@ module _ (r : Roster) (c : Config) (b : Reckoning) (i : Inv r c b) where
 
   active-is : (t : ℕ) → activeIn r b t ≡ active (c .model) t
   active-is t =
-      ap (λ (a : Account). highestOf (r .ceilings) (a .base) (a .inside)) (i .agree .each t) ∙
+      ap (λ (a : Status). highestOf (r .ceilings) (a .base) (a .inside)) (i .agree .each t) ∙
       ap (λ (l : List ℕ). highestOf l (taskAt (c .model) t .base) (taskAt (c .model) t .held)) (sym (i .ceilings))
 
-  exclude : (t u o : ℕ) → 0 < timesIn o (accountAt b t .inside) → 0 < timesIn o (accountAt b u .inside) → t ≡ u
+  exclude : (t u o : ℕ) → 0 < timesIn o (statusAt b t .inside) → 0 < timesIn o (statusAt b u .inside) → t ≡ u
   exclude t u o h g =
-      one-holder (c .model) (i .good) t u o (omega (arith, h, ap (λ (a : Account). timesIn o (a .inside)) (i .agree .each t)))
-      (omega (arith, g, ap (λ (a : Account). timesIn o (a .inside)) (i .agree .each u)))
+      one-holder (c .model) (i .good) t u o (omega (arith, h, ap (λ (a : Status). timesIn o (a .inside)) (i .agree .each t)))
+      (omega (arith, g, ap (λ (a : Status). timesIn o (a .inside)) (i .agree .each u)))
 
 -- with nobody running a step is refused
 step-refused : (r : Roster) (c : Config) → c .model .running ≡ Nobody → stepBy r c (c .model .running) .answer ≡ NobodyRuns

@@ -26,7 +26,7 @@ use Rattle.trace.specs.Run.{answerOf, pairOf, pairsFrom, pairsOf, buffer
 use Rattle.words.proofs.CopyLaws.{sets-front}
 
 -- two bytes for each event
-pairs-count : (r : Roster) (c : Config) (es : List Input) → length (pairsFrom r c es) ≡ pairSize * length es
+pub pairs-count : (r : Roster) (c : Config) (es : List Input) → length (pairsFrom r c es) ≡ pairSize * length es
 unfolding pairsFrom pairOf
 pairs-count r c [] = refl
 pairs-count r c (e ∷ es) = omega (arith, pairs-count r (happen r c e .config) es)

@@ -1,4 +1,4 @@
--- Bytes and little-endian words of a list, and a list given entry by entry. What lies past the last byte reads as 0.
+-- Bytes and little-endian words of a list, and a list given element by element. What lies past the last byte reads as 0.
 use mathlib.Core.List.{List, [], _∷_}
 use Prim.Native.Nat.{ℕ, zero, suc, _+_, _*_, _<_}
 use lib.ListN.{getD}

@@ -8,9 +8,9 @@ use Rattle.format.specs.Format.{taskCount, objectCount, partAt}
 use Rattle.format.specs.Steps.{aAt, bAt, stepAt, stepCount}
 use Rattle.format.specs.Form.{lengthGood, markGood, countsKept, layoutGood, valuesGood, stepGood}
 
--- the step at position k of task t is written as document 01 says
-abbrev pub stepWritten : List ℕ → ℕ → ℕ → Bool
-stepWritten s t k =
+-- the step at position k of task t breaks no line of the form
+abbrev pub stepUnbroken : List ℕ → ℕ → ℕ → Bool
+stepUnbroken s t k =
     stepGood (taskCount s) (objectCount s) (eqb (suc k) (stepCount (partAt s t))) (aAt (partAt s t) k) (bAt (partAt s t) k)
     (stepAt (partAt s t) k)
 
@@ -22,14 +22,14 @@ pub record Laid (s : List ℕ) : Type 0 where
   pub layout : layoutGood s ≡ true
   pub values : valuesGood s ≡ true
 
--- a step that is not so written, all before it, "in task and step order", being so
+-- a broken step, none before it, "in task and step order", being so
 pub record FirstBroken (s : List ℕ) (t k : ℕ) : Type 0 where
   pub task : t < taskCount s
   pub step : k < stepCount (partAt s t)
-  pub broken : stepWritten s t k ≡ false
-  pub tasks : (u j : ℕ) → u < t → j < stepCount (partAt s u) → stepWritten s u j ≡ true
-  pub steps : (j : ℕ) → j < k → stepWritten s t j ≡ true
+  pub broken : stepUnbroken s t k ≡ false
+  pub tasks : (u j : ℕ) → u < t → j < stepCount (partAt s u) → stepUnbroken s u j ≡ true
+  pub steps : (j : ℕ) → j < k → stepUnbroken s t j ≡ true
 
--- every step is so written
-pub record AllWritten (s : List ℕ) : Type 0 where
-  pub at : (t k : ℕ) → t < taskCount s → k < stepCount (partAt s t) → stepWritten s t k ≡ true
+-- no step is broken
+pub record AllUnbroken (s : List ℕ) : Type 0 where
+  pub at : (t k : ℕ) → t < taskCount s → k < stepCount (partAt s t) → stepUnbroken s t k ≡ true

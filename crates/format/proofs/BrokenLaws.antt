@@ -7,7 +7,7 @@ use Rattle.format.specs.Answers.{passed}
 use Rattle.format.specs.Format.{taskCount, objectCount, partAt}
 use Rattle.format.specs.Steps.{stepCount}
 use Rattle.format.specs.Form.{stepForm, stepsForm, scriptForm, scriptsForm, formOf}
-use Rattle.format.specs.Written.{stepWritten, Laid, FirstBroken, AllWritten}
+use Rattle.format.specs.Broken.{stepUnbroken, Laid, FirstBroken, AllUnbroken}
 use Rattle.format.specs.declared.Verdict.{Verdict}
 use Rattle.format.specs.declared.Verdict.the-variants.{Passed, BadStep}
 use Rattle.format.proofs.TestLaws.{truth, by-test, first-at, first-all, first-found, first-names}
@@ -18,38 +18,38 @@ module _ (s : List ℕ) where
   formAt : ℕ → ℕ → Verdict
   formAt t k = stepForm (taskCount s) (objectCount s) t (partAt s t) k
 
-  written-of : (t k : ℕ) → formAt t k ≡ Passed → stepWritten s t k ≡ true
+  unbroken-of : (t k : ℕ) → formAt t k ≡ Passed → stepUnbroken s t k ≡ true
   unfolding formAt stepForm
-  written-of t k e =
-      by-test (stepWritten s t k) (λ x. x) (λ x.
+  unbroken-of t k e =
+      by-test (stepUnbroken s t k) (λ x. x) (λ x.
       absurd (truth (sym (ap passed e) ∙ ap (λ (b : Bool). passed (cond b Passed (BadStep t k))) x)))
 
-  of-written : (t k : ℕ) → stepWritten s t k ≡ true → formAt t k ≡ Passed
+  of-unbroken : (t k : ℕ) → stepUnbroken s t k ≡ true → formAt t k ≡ Passed
   unfolding formAt stepForm
-  of-written t k e = ap (λ (b : Bool). cond b Passed (BadStep t k)) e
+  of-unbroken t k e = ap (λ (b : Bool). cond b Passed (BadStep t k)) e
 
-  of-broken : (t k : ℕ) → stepWritten s t k ≡ false → formAt t k ≡ BadStep t k
+  of-broken : (t k : ℕ) → stepUnbroken s t k ≡ false → formAt t k ≡ BadStep t k
   unfolding formAt stepForm
   of-broken t k e = ap (λ (b : Bool). cond b Passed (BadStep t k)) e
 
-  script-written : (t : ℕ) → scriptForm s t ≡ Passed → (k : ℕ) → k < stepCount (partAt s t) → stepWritten s t k ≡ true
+  script-unbroken : (t : ℕ) → scriptForm s t ≡ Passed → (k : ℕ) → k < stepCount (partAt s t) → stepUnbroken s t k ≡ true
   unfolding scriptForm stepsForm formAt
-  script-written t e k h = written-of t k (first-at (formAt t) (stepCount (partAt s t)) e k h)
+  script-unbroken t e k h = unbroken-of t k (first-at (formAt t) (stepCount (partAt s t)) e k h)
 
-  written-script : (t : ℕ) → ((k : ℕ) → k < stepCount (partAt s t) → stepWritten s t k ≡ true) → scriptForm s t ≡ Passed
+  unbroken-script : (t : ℕ) → ((k : ℕ) → k < stepCount (partAt s t) → stepUnbroken s t k ≡ true) → scriptForm s t ≡ Passed
   unfolding scriptForm stepsForm formAt
-  written-script t h = first-all (formAt t) (stepCount (partAt s t)) (λ k g. of-written t k (h k g))
+  unbroken-script t h = first-all (formAt t) (stepCount (partAt s t)) (λ k g. of-unbroken t k (h k g))
 
   -- 0
-  pub form-passes : formOf s ≡ Passed → Laid s × AllWritten s
+  pub form-passes : formOf s ≡ Passed → Laid s × AllUnbroken s
   unfolding scriptsForm
   form-passes e =
       let f = formed s e in (
         record { size = f .size; mark = f .mark; counts = f .counts; layout = f .layout; values = f .values },
-        record { at = λ t k h g. script-written t (first-at (scriptForm s) (taskCount s) (f .steps) t h) k g },
+        record { at = λ t k h g. script-unbroken t (first-at (scriptForm s) (taskCount s) (f .steps) t h) k g },
       )
 
-  pub passes-form : Laid s → AllWritten s → formOf s ≡ Passed
+  pub passes-form : Laid s → AllUnbroken s → formOf s ≡ Passed
   unfolding scriptsForm
   passes-form l a =
       formed-passes s (record {
@@ -58,7 +58,7 @@ module _ (s : List ℕ) where
         counts = l .counts;
         layout = l .layout;
         values = l .values;
-        steps = first-all (scriptForm s) (taskCount s) (λ t h. written-script t (λ k g. a .at t k h g));
+        steps = first-all (scriptForm s) (taskCount s) (λ t h. unbroken-script t (λ k g. a .at t k h g));
       })
 
   -- 16: a roster whose first broken step is the step at k of task t is answered so
@@ -66,10 +66,10 @@ module _ (s : List ℕ) where
   unfolding scriptsForm scriptForm stepsForm formAt
   broken-named t k l b =
       let here : scriptForm s t ≡ BadStep t k =
-      first-found (formAt t) (stepCount (partAt s t)) k (b .step) (first-all (formAt t) k (λ j h. of-written t j (b .steps j h)))
+      first-found (formAt t) (stepCount (partAt s t)) k (b .step) (first-all (formAt t) k (λ j h. of-unbroken t j (b .steps j h)))
       (ap passed (of-broken t k (b .broken))) ∙ of-broken t k (b .broken) in
       sym (form-6 s (l .size) (l .mark) (l .counts) (l .layout) (l .values)) ∙
-      (first-found (scriptForm s) (taskCount s) t (b .task) (first-all (scriptForm s) t (λ u h. written-script u (λ j g. b .tasks u j h g)))
+      (first-found (scriptForm s) (taskCount s) t (b .task) (first-all (scriptForm s) t (λ u h. unbroken-script u (λ j g. b .tasks u j h g)))
       (ap passed here) ∙ here)
 
   -- and what is answered is so
@@ -81,9 +81,9 @@ module _ (s : List ℕ) where
       let t = a .0 in
       let b = first-names (formAt t) (stepCount (partAt s t)) (ap passed (a .2 ∙ f) ∙ e) in
       let k = b .0 in
-      let wrong : stepWritten s t k ≡ false =
-      by-test (stepWritten s t k)
-      (λ x. absurd (truth (sym (ap passed (of-written t k x)) ∙ (ap passed (b .2 ∙ (a .2 ∙ f)) ∙ e))))
+      let wrong : stepUnbroken s t k ≡ false =
+      by-test (stepUnbroken s t k)
+      (λ x. absurd (truth (sym (ap passed (of-unbroken t k x)) ∙ (ap passed (b .2 ∙ (a .2 ∙ f)) ∙ e))))
       (λ x. x) in (
         t,
         k,
@@ -92,7 +92,7 @@ module _ (s : List ℕ) where
           task = a .1;
           step = b .1;
           broken = wrong;
-          tasks = λ u j h g. script-written u (first-at (scriptForm s) t (a .3) u h) j g;
-          steps = λ j h. written-of t j (first-at (formAt t) k (b .3) j h);
+          tasks = λ u j h g. script-unbroken u (first-at (scriptForm s) t (a .3) u h) j g;
+          steps = λ j h. unbroken-of t j (first-at (formAt t) k (b .3) j h);
         },
       )

@@ -1,38 +1,33 @@
--- What a run writes is what the claim speaks of: the answer byte of each Step, and the task byte of each event.
+-- What a run writes is what the claim speaks of: the proof.
 use mathlib.Core.Path.{_≡_, refl, ap, _∙_, sym}
 use mathlib.Core.Logic.{_↔_}
 use mathlib.Core.Bool.{Bool, true, false, cond, not}
 use mathlib.Core.List.{List, [], _∷_, _++_, map}
 use Prim.Native.Nat.{ℕ, suc, _+_, _*_, _<_}
 use native.Mathlib.Omega.{arith}
-use lib.ListN.{length, getD, drop, length-append, List·getD-append}
+use lib.ListN.{length, getD, drop, length-append, length-map, List·getD-append}
 use Rattle.rules.specs.Answers.{numberOf}
 use Rattle.rules.specs.declared.Answer.{Answer}
 use Rattle.rules.specs.declared.Answer.the-variants.{Done, NoSuchTask, NoSuchObject, BadPriority, BadReading, NobodyRuns, EndedTask}
 use Rattle.rules.specs.declared.Answer.the-variants.{InsideAction, AboveCeiling, NotInnermost, Unsound, BadCounts, BadBases}
 use Rattle.rules.proofs.Choices.{cond-true}
-use Rattle.words.specs.Words.{Bytes}
 use Rattle.format.specs.Answers.{passed}
 use Rattle.format.specs.Roster.{Roster, rosterOf}
 use Rattle.format.specs.Check.{checkOf}
 use Rattle.trace.specs.Config.{Config, startOf, happen}
-use Rattle.trace.specs.Inputs.{inputsOf}
 use Rattle.trace.specs.Answers as run
 use Rattle.trace.specs.Run.{answerOf, runningByte, pairOf, pairsFrom, pairsOf, bufferOf}
+use Rattle.trace.proofs.RunLaws.{pairs-count}
 use Rattle.trace.specs.declared.Input.{Input}
 use Rattle.trace.specs.declared.RunAnswer.{RunAnswer}
 use Rattle.trace.specs.declared.RunAnswer.the-variants.{Done as Ran, BadRoster}
 use Rattle.safety.specs.History.{Event, step, inputOf, afterFrom}
 use Rattle.safety.specs.Safe.{running, stepAnswer, Idle}
+use Rattle.safety.specs.RunWrites.{RunWrites}
 use Rattle.safety.proofs.Theorem.{safe}
 
 -- the two bytes at an event, from any configuration on
 module _ (r : Roster) where
-  pairs-size : (c : Config) (es : List Event) → length (pairsFrom r c (map inputOf es)) ≡ 2 * length es
-  unfolding pairsFrom pairOf
-  pairs-size c [] = refl
-  pairs-size c (e ∷ es) = omega (arith, pairs-size (happen r c (inputOf e) .config) es)
-
   answer-byte : (c : Config) (before : List Event) (e : Event) (behind : List Event) →
       getD (pairsFrom r c (map inputOf (before ++ (e ∷ behind)))) (2 * length before) 0 ≡ numberOf
       (happen r (afterFrom r c before) (inputOf e) .answer)
@@ -62,15 +57,7 @@ ran-passes s ev size e = go (passed (checkOf s)) refl _ e
     go true f w g = f
     go false f w g = absurd (let z : _≡_ {A = ℕ} 0 1 = cc in omega arith)
 
--- the buffer after a run of the events es that is not refused
-pub record Written (s ev buffer : List ℕ) (es : List Event) : Type 0 where
-  -- the answer byte of a Step is not 0 exactly when nobody was running or ready just before it
-  pub answer : (before behind : List Event) → es ≡ before ++ (step ∷ behind) →
-      (getD (bufferOf s ev buffer) (2 * length before) 0 ≡ 0 → ⊥) ↔ Idle (rosterOf s) before
-  -- the task byte of an event names the task that the claim calls running after it, or nobody
-  pub task : (before behind : List Event) (e : Event) → es ≡ before ++ (e ∷ behind) →
-      getD (bufferOf s ev buffer) (2 * length before + 1) 0 ≡ runningByte (running (rosterOf s) (before ++ (e ∷ [])))
-
+-- 0 is Done's number alone
 number-done : (a : Answer) → numberOf a ≡ 0 → a ≡ Done
 number-done Done e = refl
 number-done NoSuchTask e = absurd (omega arith)
@@ -86,10 +73,9 @@ number-done Unsound e = absurd (omega arith)
 number-done BadCounts e = absurd (omega arith)
 number-done BadBases e = absurd (omega arith)
 
-pub written : (s ev buffer : List ℕ) (es : List Event) → Bytes s → answerOf s ev (length buffer) ≡ Ran → inputsOf ev ≡ map inputOf es →
-    Written s ev buffer es
+pub run-writes : RunWrites
 unfolding bufferOf pairsOf happen inputOf
-written s ev buffer es y e f = record { answer = answer; task = task }
+run-writes s ev buffer es y e f = record { answer = answer; task = task }
   where
     r : Roster
     r = rosterOf s
@@ -105,7 +91,7 @@ written s ev buffer es y e f = record { answer = answer; task = task }
     at : (i : ℕ) → i < 2 * length es → getD (bufferOf s ev buffer) i 0 ≡ getD pairs i 0
     at i h =
         ap (λ (l : List ℕ). getD l i 0) whole ∙
-        List·getD-append pairs (drop (length pairs) buffer) 0 i (omega (arith, h, pairs-size r (startOf r) es))
+        List·getD-append pairs (drop (length pairs) buffer) 0 i (omega (arith, h, pairs-count r (startOf r) (map inputOf es), length-map es inputOf))
 
     size : (before behind : List Event) (x : Event) → es ≡ before ++ (x ∷ behind) → length es ≡ length before + suc (length behind)
     size before behind x q = ap length q ∙ length-append before (x ∷ behind)

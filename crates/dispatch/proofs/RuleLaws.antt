@@ -1,0 +1,73 @@
+-- The state of a sound Model is sound, and an event on it does what the rule does; no rule answers 10.
+use mathlib.Core.Path.{_≡_, refl, ap, _∙_, sym}
+use mathlib.Core.Bool.{Bool, true, false, cond}
+use mathlib.Core.List.{List, [], map, flatMap}
+use Prim.Native.Nat.{ℕ, _*_, _≤_, _<_}
+use native.Mathlib.Omega.{arith}
+use borrow.Author.Tests.{le-leb, lt-ltb}
+use lib.Dec.{eqb, ltb}
+use lib.ListN.{length, getD}
+use Rattle.rules.specs.Limits.{taskLimit, objectLimit, lastPriority}
+use Rattle.rules.specs.Answers.{numberOf}
+use Rattle.rules.specs.Model.{Model}
+use Rattle.rules.specs.Events.{apply}
+use Rattle.rules.specs.Sound.{sound}
+use Rattle.rules.specs.declared.Event.{Event}
+use Rattle.rules.specs.declared.Answer.{Answer}
+use Rattle.rules.specs.declared.Answer.the-variants.{Unsound}
+use Rattle.rules.proofs.Choices.{clash}
+use Rattle.rules.proofs.SoundLaws.{sound-is, below-make}
+use Rattle.rules.proofs.Refusals.{table, appliesAt, exactly-when, refused-same}
+use Rattle.memory.specs.Rows.{rowFor, heldWidth, queueWidth, Lists}
+use Rattle.memory.proofs.GridLaws.{list-room, count-at}
+use Rattle.dispatch.specs.declared.Stepped.{Stepped}
+use Rattle.dispatch.specs.State.{holding, padded, encode}
+use Rattle.dispatch.specs.Sound.{lengthsGood, sizesFit, soundOf}
+use Rattle.dispatch.specs.Methods.{answered, appliedOf}
+use Rattle.dispatch.proofs.FlatLaws.{lists-good}
+use Rattle.dispatch.proofs.EncodeLaws.{held-short, queue-short, held-count, view-encode}
+
+-- rows made of lists say their lengths
+lengths-of : (w n k : ℕ) (l : List ℕ) → Lists w n l → k ≤ n → lengthsGood w k l ≡ true
+lengths-of w n k l g h =
+    below-make k (λ i. ltb (getD l (i * w) 0) w) (λ i e.
+    let inside : i < n = omega arith in
+    lt-ltb (getD l (i * w) 0) w (omega (arith, count-at w n i l g inside, list-room w n i l g inside)))
+
+module _ (m : Model) (s : sound m ≡ true) where
+  -- the State of a sound Model is sound
+  sizes-fit : sizesFit (encode m) ≡ true
+  unfolding sizesFit encode
+  sizes-fit =
+      let n = sound-is m s .numbers in
+      let hs = padded taskLimit (map holding (m .tasks)) [] in
+      let held = lists-good heldWidth taskLimit hs (held-count m s) (held-short m s) in
+      let ready = lists-good queueWidth lastPriority (m .ready) (n .queues) (queue-short m s) in
+      rw (
+        lengths-of heldWidth taskLimit (length (m .tasks)) (flatMap (rowFor heldWidth) hs) held (n .count),
+        lengths-of queueWidth lastPriority lastPriority (flatMap (rowFor queueWidth) (m .ready)) ready (omega arith),
+        le-leb 1 (length (m .tasks)) (n .some),
+        le-leb (length (m .tasks)) taskLimit (n .count),
+        le-leb (length (m .ceilings)) objectLimit (n .objects),
+      )
+
+  encode-sound : soundOf (encode m) ≡ true
+  unfolding soundOf
+  encode-sound = rw (sizes-fit, view-encode m s, s)
+
+  -- so an event does what the rule does
+  pub applied-encode : (e : Event) → appliedOf (encode m) e ≡ record { answer = apply m e .answer; state = encode (apply m e .model) }
+  unfolding appliedOf answered
+  applied-encode e = rw (encode-sound, view-encode m s) (go (eqb (numberOf (apply m e .answer)) 0) refl)
+    where
+      go : (b : Bool) → eqb (numberOf (apply m e .answer)) 0 ≡ b →
+          _≡_ {A = Stepped} (record { answer = apply m e .answer; state = cond b (encode (apply m e .model)) (encode m) })
+          (record { answer = apply m e .answer; state = encode (apply m e .model) })
+      go true f = refl
+      go false f = ap {B = Stepped} (λ (v : Model). record { answer = apply m e .answer; state = encode v })
+          (sym (refused-same m e (λ d. clash (sym (ap (λ (a : Answer). eqb (numberOf a) 0) d) ∙ f))))
+
+-- a rule answers 1 to 9, or 0
+pub rule-never : (m : Model) (e : Event) → apply m e .answer ≡ Unsound → ⊥
+unfolding table appliesAt
+rule-never m e u = clash (sym (exactly-when m e 9 .0 (ap numberOf u) .applies))
