@@ -7,17 +7,18 @@ use native.Mathlib.Nat.{zero-mul, suc-mul, mul-comm, mul-sub, not-suc-le-zero, l
 use native.Mathlib.Omega.{arith}
 use borrow.Author.Tests.{ltb-true}
 use lib.Dec.{ltb}
-use lib.ListN.{length, take, drop, getD, replicate, length-append, length-replicate, length-drop, length-take, length-map}
+use lib.ListN.{length, take, drop, getD, replicate, length-append, length-drop, length-take}
 use lib.ListN.{take-append-drop, replicate-append-replicate, List·getD-eq-default}
 use lib.Seq.{take-at, drop-at, take-suc}
 use Rattle.rules.proofs.Choices.{compare}
 use Rattle.rules.proofs.SoundLaws.{below-at}
-use Rattle.memory.specs.Rows.{rows, inRow, rowFor, Tidy, lists, Lists}
+use Rattle.memory.specs.Rows.{rows, inRow, rowFor, lists, Lists}
 use Rattle.memory.proofs.RowLaws.{row-length, in-row, tidy-row}
 use Rattle.memory.proofs.GridLaws.{row-at, row-count, row-fits, cell-at, list-at, list-count}
 use Rattle.dispatch.specs.State.{padded}
 use Rattle.dispatch.specs.Sound.{lengthsGood}
-use Rattle.dispatch.proofs.ListLaws.{map-at, map-take, padded-at}
+use Rattle.words.proofs.ListLaws.{map-at, map-take}
+use Rattle.dispatch.proofs.ListLaws.{padded-at}
 
 -- every list leaves room in a row of width w
 abbrev pub Short : ℕ → List (List ℕ) → Type 0

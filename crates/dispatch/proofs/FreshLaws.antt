@@ -1,14 +1,12 @@
 -- Laws of the fresh start: its tests in their order, and that its slices mean a sound Model.
-use mathlib.Core.Path.{_≡_, refl, ap, _∙_, sym}
-use mathlib.Core.Bool.{Bool, true, false, _&&_}
+use mathlib.Core.Path.{_≡_, refl, ap, sym}
+use mathlib.Core.Bool.{true, false, _&&_}
 use mathlib.Core.List.{List, [], _∷_}
-use Prim.Native.Nat.{ℕ, suc, _+_, _≤_, _<_}
-use native.Mathlib.Numerals.{add-one}
+use Prim.Native.Nat.{ℕ, _≤_, _<_}
 use native.Mathlib.Omega.{arith}
 use borrow.Author.Tests.{le-leb, lt-leb}
 use lib.Dec.{leb}
-use lib.ListN.{length, drop, getD, drop-of-length-le}
-use lib.Seq.{drop-cons}
+use lib.ListN.{length}
 use Rattle.rules.specs.Limits.{taskLimit, objectLimit}
 use Rattle.rules.specs.Priorities.{inRange}
 use Rattle.rules.specs.Fresh.{countsGood, freshModel, refusedFresh, fresh}
@@ -19,23 +17,8 @@ use Rattle.rules.proofs.Soundness.{good-sound}
 use Rattle.rules.proofs.FreshLaws.{fresh-good, fresh-13, fresh-15, fresh-0}
 use Rattle.engine.specs.Fresh.{Startable}
 use Rattle.memory.specs.Memory.{Means, Valid}
-use Rattle.dispatch.specs.State.{encode}
 use Rattle.dispatch.specs.Methods.{beside, freshOf}
 use Rattle.dispatch.proofs.TestLaws.{and-false}
-
--- a test of every number of a list, from the front
-module _ (f : ℕ → Bool) (l : List ℕ) (i : ℕ) (e : allOf f l ≡ allOf f (drop i l)) where
-  pub all-next : i < length l → f (getD l i 0) ≡ true → allOf f l ≡ allOf f (drop (i + 1) l)
-  unfolding allOf
-  all-next h g = e ∙ rw (drop-cons l i 0 h, g, add-one)
-
-  pub all-fail : i < length l → f (getD l i 0) ≡ false → allOf f l ≡ false
-  unfolding allOf
-  all-fail h g = e ∙ rw (drop-cons l i 0 h, g)
-
-  pub all-end : length l ≤ i → allOf f l ≡ true
-  unfolding allOf
-  all-end h = e ∙ rw (drop-of-length-le l {i = i} h)
 
 -- slices that mean a fresh Model
 pub fresh-valid : (bs cs : List ℕ) {h ts hd ceilings qs : List ℕ} → Startable bs cs → Means h ts hd ceilings qs (freshModel bs cs) →

@@ -8,8 +8,8 @@ use native.Mathlib.Numerals.{add-one}
 use native.Mathlib.Omega.{arith}
 use borrow.Author.Tests.{leb-true, ltb-true}
 use lib.Dec.{leb, ltb}
-use lib.ListN.{length, take, drop, getD, set, replicate, length-take, length-drop, length-replicate, getD-replicate, length-map}
-use lib.Seq.{take-at, drop-at, take-suc, length-take-le}
+use lib.ListN.{length, take, getD, replicate, length-take, length-drop, length-replicate, length-map}
+use lib.Seq.{take-at, drop-at, length-take-le}
 use Rattle.rules.specs.Limits.{taskLimit, objectLimit, lastPriority}
 use Rattle.rules.specs.Model.{blank}
 use Rattle.rules.specs.declared.Runner.{Runner}
@@ -19,15 +19,16 @@ use Rattle.rules.specs.Fresh.{countsGood}
 use Rattle.rules.proofs.Choices.{and-left, and-right}
 use Rattle.rules.proofs.SoundLaws.{below-at}
 use Rattle.memory.specs.Rows.{rows, inRow, rowFor, lists, heldWidth, heldIn, queueWidth, queuesIn}
-use Rattle.memory.specs.Tasks.{taskWidth, blankTask, taskOf, placeOf, waitingOf, taskRow, tasksIn, Neat, Tasks, TaskBecame}
+use Rattle.memory.specs.Tasks.{blankTask, tasksIn, TaskBecame}
 use Rattle.memory.specs.Memory.{runnerOf, together, allRecords, Means}
-use Rattle.memory.proofs.GridLaws.{part, withPart, row-fits, row-at, list-at, list-count, cell-at}
+use Rattle.memory.proofs.GridLaws.{part, withPart, row-fits, row-at, list-count, cell-at}
 use Rattle.dispatch.specs.declared.State.{State}
 use Rattle.dispatch.specs.State.{level, view, padded}
 use Rattle.dispatch.specs.Sound.{lengthsGood, sizesFit}
 use Rattle.dispatch.specs.Loading.{codeOf, Shaped, TasksLoaded}
-use Rattle.dispatch.proofs.ListLaws.{padded-length, padded-front, padded-rest, over}
-use Rattle.dispatch.proofs.ListLaws.{over-step, over-blank, drop-replicate, take-replicate}
+use Rattle.words.proofs.ListLaws.{drop-replicate, take-replicate}
+use Rattle.words.proofs.CopyLaws.{over, over-step}
+use Rattle.dispatch.proofs.ListLaws.{padded-length, padded-front, padded-rest}
 use Rattle.dispatch.proofs.EncodeLaws.{together-append, together-length, together-take, together-blank}
 use Rattle.dispatch.proofs.FlatLaws.{Short, short-take, lists-next, short-padded, flat-append}
 use Rattle.dispatch.proofs.FlatLaws.{flat-padded, flat-length, lists-of, lists-good, lists-front, lengths-short}
@@ -109,30 +110,12 @@ module _ (w n : ℕ) (from : List ℕ) (fits : n * w ≤ length from) (good : le
         (rw (is, drop-replicate w (size - i * w) zero, add-one, suc-mul i w, rows-next, less)
         (sym (append-assoc front row (replicate (size - (i * w + w)) 0))))
 
--- the records over blank rows
-zero-rows : rows taskWidth taskLimit (replicate (taskLimit * taskWidth) 0) ≡ replicate taskLimit (replicate taskWidth 0)
-unfolding rows
-zero-rows = refl
-
-pub zero-tasks : tasksIn (replicate (taskLimit * taskWidth) 0) ≡ replicate taskLimit blankTask
-unfolding tasksIn taskOf placeOf waitingOf
-zero-tasks = ap (map taskOf) zero-rows
-
-pub zero-good : Tasks (replicate (taskLimit * taskWidth) 0)
-unfolding taskRow taskOf placeOf waitingOf
-zero-good = record {
-  size = refl;
-  rows = λ t h.
-      let blank : List ℕ = replicate taskWidth 0 in
-      let neat : Neat (replicate taskWidth 0) = record { laid = refl; base = omega arith; waiting = omega arith } in
-      rw (zero-rows, getD-replicate taskLimit t blank [] h) neat;
-}
-
+-- a record over the blank ones
 pub task-more : (ks : List Task) (ts ts' : List ℕ) (i : ℕ) (k : Task) → i < taskLimit → i < length ks →
     tasksIn ts ≡ over (replicate taskLimit blankTask) ks i → k ≡ getD ks i blankTask → TaskBecame ts ts' i k →
     tasksIn ts' ≡ over (replicate taskLimit blankTask) ks (i + 1)
 task-more ks ts ts' i k h g e f b =
-    b .same ∙ rw e (over-step (replicate taskLimit blankTask) ks i k blankTask (simp length-replicate h) g f)
+    b .same ∙ over-step blankTask (replicate taskLimit blankTask) ks (tasksIn ts) i e k (simp length-replicate h) g f
 
 -- who runs
 runner-back : (w : Runner) → runnerOf (codeOf w) ≡ w

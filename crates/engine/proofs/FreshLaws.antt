@@ -1,91 +1,24 @@
--- Laws of a fresh start: blank slices, newcomers, and the tasks that join one after the other.
-use mathlib.Core.Path.{_≡_, refl, ap, _∙_, sym, subst}
+-- Laws of a fresh start: newcomers, and the tasks that join one after the other.
+use mathlib.Core.Path.{_≡_, refl, ap, _∙_, sym}
 use mathlib.Core.List.{List, [], _∷_, _++_, map}
 use Prim.Native.Nat.{ℕ, zero, suc, _+_, _-_, _*_, _≤_, _<_}
-use native.Mathlib.Nat.{suc-mul, zero-mul}
 use native.Mathlib.Omega.{arith}
-use lib.ListN.{length, take, drop, getD, set, replicate, length-append, length-replicate, length-map, replicate-append-replicate}
-use lib.Seq.{take-at, drop-at, take-append-seam, drop-append-seam, take-length}
+use lib.ListN.{length, drop, getD, set, replicate, length-append, length-replicate}
+use lib.Seq.{take-at, drop-at, take-append-seam, drop-append-seam}
 use Rattle.rules.specs.Limits.{taskLimit, objectLimit, lastPriority}
 use Rattle.rules.specs.Model.{Model, TaskRecord, blank}
 use Rattle.rules.specs.Moves.{becomeReady}
 use Rattle.rules.specs.Fresh.{newTask, newTasks, unstarted, joinFrom}
 use Rattle.rules.proofs.FreshLaws.{Joined, join-core, join-one, joined-none}
-use Rattle.rules.specs.declared.Runner.the-variants.{Nobody}
-use Rattle.rules.specs.declared.Task.{Task}
-use Rattle.memory.specs.Rows.{rows, inRow, rowFor, Tidy, lists, Lists, queueWidth, queuesIn, Queues, heldWidth, heldIn, Held}
-use Rattle.memory.specs.Tasks.{taskWidth, placeOf, waitingOf, taskOf, taskRow, blankTask, tasksIn, Neat, Tasks}
-use Rattle.memory.specs.Memory.{nowCell, runningCell, tasksCell, objectsCell, headWidth, runnerOf, waitingIn, recordOf, together}
-use Rattle.memory.specs.Memory.{taskCount, allRecords, modelOf, Laid, Means}
+use Rattle.memory.specs.Rows.{rows, queueWidth, heldWidth}
+use Rattle.memory.specs.Tasks.{taskWidth, blankTask, tasksIn}
+use Rattle.memory.specs.Memory.{nowCell, runningCell, tasksCell, objectsCell, headWidth, runnerOf, waitingIn, together}
+use Rattle.memory.specs.Memory.{taskCount, allRecords, modelOf, Means}
 use Rattle.engine.specs.Fresh.{newcomer, Startable, Enrolled, JoinAll}
 use Rattle.engine.specs.Room.{Dispatches}
-use Rattle.memory.proofs.RowLaws.{in-row, tidy-row}
-use Rattle.memory.proofs.TaskLaws.{task-back}
+use Rattle.memory.proofs.BlankLaws.{blank-lists, blank-good, blank-tasks}
 use Rattle.memory.proofs.MemoryLaws.{then-means, means-by, count-is}
 use Rattle.engine.proofs.RoomLaws.{core-joins, core-dispatches}
-
-take-same : {A : Type 0} (n m : ℕ) (x : A) → take n (replicate (n + m) x) ≡ replicate n x
-take-same n m x =
-    rw (← replicate-append-replicate n m x) (take-at (replicate n x) (replicate m x) n (length-replicate n x))
-
-drop-same : {A : Type 0} (n m : ℕ) (x : A) → drop n (replicate (n + m) x) ≡ replicate m x
-drop-same n m x =
-    rw (← replicate-append-replicate n m x) (drop-at (replicate n x) (replicate m x) n (length-replicate n x))
-
--- the rows of zeros
-zero-rows : (w n : ℕ) → rows w n (replicate (n * w) 0) ≡ replicate n (replicate w 0)
-unfolding rows
-zero-rows w zero = refl
-zero-rows w (suc n) =
-    let e : suc n * w ≡ w + n * w = omega (arith, suc-mul n w) in
-    rw (e, take-same {A = ℕ} w (n * w) 0, drop-same {A = ℕ} w (n * w) 0) (ap (λ (v : List (List ℕ)). replicate w 0 ∷ v) (zero-rows w n))
-
-map-same : {A B : Type 0} (f : A → B) (n : ℕ) (x : A) → map f (replicate n x) ≡ replicate n (f x)
-map-same f zero x = refl
-map-same f (suc n) x = ap (λ (v : List _). f x ∷ v) (map-same f n x)
-
-same-at : {A : Type 0} (P : A → Type 0) (n i : ℕ) (x d : A) → P x → i < n → P (getD (replicate n x) i d)
-same-at P zero i x d p h = absurd (omega arith)
-same-at P (suc n) zero x d p h = p
-same-at P (suc n) (suc i) x d p h = same-at P n i x d p (omega arith)
-
-module _ (l : List ℕ) (w n : ℕ) (e : l ≡ replicate (n * w) 0) (h : 0 < w) where
-  zero-row : replicate w 0 ≡ rowFor w []
-  unfolding rowFor
-  zero-row = let k : w ≡ suc (w - 1) = omega arith in ap (λ (v : ℕ). replicate v 0) k
-
-  blank-lists : lists w n l ≡ replicate n []
-  unfolding lists
-  blank-lists = rw (e, zero-rows w n) (map-same inRow n (replicate w 0) ∙ ap (replicate n) (ap inRow zero-row ∙ in-row w []))
-
-  blank-good : Lists w n l
-  blank-good =
-      record {
-        size = rw e (length-replicate {A = ℕ} (n * w) 0);
-        rows = λ i g. rw (e, zero-rows w n) (same-at Tidy n i (replicate {A = ℕ} w 0) [] (rw zero-row (tidy-row w [] h)) g);
-      }
-
--- blank tasks
-zero-task : replicate taskWidth 0 ≡ taskRow blankTask
-unfolding taskRow
-zero-task = refl
-
-module _ (l : List ℕ) (e : l ≡ replicate (taskLimit * taskWidth) 0) where
-  pub blank-tasks : tasksIn l ≡ replicate taskLimit blankTask
-  unfolding tasksIn
-  blank-tasks =
-      let one : taskOf (replicate taskWidth 0) ≡ blankTask = ap taskOf zero-task ∙ task-back blankTask in
-      rw (e, zero-rows taskWidth taskLimit) (map-same taskOf taskLimit (replicate taskWidth 0) ∙ ap (replicate taskLimit) one)
-
-  pub blank-rows : Tasks l
-  blank-rows =
-      let one : taskOf (replicate taskWidth 0) ≡ blankTask = ap taskOf zero-task ∙ task-back blankTask in
-      let neat : Neat (replicate taskWidth 0) =
-      record { laid = zero-task ∙ ap taskRow (sym one); base = omega arith; waiting = omega arith } in
-      record {
-        size = rw e (length-replicate {A = ℕ} (taskLimit * taskWidth) 0);
-        rows = λ t g. rw (e, zero-rows taskWidth taskLimit) (same-at Neat taskLimit t (replicate taskWidth 0) [] neat g);
-      }
 
 -- newcomers, in a loop over the bases
 pub newcomer-at : (bs : List ℕ) (t : ℕ) → t < length bs → newcomer (getD bs t 0) ≡ getD (map newcomer bs) t blankTask

@@ -22,14 +22,15 @@ use Rattle.memory.specs.Tasks.{dueOf, bit, blankTask}
 use Rattle.dispatch.specs.State.{level, priority}
 use Rattle.dispatch.specs.Loading.{Shaped}
 use Rattle.dispatch.specs.declared.State.{State}
-use Rattle.dispatch.proofs.ListLaws.{map-at}
+use Rattle.words.proofs.ListLaws.{map-at}
 use Rattle.layout.specs.Sizes.{nobodyByte, taskSize, kindCell, baseCell, waitsCell, waitingCell, permitCell}
 use Rattle.layout.specs.Sizes.{tasksStart, ceilingsStart, heldStart, queuesStart}
-use Rattle.layout.specs.Decode.{tabulate, byteAt, wordAt, numberAt, runnerOf, placeOf, waitingOf, taskFrom, tasksFrom, cellsFrom}
+use Rattle.words.specs.Words.{tabulate, byteAt, wordAt, numberAt}
+use Rattle.layout.specs.Decode.{runnerOf, placeOf, waitingOf, taskFrom, tasksFrom, cellsFrom}
 use Rattle.layout.specs.Decode.{stateOfBytes}
 use Rattle.layout.specs.Encode.{lowBytes, runningByte, kindByte, waitsByte, waitingByte, taskTail, taskBytes, headTail, headBytes}
 use Rattle.layout.specs.Encode.{bytesOfState, numberValues, Fits}
-use Rattle.layout.proofs.TableLaws.{table-of}
+use Rattle.words.proofs.TableLaws.{tabulate-of}
 use Rattle.layout.proofs.PutLaws.{task-length}
 use Rattle.layout.proofs.WriteLaws.{head-length, upToCeilings, upToHeld, upToQueues, front-one, front-two, front-three}
 
@@ -56,7 +57,7 @@ module _ (p q : List ℕ) (n : ℕ) (e : length p ≡ n) where
   pub cells-behind : (l r : List ℕ) (m : ℕ) → q ≡ l ++ r → length l ≡ m → cellsFrom (p ++ q) n m ≡ l
   unfolding cellsFrom
   cells-behind l r m f g =
-      table-of l m (λ i. byteAt (p ++ q) (n + i)) 0 g
+      tabulate-of l m (λ i. byteAt (p ++ q) (n + i)) 0 g
       (λ i h. byte-behind i (n + i) refl ∙ (ap (λ (x : List ℕ). byteAt x i) f ∙ List·getD-append l r 0 i (omega arith)))
 
 -- the parts of a number, a runner, a task row
@@ -152,7 +153,7 @@ module _ (s : State) (r : List ℕ) (d : Shaped s) (g : Fits s) where
   tasks-back : tasksFrom whole ≡ s .tasks
   unfolding tasksFrom
   tasks-back =
-      table-of (s .tasks) taskLimit (λ t. taskFrom whole (tasksStart + taskSize * t)) blankTask (d .tasks)
+      tabulate-of (s .tasks) taskLimit (λ t. taskFrom whole (tasksStart + taskSize * t)) blankTask (d .tasks)
       (λ t h. ap (λ (l : List ℕ). taskFrom l (tasksStart + taskSize * t)) around-tasks ∙
       rows-back (s .tasks) (headBytes s) (map level (s .ceilings) ++ (s .held ++ (s .queues ++ r))) tasksStart t (head-length s) (g .due)
       (omega (arith, d .tasks)))
@@ -173,7 +174,7 @@ module _ (s : State) (r : List ℕ) (d : Shaped s) (g : Fits s) where
       let rest = s .held ++ (s .queues ++ r) in
       let levels = map level (s .ceilings) in
       let size = length-map (s .ceilings) level in
-      table-of (s .ceilings) objectLimit (λ o. priority (byteAt whole (ceilingsStart + o))) (priority 0) (d .ceilings)
+      tabulate-of (s .ceilings) objectLimit (λ o. priority (byteAt whole (ceilingsStart + o))) (priority 0) (d .ceilings)
       (λ o h. ap priority (ap (λ (l : List ℕ). byteAt l (ceilingsStart + o)) around-ceilings ∙
       (byte-behind (upToCeilings s) (levels ++ rest) ceilingsStart (front-one s d) o (ceilingsStart + o) refl ∙
       (List·getD-append levels rest 0 o (omega (arith, size, d .ceilings)) ∙

@@ -16,11 +16,11 @@ use Rattle.board.specs.declared.NextAnswer.{NextAnswer}
 use Rattle.board.proofs.NextLaws.{next-is}
 use Rattle.board.proofs.ScanLaws.{first-many, first-few, finish-many}
 use Rattle.layout.specs.Sizes.{nobodyByte, readyKind, delayedKind, suspendedKind, endedKind}
-use Rattle.layout.specs.Decode.{tabulate}
+use Rattle.words.specs.Words.{tabulate}
 use Rattle.layout.specs.Boards.{rowSize, kindFrom, kindNumber, rowFrom, rowsFrom, rowCount, rowBytes}
 use Rattle.layout.specs.Boards.{rowByte, packedTold, nextNumber}
-use Rattle.layout.proofs.TableLaws.{table-length, table-take}
-use Rattle.layout.proofs.PutLaws.{sets-append}
+use Rattle.words.proofs.TableLaws.{length-tabulate, tabulate-take}
+use Rattle.words.proofs.CopyLaws.{sets-append}
 
 -- a kind that is none of the other four
 pub running-kind : (k : ℕ) → (k ≡ readyKind → ⊥) → (k ≡ delayedKind → ⊥) → (k ≡ suspendedKind → ⊥) → (k ≡ endedKind → ⊥) →
@@ -82,9 +82,9 @@ next-all f n =
     let rows = tabulate n f in
     let best = bestOf rows (lookedOf (length rows)) in
     compare n rowLimit
-    (λ h. first-few (tabulate rowLimit f) n h ∙ ap nextOf (table-take n rowLimit f h))
+    (λ h. first-few (tabulate rowLimit f) n h ∙ ap nextOf (tabulate-take n rowLimit f h))
     (λ h. first-many (tabulate rowLimit f) n h ∙
-    sym (ap toldOf (finish-many (length rows) best (omega (arith, table-length n f)))))
+    sym (ap toldOf (finish-many (length rows) best (omega (arith, length-tabulate n f)))))
 
 -- the number of an answer and the row that it names, packed
 module _ (b : List ℕ) (rows : List Row) (a : NextAnswer) (number byte : ℕ) (e : rows ≡ rowsFrom b rowLimit)

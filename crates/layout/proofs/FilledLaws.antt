@@ -29,8 +29,8 @@ use Rattle.board.proofs.SourceLaws.{tasks-cut, tasks-all}
 use Rattle.layout.specs.Sizes.{stateSize}
 use Rattle.layout.specs.Decode.{tasksFrom, cellsFrom, stateOfBytes}
 use Rattle.layout.specs.Boards.{rowSize, rowCount, rowBytes, lentOf, fillAnswer, filledBytes}
-use Rattle.layout.proofs.TableLaws.{table-length}
-use Rattle.layout.proofs.PutLaws.{sets-front}
+use Rattle.words.proofs.TableLaws.{length-tabulate}
+use Rattle.words.proofs.CopyLaws.{sets-over}
 use Rattle.layout.proofs.EventLaws.{short-answer, own-answer}
 use Rattle.layout.proofs.BoardLaws.{rows-size}
 
@@ -42,7 +42,7 @@ blankRows = replicate rowLimit (record { kind = Ended; priority = priority 0; po
 decoded-shaped : (b : List ℕ) → Shaped (stateOfBytes b)
 unfolding stateOfBytes tasksFrom cellsFrom
 decoded-shaped b =
-    record { tasks = table-length _ _; held = table-length _ _; ceilings = table-length _ _; queues = table-length _ _ }
+    record { tasks = length-tabulate _ _; held = length-tabulate _ _; ceilings = length-tabulate _ _; queues = length-tabulate _ _ }
 
 lent-few : (n : ℕ) → lentOf n ≤ rowLimit
 lent-few n = both-ways (λ x. x ≤ rowLimit) (ltb rowLimit n) rowLimit n (λ e. omega arith) (λ e. ltb-false rowLimit n e)
@@ -156,7 +156,7 @@ module _ (b board : List ℕ) (room : stateSize ≤ length b) (s : State) (e : s
         let same : take (s .«task_count») rows ≡ rowsOf (view s) = ap (λ (m : ℕ). take m rows) (sym (told-count .0)) ∙ first-rows in
         let text = flatMap rowBytes (rowsOf (view s)) in
         let long : length text ≡ rowSize * c = rows-size (rowsOf (view s)) ∙ ap (λ (m : ℕ). rowSize * m) (rows-length (view s) c) in
-        let front = sets-front board text (rowSize * c) long (omega (arith, good .1)) in
+        let front = sets-over board text (rowSize * c) long (omega (arith, good .1)) in
         let written = cond-true (eqb (fillAnswer b board) 0) _ board (eq-eqb _ 0 zero-is) in
         let put = f ∙ ap (λ (l : List Row). sets board 0 (flatMap rowBytes l)) same in
         (sym zero-is, put ∙ (front ∙ (ap (filledWith board) e ∙ sym written)))

@@ -3,14 +3,14 @@
 use mathlib.Core.Path.{_≡_, refl, ap, _∙_}
 use mathlib.Core.Bool.{Bool, true, false, cond}
 use mathlib.Core.List.{List, [], _++_, map}
-use Prim.Native.Nat.{ℕ, _+_, _*_, _≤_, _<_}
+use Prim.Native.Nat.{ℕ, _*_, _≤_, _<_}
 use native.Mathlib.Omega.{arith}
 use borrow.Author.Tests.{le-ltb}
 use lib.Dec.{eqb, ltb}
 use lib.ListN.{length, getD, drop, length-map, List·getD-eq-default, List·getD-map}
 use Rattle.rules.specs.Limits.{taskLimit, objectLimit}
 use Rattle.rules.specs.Answers.{numberOf}
-use Rattle.rules.specs.Model.{Model, TaskRecord, blank, taskAt}
+use Rattle.rules.specs.Model.{Model, blank, taskAt}
 use Rattle.rules.specs.Sound.{sound}
 use Rattle.rules.specs.Events.{apply}
 use Rattle.rules.specs.Fresh.{fresh}
@@ -21,7 +21,7 @@ use Rattle.rules.specs.Histories.{delayFits}
 use Rattle.rules.specs.Clauses.{Numbers}
 use Rattle.rules.proofs.Choices.{compare, cond-false, and-right}
 use Rattle.rules.proofs.SoundLaws.{sound-is}
-use Rattle.rules.proofs.Soundness.{sound-kept, ready-room, held-room-of}
+use Rattle.rules.proofs.Soundness.{sound-kept}
 use Rattle.rules.proofs.FreshLaws.{fresh-sound}
 use Rattle.memory.specs.Rows.{heldWidth, queueWidth}
 use Rattle.memory.specs.Tasks.{dueOf, blankTask}
@@ -32,7 +32,8 @@ use Rattle.dispatch.specs.Methods.{answered, unsound, appliedOf, freshOf}
 use Rattle.dispatch.specs.declared.State.{State}
 use Rattle.dispatch.specs.declared.Stepped.{Stepped}
 use Rattle.dispatch.proofs.ListLaws.{padded-length, padded-at}
-use Rattle.dispatch.proofs.FlatLaws.{Short, flat-length}
+use Rattle.dispatch.proofs.FlatLaws.{flat-length}
+use Rattle.dispatch.proofs.EncodeLaws.{held-short, queue-short, held-count}
 use Rattle.layout.specs.Sizes.{stateSize}
 use Rattle.layout.specs.Decode.{stateOfBytes}
 use Rattle.layout.specs.Encode.{bytesOfState, withState, numberValues, Fits}
@@ -53,30 +54,18 @@ module _ (m : Model) (s : sound m ≡ true) where
   sizes : Numbers m
   sizes = sound-is m s .numbers
 
-  held-short : Short heldWidth (padded taskLimit (map holding (m .tasks)) [])
-  held-short t =
-      rw (padded-at taskLimit (map holding (m .tasks)) [] t, List·getD-map holding (m .tasks) t blank)
-      (compare (length (m .tasks)) t
-      (λ g. omega (arith, ap (λ (k : TaskRecord). length (k .held)) (List·getD-eq-default (m .tasks) blank {n = t} g)))
-      (λ g. omega (arith, held-room-of m s t g, sizes .objects)))
-
-  queue-short : Short queueWidth (m .ready)
-  queue-short p = omega (arith, ready-room m s p, sizes .count)
-
-  held-count : length (padded taskLimit (map holding (m .tasks)) []) ≡ taskLimit
-  held-count = padded-length taskLimit (map holding (m .tasks)) [] (omega (arith, length-map (m .tasks) holding, sizes .count))
-
   shaped : Shaped (encode m)
   unfolding encode
   shaped =
       record {
         tasks = padded-length taskLimit (map taskFor (m .tasks)) blankTask (omega (arith, length-map (m .tasks) taskFor, sizes .count));
         held =
-            flat-length heldWidth (padded taskLimit (map holding (m .tasks)) []) held-short ∙ ap (λ (n : ℕ). n * heldWidth) held-count;
+            flat-length heldWidth (padded taskLimit (map holding (m .tasks)) []) (held-short m s) ∙
+            ap (λ (n : ℕ). n * heldWidth) (held-count m s);
         ceilings =
             padded-length objectLimit (map priority (m .ceilings)) (priority 0)
             (omega (arith, length-map (m .ceilings) priority, sizes .objects));
-        queues = flat-length queueWidth (m .ready) queue-short ∙ ap (λ (n : ℕ). n * queueWidth) (sizes .queues);
+        queues = flat-length queueWidth (m .ready) (queue-short m s) ∙ ap (λ (n : ℕ). n * queueWidth) (sizes .queues);
       }
 
   record-at : (t : ℕ) → getD (padded taskLimit (map taskFor (m .tasks)) blankTask) t blankTask ≡ taskFor (taskAt m t)

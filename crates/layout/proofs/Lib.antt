@@ -1,4 +1,3 @@
-pub mod TableLaws
 pub mod ReadLaws
 pub mod PutLaws
 pub mod WriteLaws

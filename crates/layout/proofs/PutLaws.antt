@@ -2,45 +2,19 @@
 use mathlib.Core.Path.{_≡_, refl, ap, sym, _∙_}
 use mathlib.Core.List.{List, [], _∷_, _++_, flatMap}
 use Prim.Native.Nat.{ℕ, zero, suc, _+_, _-_, _*_, _/_, _%_, _≤_, _<_}
-use native.Mathlib.Nat.{add-zero}
 use native.Mathlib.Omega.{arith}
 use lib.ListN.{length, getD, set, drop, drop-of-length-le, length-append}
-use lib.Seq.{sets, sets-eq, drop-cons}
+use lib.Seq.{sets, drop-cons}
+use Rattle.words.proofs.CopyLaws.{sets-append}
 use Rattle.rules.specs.declared.Task.{Task}
 use Rattle.layout.specs.Sizes.{taskSize, tasksStart}
 use Rattle.memory.specs.Tasks.{dueOf, bit}
 use Rattle.dispatch.specs.declared.State.{State}
 use Rattle.layout.specs.Encode.{lowBytes, runningByte, kindByte, waitsByte, waitingByte, taskTail, taskBytes, headTail, headBytes}
 
--- stores in two runs
-pub sets-append : (l : List ℕ) (i : ℕ) (xs ys : List ℕ) → sets l i (xs ++ ys) ≡ sets (sets l i xs) (i + length xs) ys
-sets-append l i [] ys = ap (λ (k : ℕ). sets l k ys) (sym (add-zero i))
-sets-append l i (x ∷ xs) ys =
-    let e : suc i + length xs ≡ i + suc (length xs) = omega arith in
-    sets-append (set l i x) (suc i) xs ys ∙ ap (λ (k : ℕ). sets (sets (set l i x) (suc i) xs) k ys) e
-
 pub put-behind : (l l' l'' xs ys : List ℕ) (i j : ℕ) → l' ≡ sets l i xs → l'' ≡ sets l' j ys → j ≡ i + length xs → l'' ≡ sets l i (xs ++ ys)
 put-behind l l' l'' xs ys i j e f g =
     f ∙ (ap (λ (k : List ℕ). sets k j ys) e ∙ (ap (λ (k : ℕ). sets (sets l i xs) k ys) g ∙ sym (sets-append l i xs ys)))
-
--- what stands in front after bytes were put from 0 on
-pub sets-front : (l xs : List ℕ) (n : ℕ) → length xs ≡ n → n ≤ length l → sets l 0 xs ≡ xs ++ drop n l
-sets-front l xs n e h =
-    let same : 0 + length xs ≡ n = omega arith in
-    sets-eq xs l 0 (omega arith) ∙ ap (λ (k : ℕ). xs ++ drop k l) same
-
-module _ (before text : List ℕ) (at : ℕ) where
-  -- the next byte is stored at j
-  pub copy-turn : (out : List ℕ) (i j x i' j' : ℕ) → i < length text → x ≡ getD text i 0 → i' ≡ suc i → j' ≡ suc j →
-      sets before at text ≡ sets out j (drop i text) → sets before at text ≡ sets (set out j x) j' (drop i' text)
-  copy-turn out i j x i' j' h e f g k =
-      k ∙ (ap (λ (l : List ℕ). sets out j l) (drop-cons text i 0 h) ∙
-      (ap (λ (y : ℕ). sets (set out j y) (suc j) (drop (suc i) text)) (sym e) ∙
-      (ap (λ (n : ℕ). sets (set out j x) n (drop (suc i) text)) (sym g) ∙
-      ap (λ (n : ℕ). sets (set out j x) j' (drop n text)) (sym f))))
-
-  pub copy-end : (out : List ℕ) (i j : ℕ) → length text ≤ i → sets before at text ≡ sets out j (drop i text) → out ≡ sets before at text
-  copy-end out i j h e = sym (e ∙ ap (λ (l : List ℕ). sets out j l) (drop-of-length-le text {i = i} h))
 
 -- the bytes of a number
 low-more : (k n m : ℕ) → m ≡ suc k → lowBytes m n ≡ n % 256 ∷ lowBytes k (n / 256)

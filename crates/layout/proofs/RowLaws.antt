@@ -19,7 +19,7 @@ use Rattle.board.proofs.FillLaws.{rows-length}
 use Rattle.layout.specs.Decode.{stateOfBytes}
 use Rattle.layout.specs.Boards.{rowSize, kindFrom, kindNumber, rowFrom, rowsFrom, rowCount, rowBytes, fillAnswer, filledBytes}
 use Rattle.layout.specs.Boards.{packedTold, nextNumber}
-use Rattle.layout.proofs.TableLaws.{table-of}
+use Rattle.words.proofs.TableLaws.{tabulate-of}
 use Rattle.layout.proofs.BackLaws.{byte-behind}
 use Rattle.layout.proofs.BoardLaws.{row-length, rows-size}
 
@@ -56,7 +56,7 @@ rows-here (x ∷ rs) p r n (suc i) e h =
 pub rows-back : (rs : List Row) (r : List ℕ) (n : ℕ) → length rs ≡ n → rowsFrom (flatMap rowBytes rs ++ r) n ≡ rs
 unfolding rowsFrom
 rows-back rs r n e =
-    table-of rs n (λ i. rowFrom (flatMap rowBytes rs ++ r) (rowSize * i)) noRow e
+    tabulate-of rs n (λ i. rowFrom (flatMap rowBytes rs ++ r) (rowSize * i)) noRow e
     (λ i h. let at : rowSize * i ≡ 0 + rowSize * i = omega arith in
     ap (rowFrom (flatMap rowBytes rs ++ r)) at ∙ rows-here rs [] r 0 i refl (omega arith))
 

@@ -1,7 +1,7 @@
 -- Laws of a whole state, written part by part.
 use mathlib.Core.Path.{_≡_, ap, sym, _∙_}
 use mathlib.Core.List.{List, _++_, append-assoc, map, flatMap}
-use Prim.Native.Nat.{ℕ, _+_, _*_, _≤_, _<_}
+use Prim.Native.Nat.{ℕ, _*_, _≤_, _<_}
 use native.Mathlib.Omega.{arith}
 use borrow.Author.Tests.{lt-ltb, le-ltb}
 use lib.Dec.{ltb}
@@ -14,7 +14,8 @@ use Rattle.dispatch.specs.Loading.{Shaped}
 use Rattle.dispatch.specs.declared.State.{State}
 use Rattle.layout.specs.Sizes.{taskSize, tasksStart, ceilingsStart, heldStart, queuesStart, stateSize}
 use Rattle.layout.specs.Encode.{lowBytes, headTail, headBytes, taskBytes, bytesOfState, withState}
-use Rattle.layout.proofs.PutLaws.{put-behind, sets-front, low-length, tasks-length}
+use Rattle.words.proofs.CopyLaws.{sets-over}
+use Rattle.layout.proofs.PutLaws.{put-behind, low-length, tasks-length}
 
 pub head-length : (s : State) → length (headBytes s) ≡ tasksStart
 unfolding headBytes headTail
@@ -71,7 +72,7 @@ module _ (s : State) (d : Shaped s) where
         let two = put-behind b b2 b3 (upToCeilings s) (map level (s .ceilings)) 0 ceilingsStart one there (omega (arith, front-one)) in
         let three = put-behind b b3 b4 (upToHeld s) (s .held) 0 heldStart two held (omega (arith, front-two)) in
         let four = put-behind b b4 b5 (upToQueues s) (s .queues) 0 queuesStart three queues (omega (arith, front-three)) in
-        four ∙ (ap (λ (l : List ℕ). sets b 0 l) same-bytes ∙ (sets-front b (bytesOfState s) stateSize state-length room ∙
+        four ∙ (ap (λ (l : List ℕ). sets b 0 l) same-bytes ∙ (sets-over b (bytesOfState s) stateSize state-length room ∙
         sym (cond-false (ltb (length b) stateSize) b (bytesOfState s ++ drop stateSize b) (le-ltb (length b) stateSize room))))
 
 -- too few bytes stay as they are

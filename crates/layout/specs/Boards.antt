@@ -12,7 +12,8 @@ use Rattle.board.specs.declared.PlaceKind.{PlaceKind}
 use Rattle.board.specs.declared.PlaceKind.the-variants.{Running, Ready, Delayed, Suspended, Ended}
 use Rattle.board.specs.declared.Row.{Row}
 use Rattle.layout.specs.Sizes.{nobodyByte, runningKind, readyKind, delayedKind, suspendedKind, endedKind}
-use Rattle.layout.specs.Decode.{tabulate, byteAt, stateOfBytes}
+use Rattle.words.specs.Words.{tabulate, byteAt}
+use Rattle.layout.specs.Decode.{stateOfBytes}
 use Rattle.layout.specs.Events.{unlessShort}
 
 abbrev pub rowSize : ℕ

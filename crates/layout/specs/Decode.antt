@@ -1,9 +1,9 @@
 -- The state that bytes stand for. Any bytes stand for one; what lies past the last byte reads as 0.
 use mathlib.Core.Bool.{cond, not}
-use mathlib.Core.List.{List, [], _∷_}
-use Prim.Native.Nat.{ℕ, zero, suc, _+_, _*_}
+use mathlib.Core.List.{List}
+use Prim.Native.Nat.{ℕ, _+_, _*_}
 use lib.Dec.{eqb}
-use lib.ListN.{getD}
+use Rattle.words.specs.Words.{byteAt, numberAt, tabulate}
 use Rattle.rules.specs.Limits.{taskLimit, objectLimit, lastPriority}
 use Rattle.rules.specs.declared.Place.{Place}
 use Rattle.rules.specs.declared.Place.the-variants.{Running, Ready, Delayed, Suspended, Ended}
@@ -19,21 +19,6 @@ use Rattle.layout.specs.Sizes.{runningAt, taskCountAt, objectCountAt, no
 use Rattle.layout.specs.Sizes.{kindCell, baseCell, waitsCell, waitingCell, permitCell}
 use Rattle.layout.specs.Sizes.{readyKind, delayedKind, suspendedKind, endedKind}
 use Rattle.layout.specs.Sizes.{tasksStart, ceilingsStart, heldStart, queuesStart}
-
--- n entries, by their numbers
-unfoldable pub tabulate : {A : Type 0} → ℕ → (ℕ → A) → List A
-tabulate zero f = []
-tabulate (suc n) f = f 0 ∷ tabulate n (λ i. f (suc i))
-
-abbrev pub byteAt : List ℕ → ℕ → ℕ
-byteAt s i = getD s i 0
-
--- a number of eight bytes, the lowest first
-unfoldable pub wordAt : List ℕ → ℕ → ℕ
-wordAt s i = byteAt s i + 256 * byteAt s (i + 1)
-
-unfoldable pub numberAt : List ℕ → ℕ → ℕ
-numberAt s i = wordAt s i + 65536 * (wordAt s (i + 2) + 65536 * (wordAt s (i + 4) + 65536 * wordAt s (i + 6)))
 
 -- who runs; 255 is nobody
 unfoldable pub runnerOf : ℕ → Runner

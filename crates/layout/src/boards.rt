@@ -7,7 +7,6 @@ ghost use lib.Seq.{sets};
 ghost use Rattle.board.specs.Rows.{rowLimit, toldOf};
 ghost use Rattle.layout.specs.Boards.{rowSize, kindFrom, kindNumber, rowFrom, rowsFrom, rowBytes, fillAnswer, filledBytes};
 ghost use Rattle.layout.specs.Boards.{lentOf, rowByte, nextNumber};
-use crate::decode::byte_at;
 use crate::decode::read;
 use crate::encode::put;
 use crate::sizes::DELAYED;
@@ -23,6 +22,7 @@ use board::ROW_LIMIT;
 use board::Row;
 use rules::Answer;
 use rules::Priority;
+use words::byte_at;
 
 const ROW_SIZE: usize = 3;
 

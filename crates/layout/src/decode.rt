@@ -5,7 +5,8 @@ ghost use lib.ListN.{length};
 ghost use Rattle.dispatch.specs.State.{priority};
 ghost use Rattle.layout.specs.Sizes.{permitCell, ceilingsStart, stateSize};
 ghost use Rattle.rules.specs.Limits.{objectLimit};
-ghost use Rattle.layout.specs.Decode.{tabulate, byteAt, wordAt, numberAt, runnerOf, placeOf, waitingOf, taskFrom, tasksFrom};
+ghost use Rattle.words.specs.Words.{byteAt, tabulate};
+ghost use Rattle.layout.specs.Decode.{runnerOf, placeOf, waitingOf, taskFrom, tasksFrom};
 ghost use Rattle.layout.specs.Decode.{cellsFrom, stateOfBytes};
 use crate::sizes::BASE;
 use crate::sizes::CEILINGS_START;
@@ -35,41 +36,8 @@ use rules::Priority;
 use rules::Runner;
 use rules::Task;
 use rules::WaitingBase;
-
-// The byte at i, or 0 past the end.
-pub fn byte_at(s: &[u8], i: usize) -> u8
-    ensures { λ r. ⌜ r ≡ byteAt (now (s .entry)) i ⌝ }
-{
-    if i < s.len() {
-        return s[i];
-    }
-    0
-}
-
-fn wide_at(s: &[u8], i: usize) -> u64
-    ensures { λ r. ⌜ (r ≡ byteAt (now (s .entry)) i) × (r < 256) ⌝ }
-{
-    byte_at(s, i) as u64
-}
-
-fn word_at(s: &[u8], i: usize) -> u64
-    requires { ⌜ i < stateSize ⌝ }
-    ensures { λ r. ⌜ (r ≡ wordAt (now (s .entry)) i) × (r < 65536) ⌝ }
-{
-    wide_at(s, i) + 256 * wide_at(s, i + 1)
-}
-
-// The number of eight bytes at i.
-fn number_at(s: &[u8], i: usize) -> u64
-    requires { ⌜ i + 6 < stateSize ⌝ }
-    ensures { λ r. ⌜ r ≡ numberAt (now (s .entry)) i ⌝ }
-{
-    let first = word_at(s, i);
-    let second = word_at(s, i + 2);
-    let third = word_at(s, i + 4);
-    let last = word_at(s, i + 6);
-    first + 65536 * (second + 65536 * (third + 65536 * last))
-}
+use words::byte_at;
+use words::number_at;
 
 fn runner_of(b: u8) -> Runner
     ensures { λ r. ⌜ r ≡ runnerOf b ⌝ }

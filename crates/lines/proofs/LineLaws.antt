@@ -7,8 +7,9 @@ use native.Mathlib.Omega.{arith}
 use native.Mathlib.Nat.{add-zero, not-suc-le-zero, pow-succ'}
 use borrow.Author.Tests.{lt-ltb, le-ltb, ltb-true, ltb-false, leb-true, leb-false, lt-leb, le-leb, eq-eqb, ne-eqb}
 use lib.Dec.{leb, ltb}
-use lib.ListN.{length, getD, set, drop, length-append, length-drop}
+use lib.ListN.{length, getD, drop, length-append, length-drop}
 use lib.Seq.{sets, length-sets, sets-eq, drop-cons}
+use Rattle.words.proofs.CopyLaws.{sets-append}
 use Rattle.format.proofs.TestLaws.{by-test, and-no, and-yes}
 use Rattle.rules.proofs.Choices.{split}
 use Rattle.trace.specs.Limits.{pairSize, nobodyByte}
@@ -17,13 +18,6 @@ use Rattle.lines.specs.Lines.{passedWord, endWord, refusedWord, placeTex
 use Rattle.lines.specs.Lines.{roomFor, linesBuffer, linesSize, Copied}
 use Rattle.trace.specs.Answers.{numberOf, taskOf, positionOf}
 use Rattle.trace.specs.declared.RunAnswer.{RunAnswer}
-
--- stores in two runs
-pub sets-append : (l : List ℕ) (i : ℕ) (xs ys : List ℕ) → sets l i (xs ++ ys) ≡ sets (sets l i xs) (i + length xs) ys
-sets-append l i [] ys = ap (λ (k : ℕ). sets l k ys) (sym (add-zero i))
-sets-append l i (x ∷ xs) ys =
-    let e : suc i + length xs ≡ i + suc (length xs) = omega arith in
-    sets-append (set l i x) (suc i) xs ys ∙ ap (λ (k : ℕ). sets (sets (set l i x) (suc i) xs) k ys) e
 
 module _ {b : List ℕ} {at : ℕ} {s : List ℕ} {b' : List ℕ} {e : ℕ} where
   -- a text behind a text

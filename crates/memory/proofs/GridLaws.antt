@@ -11,6 +11,7 @@ use lib.Dec.{eqb}
 use lib.ListN.{length, take, drop, getD, set, length-take, length-drop, length-set, List·getD-map, length-map}
 use lib.Seq.{take-at, drop-at, take-add, drop-drop, length-take-le, getD-set-same, getD-set-other, getD-take, getD-drop}
 use lib.Seq.{set-getD, set-set}
+use Rattle.words.proofs.ListLaws.{map-set}
 use Rattle.rules.specs.Limits.{taskLimit, objectLimit, lastPriority}
 use Rattle.rules.specs.Lists.{without}
 use Rattle.memory.specs.Rows.{byteValues, rows, inRow, rowFor, Tidy, Open, lists, Lists, Became, HasQueue}
@@ -47,11 +48,6 @@ row-put w (suc n) (suc i) l r h g k =
     rw (e, take-at (take w l) rest w b, drop-at (take w l) rest w b)
     (ap (λ (x : List (List ℕ)). take w l ∷ x) (row-put w n i (drop w l) r (le-of-suc-le-suc h) m k))
 
-pub map-set : {A B : Type 0} (f : A → B) (l : List A) (i : ℕ) (x : A) → map f (set l i x) ≡ set (map f l) i (f x)
-map-set f [] i x = refl
-map-set f (y ∷ l) zero x = refl
-map-set f (y ∷ l) (suc i) x = ap (λ (v : List _). f y ∷ v) (map-set f l i x)
-
 pub list-at : (w n i : ℕ) (l : List ℕ) → getD (lists w n l) i [] ≡ inRow (getD (rows w n l) i [])
 unfolding lists inRow
 list-at w n i l = List·getD-map inRow (rows w n l) i []
@@ -71,12 +67,6 @@ set-all P n i l x d k h px j g = go (eqb j i) refl
         let at : i < length l = omega (arith, eqb-true j i e) in
         subst P (sym (f ∙ getD-set-same l i x d at)) px
     go false e = subst P (sym (getD-set-other l i j x d (eqb-false j i e))) (h j g)
-
--- an element that is there does not depend on the default
-pub getD-any : {A : Type 0} (l : List A) (i : ℕ) (d e : A) → i < length l → getD l i d ≡ getD l i e
-getD-any [] i d e h = absurd (not-suc-le-zero h)
-getD-any (x ∷ xs) zero d e h = refl
-getD-any (x ∷ xs) (suc i) d e h = getD-any xs i d e (le-of-suc-le-suc h)
 
 -- row i ends within n rows
 pub row-fits : (i n w : ℕ) → i < n → i * w + w ≤ n * w

@@ -1,7 +1,7 @@
 -- Laws of the tasks' records in their rows.
 use mathlib.Core.Path.{_≡_, refl, ap, _∙_, sym}
 use mathlib.Core.Bool.{Bool, true, false}
-use mathlib.Core.List.{List, [], _∷_, map}
+use mathlib.Core.List.{List, [], map}
 use Prim.Native.Nat.{ℕ, zero, suc, _+_, _-_, _*_, _≤_, _<_}
 use native.Mathlib.Omega.{arith}
 use borrow.Author.Tests.{ne-eqb}
@@ -20,7 +20,8 @@ use Rattle.memory.specs.Tasks.{taskWidth, kindCell, dueCell, baseCell, w
 use Rattle.memory.specs.Tasks.{runningKind, readyKind, delayedKind, suspendedKind}
 use Rattle.memory.specs.Tasks.{kindOf, dueOf, placeOf, waitingCode, waitingOf, bit, taskOf, taskRow, blankTask}
 use Rattle.memory.specs.Tasks.{tasksIn, taskIn, Neat, Tasks, TaskBecame, placed, based, waited, permitted}
-use Rattle.memory.proofs.GridLaws.{row-count, map-set, set-all, getD-any, cell-at, Written, unwritten, store}
+use Rattle.words.proofs.ListLaws.{getD-any, map-set}
+use Rattle.memory.proofs.GridLaws.{row-count, set-all, cell-at, Written, unwritten, store}
 
 -- what is written is what is read
 place-back : (x : Place) → placeOf (kindOf x) (dueOf x) ≡ x

@@ -1,11 +1,9 @@
 // The events of a run, from their bytes.
 ghost use mathlib.Core.Path.{_≡_};
 ghost use mathlib.Core.Bool.{_&&_};
-ghost use Prim.Native.Nat.{_+_, _<_};
+ghost use Prim.Native.Nat.{_<_};
 ghost use lib.Dec.{eqb};
-ghost use lib.ListN.{length};
 ghost use Rattle.rules.specs.Lists.{below};
-ghost use Rattle.words.specs.Words.{wordAt};
 ghost use Rattle.trace.specs.Inputs.{ifUnused, decode, valueAt, decodedAt, eventCount, isGood, recordGood};
 ghost use Rattle.trace.specs.Inputs.{eventsGood, inputIn, inputAt};
 use trace::Decoded;
@@ -16,6 +14,7 @@ use trace::sizes::LARGEST_EVENTS;
 use trace::sizes::RELEASE;
 use trace::sizes::SET;
 use trace::sizes::STEP;
+use words::word_in;
 
 fn if_unused(zeros: bool, x: Input) -> Decoded
     ensures { λ r. ⌜ r ≡ ifUnused zeros x ⌝ }
@@ -47,27 +46,14 @@ fn decode(kind: u8, a: u8, value: u64) -> Decoded
     }
 }
 
-fn wide(x: u8) -> u64
-    ensures { λ r. ⌜ (r ≡ x) × (r < 256) ⌝ }
-{
-    x as u64
-}
-
-fn word(s: &[u8], at: usize) -> u64
-    requires { ⌜ at + 1 < length (now s) ⌝ }
-    ensures { λ r. ⌜ (r ≡ wordAt (now (s .entry)) at) × (r < 65536) ⌝ }
-{
-    wide(s[at]) + 256 * wide(s[at + 1])
-}
-
 fn value_at(s: &[u8], i: usize) -> u64
     requires { ⌜ i < eventCount (now s) ⌝ }
     ensures { λ r. ⌜ r ≡ valueAt (now (s .entry)) i ⌝ }
 {
     let at = EVENT_SIZE * i;
-    let low = word(s, at + 2);
-    let middle = word(s, at + 4);
-    let high = word(s, at + 6);
+    let low = word_in(s, at + 2) as u64;
+    let middle = word_in(s, at + 4) as u64;
+    let high = word_in(s, at + 6) as u64;
     low + 65536 * (middle + 65536 * high)
 }
 

@@ -1,2 +1,4 @@
 pub mod TableLaws
+pub mod ListLaws
 pub mod CopyLaws
+pub mod NumberLaws

@@ -1,9 +1,11 @@
 -- Laws of tabulated lists.
-use mathlib.Core.Path.{_≡_, refl, ap}
+use mathlib.Core.Path.{_≡_, refl, ap, sym, _∙_}
+use mathlib.Core.List.{List, _∷_}
 use Prim.Native.Nat.{ℕ, zero, suc, _≤_, _<_}
 use native.Mathlib.Omega.{arith}
-use native.Mathlib.Nat.{not-suc-le-zero}
-use lib.ListN.{length, getD, List·getD-eq-default}
+use native.Mathlib.Nat.{not-suc-le-zero, le-of-suc-le-suc}
+use lib.ListN.{length, getD, take, List·getD-eq-default}
+use lib.Seq.{ext-getD}
 use Rattle.words.specs.Words.{tabulate}
 
 module _ {A : Type 0} where
@@ -21,3 +23,16 @@ module _ {A : Type 0} where
 
   pub tabulate-past : (n : ℕ) (f : ℕ → A) (k : ℕ) (d : A) → n ≤ k → getD (tabulate n f) k d ≡ d
   tabulate-past n f k d h = List·getD-eq-default (tabulate n f) d {n = k} (omega (arith, length-tabulate n f))
+
+  -- a list is the table of its entries
+  pub tabulate-of : (l : List A) (n : ℕ) (f : ℕ → A) (d : A) → length l ≡ n → ((i : ℕ) → i < n → f i ≡ getD l i d) → tabulate n f ≡ l
+  tabulate-of l n f d e g =
+      ext-getD d (tabulate n f) l (length-tabulate n f ∙ sym e)
+      (λ i h. let k : i < n = omega (arith, length-tabulate n f) in tabulate-at n f i d k ∙ g i k)
+
+  -- the first entries of a table
+  pub tabulate-take : (n m : ℕ) (f : ℕ → A) → n ≤ m → take n (tabulate m f) ≡ tabulate n f
+  unfolding tabulate
+  tabulate-take zero m f h = refl
+  tabulate-take (suc n) zero f h = absurd (not-suc-le-zero h)
+  tabulate-take (suc n) (suc m) f h = ap (λ (l : List A). f 0 ∷ l) (tabulate-take n m (λ i. f (suc i)) (le-of-suc-le-suc h))

@@ -1,4 +1,4 @@
--- Bytes and little-endian words of a list, and a list given element by element. What lies past the last byte reads as 0.
+-- Bytes and little-endian numbers of a list, and a list given entry by entry. What lies past the last byte reads as 0.
 use mathlib.Core.List.{List, [], _∷_}
 use Prim.Native.Nat.{ℕ, zero, suc, _+_, _*_, _<_}
 use lib.ListN.{getD}
@@ -10,9 +10,12 @@ byteAt s i = getD s i 0
 pub record Bytes (s : List ℕ) : Type 0 where
   pub below : (i : ℕ) → byteAt s i < 256
 
--- "Little-endian"
+-- "Little-endian": a number of two bytes, and one of eight
 unfoldable pub wordAt : List ℕ → ℕ → ℕ
 wordAt s i = byteAt s i + 256 * byteAt s (i + 1)
+
+unfoldable pub numberAt : List ℕ → ℕ → ℕ
+numberAt s i = wordAt s i + 65536 * (wordAt s (i + 2) + 65536 * (wordAt s (i + 4) + 65536 * wordAt s (i + 6)))
 
 -- f 0, f 1, .. up to f (n - 1)
 unfoldable pub tabulate : {A : Type 0} → ℕ → (ℕ → A) → List A

@@ -1,8 +1,8 @@
-// Internal: pub only for our own crates. Bytes and little-endian words of a slice.
+// Internal: pub only for our own crates. Bytes and little-endian numbers of a slice.
 ghost use mathlib.Core.Path.{_≡_};
 ghost use Prim.Native.Nat.{_+_, _<_};
 ghost use lib.ListN.{length};
-ghost use Rattle.words.specs.Words.{byteAt, wordAt};
+ghost use Rattle.words.specs.Words.{byteAt, wordAt, numberAt};
 
 // The byte at i, or 0 past the end.
 pub fn byte_at(s: &[u8], i: usize) -> u8
@@ -40,4 +40,19 @@ pub fn word_at(s: &[u8], i: usize) -> u16
         return wide(s[i]);
     }
     word_in(s, i)
+}
+
+// The eight bytes at i; a byte past the end is 0.
+pub fn number_at(s: &[u8], i: usize) -> u64
+    ensures { λ r. ⌜ r ≡ numberAt (now (s .entry)) i ⌝ }
+{
+    if s.len() <= i {
+        return 0;
+    }
+    let rest = &s[i..];
+    let first = word_at(rest, 0) as u64;
+    let second = word_at(rest, 2) as u64;
+    let third = word_at(rest, 4) as u64;
+    let last = word_at(rest, 6) as u64;
+    first + 65536 * (second + 65536 * (third + 65536 * last))
 }

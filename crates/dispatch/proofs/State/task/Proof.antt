@@ -1,11 +1,11 @@
 -- `dispatch::State::task` meets its contract.
-use mathlib.Core.Path.{_∙_, sym}
+use mathlib.Core.Path.{_∙_}
 use Prim.Native.Nat.{_<_}
 use native.Mathlib.Omega.{arith}
 use borrow.Author.Needs.{needs}
 use Rattle.rules.specs.Limits.{taskLimit}
 use Rattle.memory.specs.Tasks.{blankTask}
-use Rattle.memory.proofs.GridLaws.{getD-any}
+use Rattle.words.proofs.ListLaws.{getD-any}
 use Rattle.dispatch.proofs.Known.{known}
 use Rattle.dispatch.proofs.ReaderLaws.{in-view, past-view, there, task-is, task-none}
 use Rattle.dispatch.proofs.State.task.Statement.{statement}

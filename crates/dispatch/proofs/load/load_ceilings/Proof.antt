@@ -7,7 +7,9 @@ use borrow.Author.Needs.{needs}
 use lib.ListN.{length, replicate, length-map}
 use Rattle.rules.specs.Limits.{objectLimit}
 use Rattle.dispatch.specs.State.{level, priority}
-use Rattle.dispatch.proofs.ListLaws.{over, over-step, over-blank, map-at}
+use Rattle.words.proofs.ListLaws.{map-at}
+use Rattle.words.proofs.CopyLaws.{over, over-step}
+use Rattle.dispatch.proofs.ListLaws.{over-blank}
 use Rattle.dispatch.proofs.load.load_ceilings.Statement.{statement}
 use Rattle.dispatch.proofs.load.load_ceilings.Tie as tie
 
@@ -41,8 +43,8 @@ loop-again c =
     let blanks : List ℕ = replicate objectLimit 0 in
     let count : length cs ≡ objectLimit = a .good .0 .1 .0 .1 in
     let there = map-at level cs (l .i) (priority 0) 0 (omega arith) in
-    let step = over-step blanks (map level cs) (l .i) _ 0 (omega arith) (omega (arith, length-map cs level)) (sym there) in
-    (search needs, rw (l .inv .1) step, search needs)
+    let step = over-step 0 blanks (map level cs) _ (l .i) (l .inv .1) _ (omega arith) (omega (arith, length-map cs level)) (sym there) in
+    (search needs, step, search needs)
 
 same-length : tie.Need-same-length Inv-loop μ-loop
 same-length c = c .before .loop .inv .2 ∙ sym (ap length (c .before .before .pre .1))

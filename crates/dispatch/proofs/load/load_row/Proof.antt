@@ -1,11 +1,10 @@
 -- `dispatch::load::load_row` meets its contract.
 use mathlib.Core.Path.{_≡_, refl, ap, _∙_, sym}
-use mathlib.Core.List.{List}
 use Prim.Native.Nat.{ℕ, _+_, _-_, _≤_}
 use native.Mathlib.Omega.{arith}
 use borrow.Author.Needs.{needs}
 use lib.ListN.{length, getD, replicate, length-replicate}
-use Rattle.dispatch.proofs.ListLaws.{over, over-step}
+use Rattle.words.proofs.CopyLaws.{over, over-step}
 use Rattle.dispatch.proofs.LoadLaws.{row-loaded}
 use Rattle.dispatch.proofs.load.load_row.Statement.{statement}
 use Rattle.dispatch.proofs.load.load_row.Tie as tie
@@ -48,9 +47,9 @@ loop-again c =
     let l = c2 .loop in
     let r = a .args .from .now in
     let zero : ℕ = 0 in
-    let step = over-step (replicate (length r) zero) r (l .i) _ zero (omega (arith, length-replicate (length r) zero))
-    (omega arith) refl in
-    (search needs, rw (l .inv .1) step, search needs, refl)
+    let step = over-step zero (replicate (length r) zero) r _ (l .i) (l .inv .1) _
+    (omega (arith, length-replicate (length r) zero)) (omega arith) refl in
+    (search needs, step, search needs, refl)
 
 same-length : tie.Need-same-length Inv-loop μ-loop
 same-length c =

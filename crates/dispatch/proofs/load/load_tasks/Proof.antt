@@ -1,14 +1,16 @@
 -- `dispatch::load::load_tasks` meets its contract.
-use mathlib.Core.Path.{_≡_, refl, ap, _∙_, sym}
-use Prim.Native.Nat.{_+_, _-_, _≤_}
+use mathlib.Core.Path.{_≡_, refl, _∙_}
+use Prim.Native.Nat.{_-_, _≤_}
 use native.Mathlib.Omega.{arith}
 use borrow.Author.Needs.{needs}
 use lib.ListN.{length, replicate}
 use Rattle.rules.specs.Limits.{taskLimit}
 use Rattle.memory.specs.Tasks.{blankTask, tasksIn, Tasks}
-use Rattle.memory.proofs.GridLaws.{getD-any}
-use Rattle.dispatch.proofs.ListLaws.{over, over-blank}
-use Rattle.dispatch.proofs.LoadLaws.{zero-tasks, zero-good, task-more}
+use Rattle.words.proofs.ListLaws.{getD-any}
+use Rattle.words.proofs.CopyLaws.{over}
+use Rattle.memory.proofs.BlankLaws.{blank-tasks, blank-rows}
+use Rattle.dispatch.proofs.ListLaws.{over-blank}
+use Rattle.dispatch.proofs.LoadLaws.{task-more}
 use Rattle.dispatch.proofs.load.load_tasks.Statement.{statement}
 use Rattle.dispatch.proofs.load.load_tasks.Tie as tie
 
@@ -22,7 +24,7 @@ abbrev μ-loop : tie.MeasureT-loop
 loop-holds : tie.Need-loop-holds Inv-loop μ-loop
 loop-holds c =
     let zeros = c .before .pre .1 in
-    (search needs, ap tasksIn zeros ∙ zero-tasks, rw zeros zero-good, refl)
+    (search needs, blank-tasks _ zeros, blank-rows _ zeros, refl)
 
 mul-k : tie.Need-mul-k Inv-loop μ-loop
 mul-k c = search needs

@@ -7,7 +7,8 @@ use borrow.Author.Needs.{needs}
 use lib.ListN.{length, take, length-set, length-map}
 use Rattle.rules.specs.Limits.{objectLimit}
 use Rattle.dispatch.specs.State.{priority}
-use Rattle.dispatch.proofs.ListLaws.{fill-more, fill-end, map-at}
+use Rattle.words.proofs.ListLaws.{map-at}
+use Rattle.words.proofs.CopyLaws.{fill-more, fill-end}
 use Rattle.dispatch.proofs.store.stored_ceilings.Statement.{statement}
 use Rattle.dispatch.proofs.store.stored_ceilings.Tie as tie
 

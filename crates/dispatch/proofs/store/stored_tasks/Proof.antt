@@ -1,5 +1,5 @@
 -- `dispatch::store::stored_tasks` meets its contract.
-use mathlib.Core.Path.{_≡_, refl, _∙_, sym}
+use mathlib.Core.Path.{_≡_, refl}
 use Prim.Native.Nat.{_-_, _≤_}
 use native.Mathlib.Omega.{arith}
 use borrow.Author.Needs.{needs}
@@ -7,7 +7,7 @@ use lib.ListN.{length, take, length-set}
 use Rattle.rules.specs.Limits.{taskLimit}
 use Rattle.memory.specs.Tasks.{blankTask, tasksIn}
 use Rattle.memory.proofs.TaskLaws.{tasks-count}
-use Rattle.dispatch.proofs.ListLaws.{fill-more, fill-end}
+use Rattle.words.proofs.CopyLaws.{fill-more, fill-end}
 use Rattle.dispatch.proofs.store.stored_tasks.Statement.{statement}
 use Rattle.dispatch.proofs.store.stored_tasks.Tie as tie
 

@@ -6,7 +6,7 @@ use Rattle.rules.specs.Priorities.{inRange}
 use Rattle.rules.specs.Lists.{allOf}
 use native.Mathlib.Omega.{arith}
 use borrow.Author.Needs.{needs}
-use Rattle.dispatch.proofs.FreshLaws.{all-next, all-fail, all-end}
+use Rattle.memory.proofs.TestLaws.{all-more, all-fails, all-end}
 use Rattle.dispatch.proofs.test.all_in_range.Statement.{statement}
 use Rattle.dispatch.proofs.test.all_in_range.Tie as tie
 
@@ -36,14 +36,14 @@ loop-again c =
     let l = c .before .before .before .before .loop in
     let values = c .before .before .before .before .before .before .args .values .now in
     let good = sym (c .before .in-range .ensures) ∙ c .if1 .taken in
-    (search needs, all-next inRange values (l .i) (l .inv .1) (omega arith) good)
+    (search needs, all-more inRange values (l .i) (l .inv .1) (omega arith) good)
 
 returns : tie.Need-returns Inv-loop μ-loop
 returns c =
     let l = c .before .before .before .before .loop in
     let values = c .before .before .before .before .before .before .args .values .now in
     let bad = sym (c .before .in-range .ensures) ∙ c .if1 .left in
-    sym (all-fail inRange values (l .i) (l .inv .1) (omega arith) bad)
+    sym (all-fails inRange values (l .i) (l .inv .1) (omega arith) bad)
 
 returns-2 : tie.Need-returns-2 Inv-loop μ-loop
 returns-2 c =

@@ -4,7 +4,7 @@ use Prim.Native.Nat.{_-_, _≤_}
 use native.Mathlib.Omega.{arith}
 use borrow.Author.Needs.{needs}
 use lib.ListN.{length}
-use Rattle.memory.proofs.ShiftLaws.{over, over-step, over-end}
+use Rattle.words.proofs.CopyLaws.{over, over-step, over-end}
 use Rattle.engine.proofs.fresh.copy.Statement.{statement}
 use Rattle.engine.proofs.fresh.copy.Tie as tie
 

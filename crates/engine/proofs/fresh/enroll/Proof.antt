@@ -8,7 +8,7 @@ use lib.ListN.{length, length-map}
 use Rattle.engine.specs.Fresh.{newcomer}
 use Rattle.memory.specs.Tasks.{blankTask, tasksIn, Tasks}
 use Rattle.engine.proofs.FreshLaws.{newcomer-at}
-use Rattle.memory.proofs.ShiftLaws.{over, over-step, over-end}
+use Rattle.words.proofs.CopyLaws.{over, over-step, over-end}
 use Rattle.memory.proofs.TaskLaws.{tasks-count}
 use Rattle.engine.proofs.fresh.enroll.Statement.{statement}
 use Rattle.engine.proofs.fresh.enroll.Tie as tie

@@ -6,7 +6,7 @@ use native.Mathlib.Omega.{arith}
 use lib.ListN.{length, take, drop}
 use lib.Seq.{sets, length-take-le, getD-take}
 use Rattle.board.specs.Rows.{rowLimit, noRow}
-use Rattle.memory.proofs.GridLaws.{getD-any}
+use Rattle.words.proofs.ListLaws.{getD-any}
 use Rattle.layout.specs.Boards.{rowSize, rowBytes}
 use Rattle.layout.proofs.BoardLaws.{row-turn, rows-end}
 use borrow.Author.Needs.{needs}

@@ -6,9 +6,9 @@ use native.Mathlib.Omega.{arith}
 use lib.ListN.{length, take, length-set}
 use Rattle.board.specs.Rows.{rowLimit, noRow}
 use Rattle.board.specs.declared.Row.{Row}
-use Rattle.dispatch.proofs.ListLaws.{fill-more, fill-end}
+use Rattle.words.proofs.CopyLaws.{fill-more, fill-end}
 use Rattle.layout.specs.Boards.{rowSize, rowFrom, rowsFrom}
-use Rattle.layout.proofs.TableLaws.{table-length, table-at}
+use Rattle.words.proofs.TableLaws.{length-tabulate, tabulate-at}
 use borrow.Author.Needs.{needs}
 use Rattle.layout.proofs.boards.rows_from.Statement.{statement}
 use Rattle.layout.proofs.boards.rows_from.Tie as tie
@@ -53,8 +53,8 @@ unfolding rowsFrom
 loop-again c =
     let l = c .before .before .loop in
     let b = c .before .before .before .before .before .args .board .now in
-    let all = table-length rowLimit (given b) in
-    let here = c .row-from2 .ensures ∙ sym (table-at rowLimit (given b) (l .i) noRow (omega arith)) in (
+    let all = length-tabulate rowLimit (given b) in
+    let here = c .row-from2 .ensures ∙ sym (tabulate-at rowLimit (given b) (l .i) noRow (omega arith)) in (
       search needs,
       fill-more (l .rows) (rowsFrom b rowLimit) (l .i) _ noRow (omega arith) (omega arith) here (l .inv .1),
       simp length-set (l .inv .2),
@@ -66,7 +66,7 @@ returns c =
     let l = c .before .loop in
     let b = c .before .before .before .before .args .board .now in
     let e : l .i ≡ rowLimit = omega arith in
-    fill-end (l .rows) (rowsFrom b rowLimit) rowLimit (l .inv .2) (table-length rowLimit (given b)) (rw e at (l .inv .1))
+    fill-end (l .rows) (rowsFrom b rowLimit) rowLimit (l .inv .2) (length-tabulate rowLimit (given b)) (rw e at (l .inv .1))
 
 pub rows-from-spec : {M : Type 1} → statement M
 rows-from-spec =

@@ -7,10 +7,10 @@ use lib.ListN.{length, take, length-set}
 use Rattle.rules.specs.Limits.{objectLimit}
 use Rattle.rules.specs.declared.Priority.{Priority}
 use Rattle.dispatch.specs.State.{priority}
-use Rattle.dispatch.proofs.ListLaws.{fill-more, fill-end}
+use Rattle.words.proofs.CopyLaws.{fill-more, fill-end}
 use Rattle.layout.specs.Sizes.{ceilingsStart}
-use Rattle.layout.specs.Decode.{byteAt, tabulate}
-use Rattle.layout.proofs.TableLaws.{table-length, table-at}
+use Rattle.words.specs.Words.{byteAt, tabulate}
+use Rattle.words.proofs.TableLaws.{length-tabulate, tabulate-at}
 use borrow.Author.Needs.{needs}
 use Rattle.layout.proofs.decode.ceilings_from.Statement.{statement}
 use Rattle.layout.proofs.decode.ceilings_from.Tie as tie
@@ -47,8 +47,8 @@ loop-again : tie.Need-loop-again Inv-loop μ-loop
 loop-again c =
     let l = c .before .before .loop in
     let s = c .before .before .before .before .args .s .now in
-    let all = table-length objectLimit (given s) in
-    let here = ap priority (c .byte-at .ensures) ∙ sym (table-at objectLimit (given s) (l .o) (priority 0) (omega arith)) in
+    let all = length-tabulate objectLimit (given s) in
+    let here = ap priority (c .byte-at .ensures) ∙ sym (tabulate-at objectLimit (given s) (l .o) (priority 0) (omega arith)) in
     let table = tabulate objectLimit (given s) in (
       search needs,
       fill-more (l .ceilings) table (l .o) _ (priority 0) (omega arith) (omega arith) here (l .inv .1),
@@ -61,7 +61,7 @@ returns c =
     let s = c .before .before .before .args .s .now in
     let table = tabulate objectLimit (given s) in
     let e : l .o ≡ objectLimit = omega arith in
-    fill-end (l .ceilings) table objectLimit (l .inv .2) (table-length objectLimit (given s)) (rw e at (l .inv .1))
+    fill-end (l .ceilings) table objectLimit (l .inv .2) (length-tabulate objectLimit (given s)) (rw e at (l .inv .1))
 
 pub ceilings-from-spec : {M : Type 1} → statement M
 ceilings-from-spec =

@@ -4,9 +4,10 @@ use mathlib.Core.List.{List}
 use Prim.Native.Nat.{ℕ, _+_, _-_, _≤_}
 use native.Mathlib.Omega.{arith}
 use lib.ListN.{length}
-use Rattle.dispatch.proofs.ListLaws.{over, over-step, over-end}
-use Rattle.layout.specs.Decode.{byteAt, tabulate, cellsFrom}
-use Rattle.layout.proofs.TableLaws.{table-length, table-at}
+use Rattle.words.proofs.CopyLaws.{over, over-step, over-all}
+use Rattle.words.specs.Words.{byteAt, tabulate}
+use Rattle.layout.specs.Decode.{cellsFrom}
+use Rattle.words.proofs.TableLaws.{length-tabulate, tabulate-at}
 use borrow.Author.Needs.{needs}
 use Rattle.layout.proofs.decode.copy_cells.Statement.{statement}
 use Rattle.layout.proofs.decode.copy_cells.Tie as tie
@@ -47,10 +48,10 @@ loop-again c =
     let s = a .s .now in
     let n = length (a .to .now) in
     let f = given s (a .start) in
-    let all = table-length n f in
-    let here = c .byte-at .ensures ∙ sym (table-at n f (l .i) 0 (omega arith)) in
-    let step = over-step (a .to .now) (tabulate n f) (l .i) _ 0 (omega arith) (omega arith) here in
-    (omega arith, rw (l .inv .1) step, search needs)
+    let all = length-tabulate n f in
+    let here = c .byte-at .ensures ∙ sym (tabulate-at n f (l .i) 0 (omega arith)) in
+    let step = over-step 0 (a .to .now) (tabulate n f) _ (l .i) (l .inv .1) _ (omega arith) (omega arith) here in
+    (omega arith, step, search needs)
 
 same-length : tie.Need-same-length Inv-loop μ-loop
 same-length c = search needs
@@ -63,7 +64,7 @@ returns c =
     let n = length (a .to .now) in
     let f = given (a .s .now) (a .start) in
     let e : l .i ≡ n = omega arith in
-    rw e at (l .inv .1) ∙ over-end (a .to .now) (tabulate n f) n (omega arith) (omega (arith, table-length n f))
+    rw e at (l .inv .1) ∙ over-all (a .to .now) (tabulate n f) n (omega arith) (omega (arith, length-tabulate n f))
 
 pub copy-cells-spec : {M : Type 1} → statement M
 copy-cells-spec =

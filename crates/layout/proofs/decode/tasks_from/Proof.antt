@@ -7,10 +7,10 @@ use Rattle.rules.specs.Limits.{taskLimit}
 use mathlib.Core.List.{List}
 use Rattle.rules.specs.declared.Task.{Task}
 use Rattle.memory.specs.Tasks.{blankTask}
-use Rattle.dispatch.proofs.ListLaws.{fill-more, fill-end}
+use Rattle.words.proofs.CopyLaws.{fill-more, fill-end}
 use Rattle.layout.specs.Sizes.{tasksStart, taskSize}
 use Rattle.layout.specs.Decode.{taskFrom, tasksFrom}
-use Rattle.layout.proofs.TableLaws.{table-length, table-at}
+use Rattle.words.proofs.TableLaws.{length-tabulate, tabulate-at}
 use borrow.Author.Needs.{needs}
 use Rattle.layout.proofs.decode.tasks_from.Statement.{statement}
 use Rattle.layout.proofs.decode.tasks_from.Tie as tie
@@ -58,8 +58,8 @@ unfolding tasksFrom
 loop-again c =
     let l = c .before .before .loop in
     let s = c .before .before .before .before .before .args .s .now in
-    let all = table-length taskLimit (given s) in
-    let here = c .task-from2 .ensures ∙ sym (table-at taskLimit (given s) (l .t) blankTask (omega arith)) in (
+    let all = length-tabulate taskLimit (given s) in
+    let here = c .task-from2 .ensures ∙ sym (tabulate-at taskLimit (given s) (l .t) blankTask (omega arith)) in (
       search needs,
       fill-more (l .tasks) (tasksFrom s) (l .t) _ blankTask (omega arith) (omega arith) here (l .inv .1),
       simp length-set (l .inv .2),
@@ -71,7 +71,7 @@ returns c =
     let l = c .before .loop in
     let s = c .before .before .before .before .args .s .now in
     let e : l .t ≡ taskLimit = omega arith in
-    fill-end (l .tasks) (tasksFrom s) taskLimit (l .inv .2) (table-length taskLimit (given s)) (rw e at (l .inv .1))
+    fill-end (l .tasks) (tasksFrom s) taskLimit (l .inv .2) (length-tabulate taskLimit (given s)) (rw e at (l .inv .1))
 
 pub tasks-from-spec : {M : Type 1} → statement M
 tasks-from-spec =

@@ -6,7 +6,8 @@ use native.Mathlib.Omega.{arith}
 use lib.ListN.{length, take, length-set, length-map}
 use Rattle.rules.specs.Limits.{objectLimit}
 use Rattle.dispatch.specs.State.{level, priority}
-use Rattle.dispatch.proofs.ListLaws.{fill-more, fill-end, map-at}
+use Rattle.words.proofs.ListLaws.{map-at}
+use Rattle.words.proofs.CopyLaws.{fill-more, fill-end}
 use borrow.Author.Needs.{needs}
 use Rattle.layout.proofs.encode.levels.Statement.{statement}
 use Rattle.layout.proofs.encode.levels.Tie as tie

@@ -5,7 +5,7 @@ use native.Mathlib.Nat.{add-zero}
 use native.Mathlib.Omega.{arith}
 use lib.ListN.{length, drop, length-set}
 use lib.Seq.{sets}
-use Rattle.layout.proofs.PutLaws.{copy-turn, copy-end}
+use Rattle.words.proofs.CopyLaws.{copy-turn, copy-end}
 use borrow.Author.Needs.{needs}
 use Rattle.layout.proofs.encode.put.Statement.{statement}
 use Rattle.layout.proofs.encode.put.Tie as tie

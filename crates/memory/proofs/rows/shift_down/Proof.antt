@@ -3,8 +3,9 @@ use mathlib.Core.Path.{_≡_, _∙_, sym}
 use Prim.Native.Nat.{_+_, _-_, _≤_}
 use native.Mathlib.Omega.{arith}
 use borrow.Author.Needs.{needs}
-use lib.ListN.{length, getD}
-use Rattle.memory.proofs.ShiftLaws.{over, over-step, over-read, down, down-length, down-at, down-last, down-end}
+use lib.ListN.{length}
+use Rattle.words.proofs.CopyLaws.{over, over-step, over-read}
+use Rattle.memory.proofs.ShiftLaws.{down, down-length, down-at, down-last, down-end}
 use Rattle.memory.proofs.rows.shift_down.Statement.{statement}
 use Rattle.memory.proofs.rows.shift_down.Tie as tie
 

@@ -6,7 +6,8 @@ use native.Mathlib.Numerals.{add-one}
 use native.Mathlib.Omega.{arith}
 use borrow.Author.Needs.{needs}
 use lib.ListN.{length, getD}
-use Rattle.memory.proofs.ShiftLaws.{over, over-step, over-read, up-end}
+use Rattle.words.proofs.CopyLaws.{over, over-step, over-read}
+use Rattle.memory.proofs.ShiftLaws.{up-end}
 use Rattle.memory.proofs.rows.shift_up.Statement.{statement}
 use Rattle.memory.proofs.rows.shift_up.Tie as tie
 

@@ -8,23 +8,32 @@ use Rattle.run.proofs.inputs.value_at.Tie as tie
 mul-at : tie.Need-mul-at
 mul-at c = search needs
 
-add-word : tie.Need-add-word
-add-word c = search needs
+add-word-in : tie.Need-add-word-in
+add-word-in c = search needs
 
-word-requires : tie.Need-word-requires
-word-requires c κs = search needs
+word-in-requires : tie.Need-word-in-requires
+word-in-requires c κs = search needs
 
-add-word-2 : tie.Need-add-word-2
-add-word-2 c = search needs
+cast-low : tie.Need-cast-low
+cast-low c = search needs
 
-word-requires-2 : tie.Need-word-requires-2
-word-requires-2 c κs = search needs
+add-word-in-2 : tie.Need-add-word-in-2
+add-word-in-2 c = search needs
 
-add-word-3 : tie.Need-add-word-3
-add-word-3 c = search needs
+word-in-requires-2 : tie.Need-word-in-requires-2
+word-in-requires-2 c κs = search needs
 
-word-requires-3 : tie.Need-word-requires-3
-word-requires-3 c κs = search needs
+cast-middle : tie.Need-cast-middle
+cast-middle c = search needs
+
+add-word-in-3 : tie.Need-add-word-in-3
+add-word-in-3 c = search needs
+
+word-in-requires-3 : tie.Need-word-in-requires-3
+word-in-requires-3 c κs = search needs
+
+cast-high : tie.Need-cast-high
+cast-high c = search needs
 
 mul-result : tie.Need-mul-result
 mul-result c = search needs
@@ -47,12 +56,15 @@ value-at-spec =
     tie.close
     (tie.spec
     mul-at
-    add-word
-    word-requires
-    add-word-2
-    word-requires-2
-    add-word-3
-    word-requires-3
+    add-word-in
+    word-in-requires
+    cast-low
+    add-word-in-2
+    word-in-requires-2
+    cast-middle
+    add-word-in-3
+    word-in-requires-3
+    cast-high
     mul-result
     add-result
     mul-result-2
