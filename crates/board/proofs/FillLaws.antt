@@ -27,12 +27,12 @@ use Rattle.rules.proofs.SoundLaws.{sound-is, one-less, under-highest}
 use Rattle.rules.proofs.Soundness.{sound-good}
 use Rattle.board.specs.declared.Row.{Row}
 use Rattle.board.specs.declared.NextAnswer.{NextAnswer}
-use Rattle.board.specs.Rows.{rowLimit, readyKind, noRow, rowAt, toldOf}
+use Rattle.board.specs.Rows.{rowLimit, isReadyKind, noRow, rowAt, toldOf}
 use Rattle.board.specs.Next.{priorityAt, positionAt, ReadyRow, Before, NextRow}
 use Rattle.board.specs.Next.Before.{higher, earlier, lower}
 use Rattle.board.specs.Next.Answers.{named, none}
 use Rattle.board.specs.Scan.{nextOf}
-use Rattle.board.specs.Fill.{kindOf, standBefore, positionOf, rowOf, rowsTo, rowsOf}
+use Rattle.board.specs.Fill.{kindOf, standBefore, queuePosition, rowOf, rowsTo, rowsOf}
 use Rattle.board.proofs.NextLaws.{next-only}
 
 -- ---- how many stand before a task in a queue
@@ -87,7 +87,7 @@ rows-at m (suc n) t h =
     (λ o. List·getD-append (rowsTo m n) (rowOf m n ∷ []) noRow t (omega (arith, o, rows-length m n)) ∙ rows-at m n t (omega (arith, o)))
 
 -- a place that is ready
-ready-is : (x : Place) → readyKind (kindOf x) ≡ true → isReady x ≡ 1
+ready-is : (x : Place) → isReadyKind (kindOf x) ≡ true → isReady x ≡ 1
 unfolding isReady
 ready-is Running e = clash (sym e)
 ready-is Ready e = refl
@@ -95,7 +95,7 @@ ready-is (Delayed d) e = clash (sym e)
 ready-is Suspended e = clash (sym e)
 ready-is Ended e = clash (sym e)
 
-is-ready : (x : Place) → 0 < isReady x → readyKind (kindOf x) ≡ true
+is-ready : (x : Place) → 0 < isReady x → isReadyKind (kindOf x) ≡ true
 unfolding isReady
 is-ready Running h = absurd (not-suc-le-zero h)
 is-ready Ready h = refl
@@ -113,13 +113,13 @@ module _ (m : Model) (t : ℕ) where
   unfolding rowOf
   row-priority = refl
 
-  pub row-ready : readyKind (kindOf (taskAt m t .place)) ≡ true → rowOf m t .position ≡ standBefore t (queue m (active m t))
-  unfolding rowOf positionOf
-  row-ready e = cond-true (readyKind (kindOf (taskAt m t .place))) _ 0 e
+  pub row-ready : isReadyKind (kindOf (taskAt m t .place)) ≡ true → rowOf m t .position ≡ standBefore t (queue m (active m t))
+  unfolding rowOf queuePosition
+  row-ready e = cond-true (isReadyKind (kindOf (taskAt m t .place))) _ 0 e
 
-  pub row-other : readyKind (kindOf (taskAt m t .place)) ≡ false → rowOf m t .position ≡ 0
-  unfolding rowOf positionOf
-  row-other e = cond-false (readyKind (kindOf (taskAt m t .place))) _ 0 e
+  pub row-other : isReadyKind (kindOf (taskAt m t .place)) ≡ false → rowOf m t .position ≡ 0
+  unfolding rowOf queuePosition
+  row-other e = cond-false (isReadyKind (kindOf (taskAt m t .place))) _ 0 e
 
 -- ---- of a sound Model
 module _ (m : Model) (good : sound m ≡ true) where
@@ -131,10 +131,10 @@ module _ (m : Model) (good : sound m ≡ true) where
   in-queue t p g = subst (λ (q : ℕ). 0 < timesIn t (getD (m .ready) q [])) (sym (one-less p)) g
 
   -- a ready task stands in the queue for its active priority, once
-  stands : (t : ℕ) → t < length (m .tasks) → readyKind (kindOf (taskAt m t .place)) ≡ true → queued (m .ready) t ≡ 1
+  stands : (t : ℕ) → t < length (m .tasks) → isReadyKind (kindOf (taskAt m t .place)) ≡ true → queued (m .ready) t ≡ 1
   stands t h e = s .placed t h .1 ∙ ready-is (taskAt m t .place) e
 
-  stands-in : (t : ℕ) → t < length (m .tasks) → readyKind (kindOf (taskAt m t .place)) ≡ true →
+  stands-in : (t : ℕ) → t < length (m .tasks) → isReadyKind (kindOf (taskAt m t .place)) ≡ true →
       0 < timesIn t (queue m (active m t))
   stands-in t h e =
       let w : Where (m .ready) t = row-of (m .ready) t (omega (arith, stands t h e)) in
@@ -142,13 +142,13 @@ module _ (m : Model) (good : sound m ≡ true) where
       let there : 0 < timesIn t (queue m (suc (w .at))) = in-queue t (w .at) (w .has) in
       subst (λ (p : ℕ). 0 < timesIn t (queue m p)) (sym (s .level (w .at) t low there)) there
 
-  stands-once : (t : ℕ) → t < length (m .tasks) → readyKind (kindOf (taskAt m t .place)) ≡ true →
+  stands-once : (t : ℕ) → t < length (m .tasks) → isReadyKind (kindOf (taskAt m t .place)) ≡ true →
       timesIn t (queue m (active m t)) ≡ 1
   stands-once t h e =
       omega (arith, stands-in t h e, stands t h e, queued-at (m .ready) (active m t - 1) t)
 
   -- its position is how many stand before it there, and it is found there
-  pub position-is : (t : ℕ) (front back : List ℕ) → t < length (m .tasks) → readyKind (kindOf (taskAt m t .place)) ≡ true →
+  pub position-is : (t : ℕ) (front back : List ℕ) → t < length (m .tasks) → isReadyKind (kindOf (taskAt m t .place)) ≡ true →
       queue m (active m t) ≡ front ++ (t ∷ back) → rowOf m t .position ≡ length front
   position-is t front back h e f =
       row-ready m t e ∙ ap (standBefore t) f ∙
@@ -162,7 +162,7 @@ module _ (m : Model) (good : sound m ≡ true) where
         times-same t t refl,
       ))
 
-  pub position-at : (t : ℕ) → t < length (m .tasks) → readyKind (kindOf (taskAt m t .place)) ≡ true →
+  pub position-at : (t : ℕ) → t < length (m .tasks) → isReadyKind (kindOf (taskAt m t .place)) ≡ true →
       getD (queue m (active m t)) (rowOf m t .position) 0 ≡ t
   position-at t h e =
       ap (λ (i : ℕ). getD (queue m (active m t)) i 0) (row-ready m t e) ∙ before-at t (queue m (active m t)) (stands-in t h e)
@@ -188,15 +188,15 @@ module _ (m : Model) (good : sound m ≡ true) where
       bounds-in (active m t) (act-low m taskLimit c t (g .0)) (act-high m taskLimit c t (g .0))
 
   -- a ready task has a ready row, and a ready row is a ready task's
-  ready-row : (t : ℕ) → t < count → readyKind (kindOf (taskAt m t .place)) ≡ true → ReadyRow rows t
+  ready-row : (t : ℕ) → t < count → isReadyKind (kindOf (taskAt m t .place)) ≡ true → ReadyRow rows t
   ready-row t g e = record {
     there = omega (arith, rows-length m count, g);
-    ready = ap (λ (x : Row). readyKind (x .kind)) (rows-at m count t g) ∙ ap readyKind (row-kind m t) ∙ e;
+    ready = ap (λ (x : Row). isReadyKind (x .kind)) (rows-at m count t g) ∙ ap isReadyKind (row-kind m t) ∙ e;
   }
 
-  row-is-ready : (t : ℕ) → ReadyRow rows t → readyKind (kindOf (taskAt m t .place)) ≡ true
+  row-is-ready : (t : ℕ) → ReadyRow rows t → isReadyKind (kindOf (taskAt m t .place)) ≡ true
   row-is-ready t r =
-      ap readyKind (sym (row-kind m t)) ∙ ap (λ (x : Row). readyKind (x .kind)) (sym (at-row t (r .there) .1)) ∙ r .ready
+      ap isReadyKind (sym (row-kind m t)) ∙ ap (λ (x : Row). isReadyKind (x .kind)) (sym (at-row t (r .there) .1)) ∙ r .ready
 
   row-priority-at : (t : ℕ) → t < length rows → priorityAt rows t ≡ active m t
   row-priority-at t h = ap (λ (r : Row). r .priority .0) (at-row t h .1) ∙ row-priority m t
@@ -232,7 +232,7 @@ module _ (m : Model) (good : sound m ≡ true) where
     head-active : active m head ≡ highest m
     head-active = s .level (highest m - 1) head (omega (arith, h .one, h .top)) at-level ∙ level-is
 
-    head-ready : readyKind (kindOf (taskAt m head .place)) ≡ true
+    head-ready : isReadyKind (kindOf (taskAt m head .place)) ≡ true
     head-ready =
         is-ready (taskAt m head .place)
         (omega (arith, head-has, queued-at (m .ready) (highest m - 1) head, s .placed head head-low .1))
@@ -274,7 +274,7 @@ module _ (m : Model) (good : sound m ≡ true) where
   some-queue : (t : ℕ) → t < count → taskAt m t .place ≡ Ready → highest m ≡ 0 → ⊥
   some-queue t g e z =
       let low : firstPriority ≤ active m t = act-low m taskLimit (sound-good m good .pending .core) t g in
-      omega (arith, under t (ready-row t g (ap (λ (x : Place). readyKind (kindOf x)) e)))
+      omega (arith, under t (ready-row t g (ap (λ (x : Place). isReadyKind (kindOf x)) e)))
 
   -- a board just filled, with a ready task: it names the head of the highest queue
   pub filled-ready : (t : ℕ) → t < count → taskAt m t .place ≡ Ready → nextOf rows ≡ toldOf (NextAnswer.Row (headOf m (highest m)))

@@ -13,11 +13,11 @@ use Rattle.rules.proofs.Choices.{split, compare, clash, or-right, or-none-left,
 use Rattle.board.specs.declared.Row.{Row}
 use Rattle.board.specs.declared.scan.Best.{Best}
 use Rattle.board.specs.declared.NextAnswer.{NextAnswer}
-use Rattle.board.specs.Rows.{rowLimit, readyKind, rowAt, Told, toldOf}
+use Rattle.board.specs.Rows.{rowLimit, isReadyKind, rowAt, Told, toldOf}
 use Rattle.board.specs.Next.{priorityAt, positionAt, ReadyRow, Before, NextRow, BadRow, NoBadRow, Answers}
 use Rattle.board.specs.Next.Before.{higher, earlier, lower}
 use Rattle.board.specs.Next.Answers.{tooMany, bad, named, none}
-use Rattle.board.specs.Scan.{aheadOf, betterOf, bestOf, lookedOf, finishOf, nextOf}
+use Rattle.board.specs.Scan.{aheadOf, betterOf, bestOf, lookedOf, concluded, nextOf}
 use Rattle.board.proofs.ScanLaws.{ahead-unready, ahead-alone, ahead-equal, ahead-other, better-new, better-old}
 use Rattle.board.proofs.ScanLaws.{looked-all, finish-many, finish-bad, finish-row, finish-nobody}
 
@@ -58,8 +58,8 @@ module _ (rows : List Row) where
 
 -- ---- what a row that goes ahead of the best so far is to it
 module _ (rows : List Row) (b : Best) (n k : ℕ) (at-k : b .row ≡ rowAt rows k) where
-  ready-k : readyKind (rowAt rows k .kind) ≡ readyKind (b .row .kind)
-  ready-k = ap (λ (r : Row). readyKind (r .kind)) (sym at-k)
+  ready-k : isReadyKind (rowAt rows k .kind) ≡ isReadyKind (b .row .kind)
+  ready-k = ap (λ (r : Row). isReadyKind (r .kind)) (sym at-k)
 
   priority-k : b .row .priority .0 ≡ priorityAt rows k
   priority-k = ap (λ (r : Row). r .priority .0) at-k
@@ -67,7 +67,7 @@ module _ (rows : List Row) (b : Best) (n k : ℕ) (at-k : b .row ≡ rowAt rows 
   position-k : b .row .position ≡ positionAt rows k
   position-k = ap (λ (r : Row). r .position) at-k
 
-  module _ (rn : readyKind (rowAt rows n .kind) ≡ true) (rb : readyKind (b .row .kind) ≡ true) where
+  module _ (rn : isReadyKind (rowAt rows n .kind) ≡ true) (rb : isReadyKind (b .row .kind) ≡ true) where
     ahead-before : aheadOf (rowAt rows n) (b .row) ≡ true → Before rows n k
     ahead-before e = split (priorityAt rows n) (b .row .priority .0) level other
       where
@@ -93,10 +93,10 @@ module _ (rows : List Row) (b : Best) (n k : ℕ) (at-k : b .row ≡ rowAt rows 
 
 -- ---- the best of the first n rows
 pub record Leads (rows : List Row) (n : ℕ) (b : Best) : Type 0 where
-  pub low : readyKind (b .row .kind) ≡ true → b .number < n
-  pub at : readyKind (b .row .kind) ≡ true → b .row ≡ rowAt rows (b .number)
-  pub some : (j : ℕ) → j < n → readyKind (rowAt rows j .kind) ≡ true → readyKind (b .row .kind) ≡ true
-  pub first : (j : ℕ) → j < n → readyKind (rowAt rows j .kind) ≡ true → Before rows j (b .number) → ⊥
+  pub low : isReadyKind (b .row .kind) ≡ true → b .number < n
+  pub at : isReadyKind (b .row .kind) ≡ true → b .row ≡ rowAt rows (b .number)
+  pub some : (j : ℕ) → j < n → isReadyKind (rowAt rows j .kind) ≡ true → isReadyKind (b .row .kind) ≡ true
+  pub first : (j : ℕ) → j < n → isReadyKind (rowAt rows j .kind) ≡ true → Before rows j (b .number) → ⊥
 
 module _ (rows : List Row) (n : ℕ) (b : Best) (l : Leads rows n b) where
   abbrev r : Row
@@ -112,16 +112,16 @@ module _ (rows : List Row) (n : ℕ) (b : Best) (l : Leads rows n b) where
         (λ o. behind j (omega (arith, o)) f g);
   }
     where
-      is-ready : readyKind (r .kind) ≡ true
-      is-ready = go (readyKind (r .kind)) refl
+      is-ready : isReadyKind (r .kind) ≡ true
+      is-ready = go (isReadyKind (r .kind)) refl
         where
-          go : (y : Bool) → readyKind (r .kind) ≡ y → readyKind (r .kind) ≡ true
+          go : (y : Bool) → isReadyKind (r .kind) ≡ y → isReadyKind (r .kind) ≡ true
           go true f = f
           go false f = clash (sym e ∙ ahead-unready r (b .row) f)
 
-      behind : (j : ℕ) → j < n → readyKind (rowAt rows j .kind) ≡ true → Before rows j n → ⊥
+      behind : (j : ℕ) → j < n → isReadyKind (rowAt rows j .kind) ≡ true → Before rows j n → ⊥
       behind j h f g =
-          let rb : readyKind (b .row .kind) ≡ true = l .some j h f in
+          let rb : isReadyKind (b .row .kind) ≡ true = l .some j h f in
           l .first j h f (before-trans rows j n (b .number) g (ahead-before rows b n (b .number) (l .at rb) is-ready rb e))
 
   -- or it does not
@@ -134,17 +134,17 @@ module _ (rows : List Row) (n : ℕ) (b : Best) (l : Leads rows n b) where
         (λ o. l .first j (omega (arith, o)) f g);
   }
     where
-      ready-n : (j : ℕ) → j ≡ n → readyKind (rowAt rows j .kind) ≡ true → readyKind (r .kind) ≡ true
-      ready-n j s f = ap (λ (i : ℕ). readyKind (rowAt rows i .kind)) (sym s) ∙ f
+      ready-n : (j : ℕ) → j ≡ n → isReadyKind (rowAt rows j .kind) ≡ true → isReadyKind (r .kind) ≡ true
+      ready-n j s f = ap (λ (i : ℕ). isReadyKind (rowAt rows i .kind)) (sym s) ∙ f
 
-      other : readyKind (r .kind) ≡ true → readyKind (b .row .kind) ≡ true
-      other f = go (readyKind (b .row .kind)) refl
+      other : isReadyKind (r .kind) ≡ true → isReadyKind (b .row .kind) ≡ true
+      other f = go (isReadyKind (b .row .kind)) refl
         where
-          go : (y : Bool) → readyKind (b .row .kind) ≡ y → readyKind (b .row .kind) ≡ true
+          go : (y : Bool) → isReadyKind (b .row .kind) ≡ y → isReadyKind (b .row .kind) ≡ true
           go true g = g
           go false g = clash (sym (ahead-alone r (b .row) f g) ∙ e)
 
-      worse : readyKind (r .kind) ≡ true → Before rows n (b .number) → ⊥
+      worse : isReadyKind (r .kind) ≡ true → Before rows n (b .number) → ⊥
       worse f g = let rb = other f in before-ahead rows b n (b .number) (l .at rb) f rb (l .low rb) e g
 
   leads-step : Leads rows (suc n) (betterOf b n r)
@@ -202,8 +202,8 @@ module _ (rows : List Row) where
   abbrev best : Best
   best = bestOf rows (length rows)
 
-  few : length rows ≤ rowLimit → nextOf rows ≡ toldOf (finishOf (length rows) best)
-  few h = ap (λ (k : ℕ). toldOf (finishOf (length rows) (bestOf rows k))) (looked-all (length rows) h)
+  few : length rows ≤ rowLimit → nextOf rows ≡ toldOf (concluded (length rows) best)
+  few h = ap (λ (k : ℕ). toldOf (concluded (length rows) (bestOf rows k))) (looked-all (length rows) h)
 
   -- the answer of the scan is one that Next gives
   pub next-is : Answers rows (nextOf rows)
@@ -213,16 +213,16 @@ module _ (rows : List Row) where
       many h = subst (Answers rows) (sym (ap toldOf (finish-many (length rows) _ h))) (tooMany h)
 
       ranked : length rows ≤ rowLimit → best .bad ≡ false → Answers rows (nextOf rows)
-      ranked h f = go (readyKind (best .row .kind)) refl
+      ranked h f = go (isReadyKind (best .row .kind)) refl
         where
           l : Leads rows (length rows) best
           l = best-leads rows (length rows)
 
-          go : (y : Bool) → readyKind (best .row .kind) ≡ y → Answers rows (nextOf rows)
+          go : (y : Bool) → isReadyKind (best .row .kind) ≡ y → Answers rows (nextOf rows)
           go true g =
               subst (Answers rows) (sym (few h ∙ ap toldOf (finish-row (length rows) best h f g)))
               (named h (bad-none rows (length rows) f) (best .number) (record {
-                ready = record { there = l .low g; ready = ap (λ (r : Row). readyKind (r .kind)) (sym (l .at g)) ∙ g };
+                ready = record { there = l .low g; ready = ap (λ (r : Row). isReadyKind (r .kind)) (sym (l .at g)) ∙ g };
                 first = λ j r. l .first j (r .there) (r .ready);
               }))
           go false g =

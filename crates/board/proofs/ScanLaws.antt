@@ -16,32 +16,32 @@ use Rattle.rules.proofs.PriorityLaws.{checked-good, checked-bad}
 use Rattle.board.specs.declared.Row.{Row}
 use Rattle.board.specs.declared.scan.Best.{Best}
 use Rattle.board.specs.declared.NextAnswer.{NextAnswer}
-use Rattle.board.specs.Rows.{rowLimit, readyKind, toldOf}
-use Rattle.board.specs.Scan.{aheadOf, betterOf, lookedOf, finishOf, nextOf, nextFirstOf}
+use Rattle.board.specs.Rows.{rowLimit, isReadyKind, toldOf}
+use Rattle.board.specs.Scan.{aheadOf, betterOf, lookedOf, concluded, nextOf, nextFirstOf}
 
 -- a later row against the best so far: not ready; against nobody; of the same priority; of another
 module _ (a b : Row) where
-  pub ahead-unready : readyKind (a .kind) ≡ false → aheadOf a b ≡ false
+  pub ahead-unready : isReadyKind (a .kind) ≡ false → aheadOf a b ≡ false
   unfolding aheadOf
-  ahead-unready e = cond-true (not (readyKind (a .kind))) false _ (ap not e)
+  ahead-unready e = cond-true (not (isReadyKind (a .kind))) false _ (ap not e)
 
-  pub ahead-alone : readyKind (a .kind) ≡ true → readyKind (b .kind) ≡ false → aheadOf a b ≡ true
+  pub ahead-alone : isReadyKind (a .kind) ≡ true → isReadyKind (b .kind) ≡ false → aheadOf a b ≡ true
   unfolding aheadOf
   ahead-alone e f =
-      cond-false (not (readyKind (a .kind))) false _ (ap not e) ∙ cond-true (not (readyKind (b .kind))) true _ (ap not f)
+      cond-false (not (isReadyKind (a .kind))) false _ (ap not e) ∙ cond-true (not (isReadyKind (b .kind))) true _ (ap not f)
 
-  ahead-both : readyKind (a .kind) ≡ true → readyKind (b .kind) ≡ true →
+  ahead-both : isReadyKind (a .kind) ≡ true → isReadyKind (b .kind) ≡ true →
       aheadOf a b ≡
       cond (eqb (a .priority .0) (b .priority .0)) (ltb (a .position) (b .position)) (ltb (b .priority .0) (a .priority .0))
   unfolding aheadOf
   ahead-both e f =
-      cond-false (not (readyKind (a .kind))) false _ (ap not e) ∙ cond-false (not (readyKind (b .kind))) true _ (ap not f)
+      cond-false (not (isReadyKind (a .kind))) false _ (ap not e) ∙ cond-false (not (isReadyKind (b .kind))) true _ (ap not f)
 
-  pub ahead-equal : readyKind (a .kind) ≡ true → readyKind (b .kind) ≡ true → a .priority .0 ≡ b .priority .0 →
+  pub ahead-equal : isReadyKind (a .kind) ≡ true → isReadyKind (b .kind) ≡ true → a .priority .0 ≡ b .priority .0 →
       aheadOf a b ≡ ltb (a .position) (b .position)
   ahead-equal e f s = ahead-both e f ∙ cond-true (eqb (a .priority .0) (b .priority .0)) _ _ (eq-eqb _ _ s)
 
-  pub ahead-other : readyKind (a .kind) ≡ true → readyKind (b .kind) ≡ true → (a .priority .0 ≡ b .priority .0 → ⊥) →
+  pub ahead-other : isReadyKind (a .kind) ≡ true → isReadyKind (b .kind) ≡ true → (a .priority .0 ≡ b .priority .0 → ⊥) →
       aheadOf a b ≡ ltb (b .priority .0) (a .priority .0)
   ahead-other e f n = ahead-both e f ∙ cond-false (eqb (a .priority .0) (b .priority .0)) _ _ (ne-eqb _ _ n)
 
@@ -66,27 +66,27 @@ looked-all n h = cond-false (ltb rowLimit n) 0 n (le-ltb rowLimit n h)
 
 -- the answer, by the tests in their order
 module _ (n : ℕ) (b : Best) where
-  pub finish-many : rowLimit < n → finishOf n b ≡ NextAnswer.TooManyRows
-  unfolding finishOf
+  pub finish-many : rowLimit < n → concluded n b ≡ NextAnswer.TooManyRows
+  unfolding concluded
   finish-many h = cond-true (ltb rowLimit n) NextAnswer.TooManyRows _ (lt-ltb rowLimit n h)
 
   module _ (h : n ≤ rowLimit) where
-    pub finish-bad : b .bad ≡ true → finishOf n b ≡ NextAnswer.BadPriority
-    unfolding finishOf
+    pub finish-bad : b .bad ≡ true → concluded n b ≡ NextAnswer.BadPriority
+    unfolding concluded
     finish-bad e =
         cond-false (ltb rowLimit n) NextAnswer.TooManyRows _ (le-ltb rowLimit n h) ∙ cond-true (b .bad) NextAnswer.BadPriority _ e
 
     finish-good : b .bad ≡ false →
-        finishOf n b ≡ cond (readyKind (b .row .kind)) (NextAnswer.Row (b .number)) NextAnswer.Nobody
-    unfolding finishOf
+        concluded n b ≡ cond (isReadyKind (b .row .kind)) (NextAnswer.Row (b .number)) NextAnswer.Nobody
+    unfolding concluded
     finish-good e =
         cond-false (ltb rowLimit n) NextAnswer.TooManyRows _ (le-ltb rowLimit n h) ∙ cond-false (b .bad) NextAnswer.BadPriority _ e
 
-    pub finish-row : b .bad ≡ false → readyKind (b .row .kind) ≡ true → finishOf n b ≡ NextAnswer.Row (b .number)
-    finish-row e f = finish-good e ∙ cond-true (readyKind (b .row .kind)) (NextAnswer.Row (b .number)) NextAnswer.Nobody f
+    pub finish-row : b .bad ≡ false → isReadyKind (b .row .kind) ≡ true → concluded n b ≡ NextAnswer.Row (b .number)
+    finish-row e f = finish-good e ∙ cond-true (isReadyKind (b .row .kind)) (NextAnswer.Row (b .number)) NextAnswer.Nobody f
 
-    pub finish-nobody : b .bad ≡ false → readyKind (b .row .kind) ≡ false → finishOf n b ≡ NextAnswer.Nobody
-    finish-nobody e f = finish-good e ∙ cond-false (readyKind (b .row .kind)) (NextAnswer.Row (b .number)) NextAnswer.Nobody f
+    pub finish-nobody : b .bad ≡ false → isReadyKind (b .row .kind) ≡ false → concluded n b ≡ NextAnswer.Nobody
+    finish-nobody e f = finish-good e ∙ cond-false (isReadyKind (b .row .kind)) (NextAnswer.Row (b .number)) NextAnswer.Nobody f
 
 -- the first rows of an array
 pub first-many : (rows : List Row) (count : ℕ) → rowLimit < count → nextFirstOf rows count ≡ toldOf NextAnswer.TooManyRows

@@ -28,8 +28,8 @@ use Rattle.dispatch.specs.declared.Listed.the-variants.{Number, Nothing}
 use Rattle.dispatch.proofs.ReaderLaws.{has-none, has-some, there, list-room, entry-there, queue-is, queue-none}
 use Rattle.board.specs.declared.PlaceKind.{PlaceKind}
 use Rattle.board.specs.declared.Row.{Row}
-use Rattle.board.specs.Rows.{readyKind}
-use Rattle.board.specs.Fill.{kindOf, standBefore, positionOf, rowOf}
+use Rattle.board.specs.Rows.{isReadyKind}
+use Rattle.board.specs.Fill.{kindOf, standBefore, queuePosition, rowOf}
 use Rattle.board.proofs.StateLaws.{view-sound}
 
 -- ---- how many tasks a state has: as many as it says, cut to the limit
@@ -113,7 +113,7 @@ module _ (s : State) (t : ℕ) where
   rowWith x p a = record { kind = x; priority = p; position = a }
 
   abbrev rowFrom : PlaceKind → Priority → Row
-  rowFrom x p = rowWith x p (cond (readyKind x) (standBefore t (queueOf s p)) 0)
+  rowFrom x p = rowWith x p (cond (isReadyKind x) (standBefore t (queueOf s p)) 0)
 
   in-level : soundOf s ≡ true → t < length (view s .tasks) → inRange (active (view s) t) ≡ true
   in-level good h =
@@ -121,16 +121,16 @@ module _ (s : State) (t : ℕ) where
       bounds-in (active (view s) t) (act-low (view s) taskLimit c t h) (act-high (view s) taskLimit c t h)
 
   row-is : soundOf s ≡ true → t < length (view s .tasks) → rowFrom (kindOf (taskOf s t .place)) (activeOf s t) ≡ rowOf (view s) t
-  unfolding rowOf positionOf taskOf activeOf queueOf
+  unfolding rowOf queuePosition taskOf activeOf queueOf
   row-is good h =
-      ap (λ (q : List ℕ). rowWith kind (activeOf s t) (cond (readyKind kind) (standBefore t q) 0))
+      ap (λ (q : List ℕ). rowWith kind (activeOf s t) (cond (isReadyKind kind) (standBefore t q) 0))
       (cond-true (inRange (active (view s) t)) _ [] (in-level good h))
     where
       kind : PlaceKind
       kind = kindOf (taskAt (view s) t .place)
 
   pub row-made : (k : Task) (x : PlaceKind) (p : Priority) (a : ℕ) → (soundOf s ≡ true) × (t < length (view s .tasks)) →
-      k ≡ taskOf s t → x ≡ kindOf (k .place) → p ≡ activeOf s t → a ≡ cond (readyKind x) (standBefore t (queueOf s p)) 0 →
+      k ≡ taskOf s t → x ≡ kindOf (k .place) → p ≡ activeOf s t → a ≡ cond (isReadyKind x) (standBefore t (queueOf s p)) 0 →
       rowWith x p a ≡ rowOf (view s) t
   row-made k x p a asked e f g h =
       ap (rowWith x p) h ∙ ap (rowFrom x) g ∙

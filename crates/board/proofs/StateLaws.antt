@@ -23,7 +23,7 @@ use Rattle.board.specs.declared.FillAnswer.{FillAnswer}
 use Rattle.board.specs.declared.NextAnswer.{NextAnswer}
 use Rattle.board.specs.Rows.{rowLimit, Filling, fillNumber, fillingOf, behind, toldOf}
 use Rattle.board.specs.Scan.{nextOf}
-use Rattle.board.specs.Fill.{rowOf, rowsTo, rowsOf, answerOf, boardAfter, fillOf, fillFirstOf, pairsWritten}
+use Rattle.board.specs.Fill.{rowOf, rowsTo, rowsOf, fillAnswerOf, boardAfter, fillOf, fillFirstOf, rowsWritten}
 use Rattle.board.proofs.FillLaws.{rows-length, filled-ready, filled-nobody}
 use Rattle.board.proofs.FoldLaws.{filledTo, filled-length, filled-is}
 
@@ -37,25 +37,25 @@ module _ (s : State) (n : ℕ) where
   abbrev count : ℕ
   count = length (view s .tasks)
 
-  pub answer-few : soundOf s ≡ true → n < count → answerOf s n ≡ FillAnswer.TooFewRows
-  unfolding answerOf
+  pub answer-few : soundOf s ≡ true → n < count → fillAnswerOf s n ≡ FillAnswer.TooFewRows
+  unfolding fillAnswerOf
   answer-few e h = cond-true (soundOf s) _ FillAnswer.Unsound e ∙ cond-true (ltb n count) _ _ (lt-ltb n count h)
 
-  pub answer-done : soundOf s ≡ true → count ≤ n → answerOf s n ≡ FillAnswer.Done
-  unfolding answerOf
+  pub answer-done : soundOf s ≡ true → count ≤ n → fillAnswerOf s n ≡ FillAnswer.Done
+  unfolding fillAnswerOf
   answer-done e h = cond-true (soundOf s) _ FillAnswer.Unsound e ∙ cond-false (ltb n count) _ _ (le-ltb n count h)
 
-  pub answer-unsound : soundOf s ≡ false → answerOf s n ≡ FillAnswer.Unsound
-  unfolding answerOf
+  pub answer-unsound : soundOf s ≡ false → fillAnswerOf s n ≡ FillAnswer.Unsound
+  unfolding fillAnswerOf
   answer-unsound e = cond-false (soundOf s) _ FillAnswer.Unsound e
 
   -- how many rows are written: there is room for them, and none where the state is not sound
-  pub written-room : (i : ℕ) → i < pairsWritten s (answerOf s n) → (soundOf s ≡ true) × ((i < count) × (count ≤ n))
-  unfolding answerOf
+  pub written-room : (i : ℕ) → i < rowsWritten s (fillAnswerOf s n) → (soundOf s ≡ true) × ((i < count) × (count ≤ n))
+  unfolding fillAnswerOf
   written-room i = go (soundOf s) (ltb n count) refl refl
     where
       go : (a b : Bool) → soundOf s ≡ a → ltb n count ≡ b →
-          i < pairsWritten s (cond a (cond b FillAnswer.TooFewRows FillAnswer.Done) FillAnswer.Unsound) →
+          i < rowsWritten s (cond a (cond b FillAnswer.TooFewRows FillAnswer.Done) FillAnswer.Unsound) →
           (soundOf s ≡ true) × ((i < count) × (count ≤ n))
       go true true e f h = absurd (not-suc-le-zero h)
       go true false e f h = (e, (h, ltb-false n count f))
@@ -64,15 +64,15 @@ module _ (s : State) (n : ℕ) where
 -- ---- the board after it
 module _ (s : State) (ys : List Row) where
   abbrev told : FillAnswer
-  told = answerOf s (length ys)
+  told = fillAnswerOf s (length ys)
 
   -- what the walk leaves is what is promised
-  pub board-is : filledTo (rowOf (view s)) (pairsWritten s told) ys ≡ boardAfter s told ys
+  pub board-is : filledTo (rowOf (view s)) (rowsWritten s told) ys ≡ boardAfter s told ys
   unfolding boardAfter rowsTo
   board-is = go told (λ i h. written-room s (length ys) i h .1 .1)
     where
-      go : (a : FillAnswer) → ((i : ℕ) → i < pairsWritten s a → length (view s .tasks) ≤ length ys) →
-          filledTo (rowOf (view s)) (pairsWritten s a) ys ≡ boardAfter s a ys
+      go : (a : FillAnswer) → ((i : ℕ) → i < rowsWritten s a → length (view s .tasks) ≤ length ys) →
+          filledTo (rowOf (view s)) (rowsWritten s a) ys ≡ boardAfter s a ys
       go FillAnswer.Done h =
           filled-is (rowOf (view s)) (rowsTo (view s)) refl (λ n. refl) (length (view s .tasks)) ys (room (length (view s .tasks)) h)
         where
@@ -84,7 +84,7 @@ module _ (s : State) (ys : List Row) where
 
   -- no row is added and none is lost
   pub board-length : length (boardAfter s told ys) ≡ length ys
-  board-length = ap length (sym board-is) ∙ filled-length (rowOf (view s)) (pairsWritten s told) ys
+  board-length = ap length (sym board-is) ∙ filled-length (rowOf (view s)) (rowsWritten s told) ys
 
   -- ---- a board just filled from a sound state
   module _ (good : soundOf s ≡ true) (room : length (view s .tasks) ≤ length ys) where
@@ -112,11 +112,11 @@ module _ (s : State) (rows : List Row) (count : ℕ) where
   fill-few h = cond-false (ltb rowLimit count) _ _ (le-ltb rowLimit count h)
 
   -- with more than there are, no row is lent: a sound state has a task
-  pub fill-many : rowLimit < count → fillFirstOf s rows count ≡ fillingOf (answerOf s 0) rows
+  pub fill-many : rowLimit < count → fillFirstOf s rows count ≡ fillingOf (fillAnswerOf s 0) rows
   fill-many h =
       cond-true (ltb rowLimit count) _ _ (lt-ltb rowLimit count h) ∙ ap (λ (a : FillAnswer). fillingOf a rows) (go (soundOf s) refl)
     where
-      go : (b : Bool) → soundOf s ≡ b → cond (soundOf s) FillAnswer.TooFewRows FillAnswer.Unsound ≡ answerOf s 0
+      go : (b : Bool) → soundOf s ≡ b → cond (soundOf s) FillAnswer.TooFewRows FillAnswer.Unsound ≡ fillAnswerOf s 0
       go true e =
           cond-true (soundOf s) _ _ e ∙ sym (answer-few s 0 e (sound-is (view s) (view-sound s e) .numbers .some))
       go false e = cond-false (soundOf s) _ _ e ∙ sym (answer-unsound s 0 e)

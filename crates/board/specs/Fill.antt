@@ -13,7 +13,7 @@ use Rattle.dispatch.specs.declared.State.{State}
 use Rattle.board.specs.declared.PlaceKind.{PlaceKind}
 use Rattle.board.specs.declared.Row.{Row}
 use Rattle.board.specs.declared.FillAnswer.{FillAnswer}
-use Rattle.board.specs.Rows.{rowLimit, readyKind, Filling, fillingOf, behind}
+use Rattle.board.specs.Rows.{rowLimit, isReadyKind, Filling, fillingOf, behind}
 
 -- "place kind (one of the five above)"
 abbrev pub kindOf : Place → PlaceKind
@@ -29,12 +29,12 @@ standBefore t [] = 0
 standBefore t (u ∷ us) = cond (eqb u t) 0 (suc (standBefore t us))
 
 -- "position in its queue (0 at the head, 0 if not ready)"
-unfoldable pub positionOf : Model → ℕ → ℕ
-positionOf m t = cond (readyKind (kindOf (taskAt m t .place))) (standBefore t (queue m (active m t))) 0
+unfoldable pub queuePosition : Model → ℕ → ℕ
+queuePosition m t = cond (isReadyKind (kindOf (taskAt m t .place))) (standBefore t (queue m (active m t))) 0
 
 -- the row of task t: "place kind, active priority, position in its queue"
 unfoldable pub rowOf : Model → ℕ → Row
-rowOf m t = record { kind = kindOf (taskAt m t .place); priority = record { 0 = active m t }; position = positionOf m t }
+rowOf m t = record { kind = kindOf (taskAt m t .place); priority = record { 0 = active m t }; position = queuePosition m t }
 
 -- "one row per task": the rows of the first n tasks, and of all
 unfoldable pub rowsTo : Model → ℕ → List Row
@@ -45,8 +45,8 @@ abbrev pub rowsOf : Model → List Row
 rowsOf m = rowsTo m (length (m .tasks))
 
 -- "with an unsound state it answers 10, else with too few rows 13": the answer for a board of n rows
-unfoldable pub answerOf : State → ℕ → FillAnswer
-answerOf s n = cond (soundOf s) (cond (ltb n (length (view s .tasks))) FillAnswer.TooFewRows FillAnswer.Done) FillAnswer.Unsound
+unfoldable pub fillAnswerOf : State → ℕ → FillAnswer
+fillAnswerOf s n = cond (soundOf s) (cond (ltb n (length (view s .tasks))) FillAnswer.TooFewRows FillAnswer.Done) FillAnswer.Unsound
 
 -- "Filling it writes the first rows, one per task, and no others"; refused, it "writes nothing"
 unfoldable pub boardAfter : State → FillAnswer → List Row → List Row
@@ -56,7 +56,7 @@ boardAfter s FillAnswer.TooFewRows board = board
 
 -- what filling a board is promised to give
 abbrev pub fillOf : State → List Row → Filling
-fillOf s board = fillingOf (answerOf s (length board)) (boardAfter s (answerOf s (length board)) board)
+fillOf s board = fillingOf (fillAnswerOf s (length board)) (boardAfter s (fillAnswerOf s (length board)) board)
 
 -- the same for the first rows of an array, the others staying as they are; with more of them than there are, 10 or else 13
 abbrev pub fillFirstOf : State → List Row → ℕ → Filling
@@ -65,7 +65,7 @@ fillFirstOf s rows count =
     (behind (fillOf s (take count rows)) (drop count rows))
 
 -- how many rows are written with an answer
-abbrev pub pairsWritten : State → FillAnswer → ℕ
-pairsWritten s FillAnswer.Done = length (view s .tasks)
-pairsWritten s FillAnswer.Unsound = 0
-pairsWritten s FillAnswer.TooFewRows = 0
+abbrev pub rowsWritten : State → FillAnswer → ℕ
+rowsWritten s FillAnswer.Done = length (view s .tasks)
+rowsWritten s FillAnswer.Unsound = 0
+rowsWritten s FillAnswer.TooFewRows = 0

@@ -7,7 +7,7 @@ use lib.ListN.{length}
 use Rattle.rules.specs.Priorities.{inRange}
 use Rattle.board.specs.declared.Row.{Row}
 use Rattle.board.specs.declared.NextAnswer.{NextAnswer}
-use Rattle.board.specs.Rows.{rowLimit, readyKind, rowAt, Told, toldOf}
+use Rattle.board.specs.Rows.{rowLimit, isReadyKind, rowAt, Told, toldOf}
 
 -- a row's columns
 abbrev pub priorityAt : List Row → ℕ → ℕ
@@ -19,7 +19,7 @@ positionAt rows i = rowAt rows i .position
 -- a row of the board that is ready
 pub record ReadyRow (rows : List Row) (i : ℕ) : Type 0 where
   pub there : i < length rows
-  pub ready : readyKind (rowAt rows i .kind) ≡ true
+  pub ready : isReadyKind (rowAt rows i .kind) ≡ true
 
 -- row i comes before row j: "the highest priority, then lowest position, then lowest row"
 pub data Before (rows : List Row) (i j : ℕ) : Type 0 where

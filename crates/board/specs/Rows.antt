@@ -17,12 +17,12 @@ abbrev pub rowLimit : ℕ
 rowLimit = taskLimit
 
 -- a row is ready by its place kind, "one of the five above"
-abbrev pub readyKind : PlaceKind → Bool
-readyKind Running = false
-readyKind Ready = true
-readyKind Delayed = false
-readyKind Suspended = false
-readyKind Ended = false
+abbrev pub isReadyKind : PlaceKind → Bool
+isReadyKind Running = false
+isReadyKind Ready = true
+isReadyKind Delayed = false
+isReadyKind Suspended = false
+isReadyKind Ended = false
 
 -- what a row past the last reads as
 abbrev pub noRow : Row

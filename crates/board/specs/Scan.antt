@@ -8,13 +8,13 @@ use Rattle.rules.specs.Priorities.{inRange}
 use Rattle.board.specs.declared.Row.{Row}
 use Rattle.board.specs.declared.scan.Best.{Best}
 use Rattle.board.specs.declared.NextAnswer.{NextAnswer}
-use Rattle.board.specs.Rows.{rowLimit, readyKind, noRow, rowAt, Told, toldOf}
+use Rattle.board.specs.Rows.{rowLimit, isReadyKind, noRow, rowAt, Told, toldOf}
 
 -- a later row a comes before the best so far, b: only where its priority is higher, or the same and its position lower
 unfoldable pub aheadOf : Row → Row → Bool
 aheadOf a b =
-    cond (not (readyKind (a .kind))) false
-    (cond (not (readyKind (b .kind))) true
+    cond (not (isReadyKind (a .kind))) false
+    (cond (not (isReadyKind (b .kind))) true
     (cond (eqb (a .priority .0) (b .priority .0)) (ltb (a .position) (b .position)) (ltb (b .priority .0) (a .priority .0))))
 
 -- no row so far; a row that is not ready stands for nobody
@@ -38,14 +38,14 @@ abbrev pub lookedOf : ℕ → ℕ
 lookedOf n = cond (ltb rowLimit n) 0 n
 
 -- 13; 3; a row, or nobody
-unfoldable pub finishOf : ℕ → Best → NextAnswer
-finishOf n b =
+unfoldable pub concluded : ℕ → Best → NextAnswer
+concluded n b =
     cond (ltb rowLimit n) NextAnswer.TooManyRows
     (cond (b .bad) NextAnswer.BadPriority
-    (cond (readyKind (b .row .kind)) (NextAnswer.Row (b .number)) NextAnswer.Nobody))
+    (cond (isReadyKind (b .row .kind)) (NextAnswer.Row (b .number)) NextAnswer.Nobody))
 
 abbrev pub scanOf : List Row → NextAnswer
-scanOf rows = finishOf (length rows) (bestOf rows (lookedOf (length rows)))
+scanOf rows = concluded (length rows) (bestOf rows (lookedOf (length rows)))
 
 -- what a board is promised to answer
 abbrev pub nextOf : List Row → Told

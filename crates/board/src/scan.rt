@@ -2,8 +2,8 @@
 ghost use mathlib.Core.Path.{_≡_};
 ghost use mathlib.Core.Bool.{not, _||_};
 ghost use Rattle.rules.specs.Priorities.{inRange};
-ghost use Rattle.board.specs.Rows.{readyKind};
-ghost use Rattle.board.specs.Scan.{aheadOf, bestNone, betterOf, lookedOf, finishOf};
+ghost use Rattle.board.specs.Rows.{isReadyKind};
+ghost use Rattle.board.specs.Scan.{aheadOf, bestNone, betterOf, lookedOf, concluded};
 use crate::NextAnswer;
 use crate::PlaceKind;
 use crate::ROW_LIMIT;
@@ -41,7 +41,7 @@ pub fn best_none() -> Best
 }
 
 pub fn is_ready(kind: PlaceKind) -> bool
-    ensures { λ r. ⌜ r ≡ readyKind kind ⌝ }
+    ensures { λ r. ⌜ r ≡ isReadyKind kind ⌝ }
 {
     match kind {
         PlaceKind::Running => false,
@@ -53,7 +53,7 @@ pub fn is_ready(kind: PlaceKind) -> bool
 }
 
 fn ready(row: Row) -> bool
-    ensures { λ r. ⌜ r ≡ readyKind (row .kind) ⌝ }
+    ensures { λ r. ⌜ r ≡ isReadyKind (row .kind) ⌝ }
 {
     let kind = row.kind;
     is_ready(kind)
@@ -118,7 +118,7 @@ pub fn better(best: Best, i: usize, row: Row) -> Best
 
 // The answer for n rows, of which the best is known.
 pub fn finish(n: usize, best: Best) -> NextAnswer
-    ensures { λ r. ⌜ r ≡ finishOf n best ⌝ }
+    ensures { λ r. ⌜ r ≡ concluded n best ⌝ }
 {
     if ROW_LIMIT < n {
         return NextAnswer::TooManyRows;

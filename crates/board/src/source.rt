@@ -7,8 +7,8 @@ ghost use lib.ListN.{length, getD};
 ghost use Rattle.dispatch.specs.State.{view};
 ghost use Rattle.dispatch.specs.Sound.{soundOf};
 ghost use Rattle.dispatch.specs.Readers.{queueOf};
-ghost use Rattle.board.specs.Rows.{readyKind};
-ghost use Rattle.board.specs.Fill.{kindOf, standBefore, rowOf, answerOf, pairsWritten};
+ghost use Rattle.board.specs.Rows.{isReadyKind};
+ghost use Rattle.board.specs.Fill.{kindOf, standBefore, rowOf, fillAnswerOf, rowsWritten};
 use crate::FillAnswer;
 use crate::PlaceKind;
 use crate::ROW_LIMIT;
@@ -29,7 +29,7 @@ fn tasks_in(state: State) -> usize
 
 // What filling a board of n rows answers.
 pub fn fill_answer(state: State, n: usize) -> FillAnswer
-    ensures { λ r. ⌜ r ≡ answerOf state n ⌝ }
+    ensures { λ r. ⌜ r ≡ fillAnswerOf state n ⌝ }
 {
     if state.sound() {
         if n < tasks_in(state) {
@@ -42,7 +42,7 @@ pub fn fill_answer(state: State, n: usize) -> FillAnswer
 
 // How many rows are written with that answer.
 pub fn written(state: State, answer: FillAnswer) -> usize
-    ensures { λ r. ⌜ r ≡ pairsWritten state answer ⌝ }
+    ensures { λ r. ⌜ r ≡ rowsWritten state answer ⌝ }
 {
     let n = tasks_in(state);
     match answer {
@@ -92,7 +92,7 @@ fn stand_before(state: State, p: Priority, t: usize) -> usize
 
 // The position of t in the queue for p; 0 if it is not ready.
 fn position(state: State, kind: PlaceKind, p: Priority, t: usize) -> u8
-    ensures { λ r. ⌜ r ≡ cond (readyKind kind) (standBefore t (queueOf state p)) 0 ⌝ }
+    ensures { λ r. ⌜ r ≡ cond (isReadyKind kind) (standBefore t (queueOf state p)) 0 ⌝ }
 {
     if is_ready(kind) {
         return stand_before(state, p, t) as u8;

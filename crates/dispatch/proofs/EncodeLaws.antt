@@ -19,8 +19,8 @@ use Rattle.rules.proofs.SoundLaws.{sound-is}
 use Rattle.rules.proofs.Soundness.{ready-room, held-room-of}
 use Rattle.memory.specs.Rows.{rowFor, heldWidth, heldIn, queueWidth, queuesIn}
 use Rattle.memory.specs.Tasks.{blankTask, tasksIn}
-use Rattle.memory.specs.Memory.{nowCell, runningCell, taskCount, objectCount, runnerOf, waitingIn, recordOf, together, allRecords}
-use Rattle.memory.specs.Memory.{modelOf, Laid}
+use Rattle.memory.specs.Memory.{nowCell, runningCell, taskCountIn, objectCountIn, runnerOf, waitingIn, recordOf, together, allRecords}
+use Rattle.memory.specs.Memory.{modelOf, LaidOut}
 use Rattle.memory.proofs.GridLaws.{list-count}
 use Rattle.memory.proofs.TaskLaws.{tasks-count}
 use Rattle.memory.proofs.MemoryLaws.{records-count, count-is, objects-is}
@@ -129,34 +129,34 @@ module _ (m : Model) (s : sound m ≡ true) where
       rw (held, ready, tasks-there (m .tasks), ceilings-there (m .ceilings))
 
 -- slices that are laid out
-module _ {h ts hd cs qs : List ℕ} (d : Laid h ts hd cs qs) where
+module _ {h ts hd cs qs : List ℕ} (d : LaidOut h ts hd cs qs) where
   same-count : length (tasksIn ts) ≡ length (heldIn hd)
   same-count = tasks-count ts ∙ sym (list-count heldWidth taskLimit hd)
 
   pub tasks-back : encode (modelOf h ts hd cs qs) .tasks ≡ tasksIn ts
   unfolding encode waitingFor
   tasks-back =
-      padded-back taskFor (taskCount h) taskLimit (allRecords ts hd) blank (omega (arith, records-count ts hd, d .count)) (d .unused) ∙
+      padded-back taskFor (taskCountIn h) taskLimit (allRecords ts hd) blank (omega (arith, records-count ts hd, d .count)) (d .unused) ∙
       together-tasks (tasksIn ts) (heldIn hd) same-count
 
   pub held-back : encode (modelOf h ts hd cs qs) .held ≡ hd
   unfolding encode
   held-back =
-      let back = padded-back holding (taskCount h) taskLimit (allRecords ts hd) blank
+      let back = padded-back holding (taskCountIn h) taskLimit (allRecords ts hd) blank
       (omega (arith, records-count ts hd, d .count)) (d .unused) in
       ap (flatMap (rowFor heldWidth)) (back ∙ together-held (tasksIn ts) (heldIn hd) same-count) ∙ lists-back heldWidth taskLimit
       hd (d .held)
 
   pub ceilings-back : encode (modelOf h ts hd cs qs) .ceilings ≡ map priority cs
   unfolding encode
-  ceilings-back = padded-back priority (objectCount h) objectLimit cs 0 (omega (arith, d .objects, d .ceilings)) (d .zeros)
+  ceilings-back = padded-back priority (objectCountIn h) objectLimit cs 0 (omega (arith, d .objects, d .ceilings)) (d .zeros)
 
   pub queues-back : encode (modelOf h ts hd cs qs) .queues ≡ qs
   unfolding encode
   queues-back = lists-back queueWidth lastPriority qs (d .queues)
 
   -- the whole
-  pub encode-back : (now tasks objects : ℕ) → now ≡ getD h nowCell 0 → tasks ≡ taskCount h → objects ≡ objectCount h →
+  pub encode-back : (now tasks objects : ℕ) → now ≡ getD h nowCell 0 → tasks ≡ taskCountIn h → objects ≡ objectCountIn h →
       (w : _) → w ≡ runnerOf (getD h runningCell 0) → (ks : List Task) → ks ≡ tasksIn ts → (ps : List Priority) → ps ≡ map priority cs →
       record {
         now = now;

@@ -25,25 +25,25 @@ use Rattle.rules.specs.Lists.{without}
 use Rattle.engine.specs.declared.effects.Due.{Due as Found}
 use Rattle.memory.specs.Rows.{heldBy, Held, HeldBecame}
 use Rattle.memory.specs.Tasks.{taskIn, Tasks, TaskBecame, placed, based, waited}
-use Rattle.memory.specs.Memory.{nowCell, runningCell, tasksCell, taskCount, runnerOf, waitingIn, modelOf, Laid, Means}
-use Rattle.engine.specs.Room.{settled, dueOf, someDue}
+use Rattle.memory.specs.Memory.{nowCell, runningCell, tasksCell, taskCountIn, runnerOf, waitingIn, modelOf, LaidOut, Means}
+use Rattle.engine.specs.Room.{settled, ruleDueOf, someDue}
 use Rattle.memory.proofs.TaskLaws.{then-became}
 use Rattle.memory.proofs.MemoryLaws.{then-means, means-by, count-is, task-is, held-is, waiting-is, run-law, now-law}
 use Rattle.memory.proofs.MemoryLaws.{task-law, place-law, waiting-law, held-law}
 
 -- the head's counts stay where the running task changes
-pub still-counted : (h : List ℕ) (v : ℕ) → taskCount (set h runningCell v) ≡ taskCount h
+pub still-counted : (h : List ℕ) (v : ℕ) → taskCountIn (set h runningCell v) ≡ taskCountIn h
 still-counted h v = getD-set-other h runningCell tasksCell v 0 (omega arith)
 
 pub still-read : (h : List ℕ) (v : ℕ) → getD (set h runningCell v) nowCell 0 ≡ getD h nowCell 0
 still-read h v = getD-set-other h runningCell nowCell v 0 (omega arith)
 
-module _ {h ts hd cs qs : List ℕ} (d : Laid h ts hd cs qs) where
+module _ {h ts hd cs qs : List ℕ} (d : LaidOut h ts hd cs qs) where
   -- a task that is there: its record and its held list can be read
-  pub readable : (t : ℕ) → t < taskCount h → (t < taskLimit) × Tasks ts
+  pub readable : (t : ℕ) → t < taskCountIn h → (t < taskLimit) × Tasks ts
   readable t g = (omega (arith, d .count), d .tasks)
 
-  pub holdable : (t : ℕ) → t < taskCount h → (t < taskLimit) × Held hd
+  pub holdable : (t : ℕ) → t < taskCountIn h → (t < taskLimit) × Held hd
   holdable t g = (omega (arith, d .count), d .held)
 
   -- the running task stops; and goes away to the place x
@@ -51,7 +51,7 @@ module _ {h ts hd cs qs : List ℕ} (d : Laid h ts hd cs qs) where
   unfolding stopped runnerOf
   stop-law = run-law d 0
 
-  pub away-law : {ts' : List ℕ} (t : ℕ) (x : Place) → t < taskCount h → TaskBecame ts ts' t (placed (taskIn ts t) x) →
+  pub away-law : {ts' : List ℕ} (t : ℕ) (x : Place) → t < taskCountIn h → TaskBecame ts ts' t (placed (taskIn ts t) x) →
       Means (set h runningCell 0) ts' hd cs qs
       (withTask (stopped (modelOf h ts hd cs qs)) t (withPlace (taskAt (modelOf h ts hd cs qs) t) x))
   unfolding stopped runnerOf
@@ -60,7 +60,7 @@ module _ {h ts hd cs qs : List ℕ} (d : Laid h ts hd cs qs) where
       then-means (λ (m : Model). withRunning m Nobody) y (run-law (y .laid) 0)
 
   -- a waiting base takes effect
-  pub effect-law : {ts₁ ts₂ : List ℕ} (t : ℕ) (p : Priority) → t < taskCount h → TaskBecame ts ts₁ t (based (taskIn ts t) p) →
+  pub effect-law : {ts₁ ts₂ : List ℕ} (t : ℕ) (p : Priority) → t < taskCountIn h → TaskBecame ts ts₁ t (based (taskIn ts t) p) →
       TaskBecame ts₁ ts₂ t (waited (taskIn ts₁ t) Nothing) →
       Means (set h runningCell 0) ts₂ hd cs qs (settled (modelOf h ts hd cs qs) t (p .0))
   unfolding stopped runnerOf waitingIn
@@ -70,42 +70,42 @@ module _ {h ts hd cs qs : List ℕ} (d : Laid h ts hd cs qs) where
       means-by (then-means (λ (m : Model). withRunning m Nobody) y (run-law (y .laid) 0)) (rw (task-is d t g))
 
   -- a base waits
-  pub wait-law : {ts' : List ℕ} (t : ℕ) (p : Priority) → t < taskCount h → TaskBecame ts ts' t (waited (taskIn ts t) (Base p)) →
+  pub wait-law : {ts' : List ℕ} (t : ℕ) (p : Priority) → t < taskCountIn h → TaskBecame ts ts' t (waited (taskIn ts t) (Base p)) →
       Means h ts' hd cs qs (withTask (modelOf h ts hd cs qs) t (withWaiting (taskAt (modelOf h ts hd cs qs) t) (waits (p .0))))
   unfolding waitingIn
   wait-law t p g b = waiting-law d t (Base p) g b
 
   -- what is read of a waiting base
-  pub waits-none : (t : ℕ) (w : WaitingBase) → t < taskCount h → w ≡ taskIn ts t .waiting → w ≡ Nothing →
+  pub waits-none : (t : ℕ) (w : WaitingBase) → t < taskCountIn h → w ≡ taskIn ts t .waiting → w ≡ Nothing →
       taskAt (modelOf h ts hd cs qs) t .waiting ≡ none
   unfolding waitingIn
   waits-none t w g e f = waiting-is d t g ∙ ap waitingIn (sym e ∙ f)
 
-  pub waits-base : (t : ℕ) (w : WaitingBase) (p : Priority) → t < taskCount h → w ≡ taskIn ts t .waiting → w ≡ Base p →
+  pub waits-base : (t : ℕ) (w : WaitingBase) (p : Priority) → t < taskCountIn h → w ≡ taskIn ts t .waiting → w ≡ Base p →
       taskAt (modelOf h ts hd cs qs) t .waiting ≡ waits (p .0)
   unfolding waitingIn
   waits-base t w p g e f = waiting-is d t g ∙ ap waitingIn (sym e ∙ f)
 
   -- how much a task holds
-  depth-is : (t n : ℕ) → t < taskCount h → n ≡ length (heldBy hd t) → n ≡ length (taskAt (modelOf h ts hd cs qs) t .held)
+  depth-is : (t n : ℕ) → t < taskCountIn h → n ≡ length (heldBy hd t) → n ≡ length (taskAt (modelOf h ts hd cs qs) t .held)
   depth-is t n g e = e ∙ ap length (sym (held-is d t g))
 
-  pub inside-is : (t n : ℕ) → t < taskCount h → n ≡ length (heldBy hd t) → 0 < n → inside (taskAt (modelOf h ts hd cs qs) t) ≡ true
+  pub inside-is : (t n : ℕ) → t < taskCountIn h → n ≡ length (heldBy hd t) → 0 < n → inside (taskAt (modelOf h ts hd cs qs) t) ≡ true
   inside-is t n g e z = lt-ltb 0 (length (taskAt (modelOf h ts hd cs qs) t .held)) (omega (arith, depth-is t n g e))
 
-  pub outside-is : (t n : ℕ) → t < taskCount h → n ≡ length (heldBy hd t) → n ≤ 0 → inside (taskAt (modelOf h ts hd cs qs) t) ≡ false
+  pub outside-is : (t n : ℕ) → t < taskCountIn h → n ≡ length (heldBy hd t) → n ≤ 0 → inside (taskAt (modelOf h ts hd cs qs) t) ≡ false
   outside-is t n g e z = le-ltb 0 (length (taskAt (modelOf h ts hd cs qs) t .held)) (omega (arith, depth-is t n g e))
 
   -- the object that it entered last
-  last-is : (t x : ℕ) → t < taskCount h → x ≡ getD (heldBy hd t) (length (heldBy hd t) - 1) 0 →
+  last-is : (t x : ℕ) → t < taskCountIn h → x ≡ getD (heldBy hd t) (length (heldBy hd t) - 1) 0 →
       x ≡ getD (taskAt (modelOf h ts hd cs qs) t .held) (length (taskAt (modelOf h ts hd cs qs) t .held) - 1) 0
   last-is t x g e = e ∙ rw (held-is d t g)
 
-  pub innermost-none : (t o n : ℕ) → t < taskCount h → n ≡ length (heldBy hd t) → n ≤ 0 →
+  pub innermost-none : (t o n : ℕ) → t < taskCountIn h → n ≡ length (heldBy hd t) → n ≤ 0 →
       innermost (taskAt (modelOf h ts hd cs qs) t) o ≡ false
   innermost-none t o n g e z = rw (outside-is t n g e z)
 
-  module _ (t o n x : ℕ) (g : t < taskCount h) (e : n ≡ length (heldBy hd t)) (z : 0 < n)
+  module _ (t o n x : ℕ) (g : t < taskCountIn h) (e : n ≡ length (heldBy hd t)) (z : 0 < n)
       (f : x ≡ getD (heldBy hd t) (length (heldBy hd t) - 1) 0) where
     pub innermost-other : (x ≡ o → ⊥) → innermost (taskAt (modelOf h ts hd cs qs) t) o ≡ false
     innermost-other k = rw (inside-is t n g e z) (ne-eqb _ o (λ i. k (last-is t x g f ∙ i)))
@@ -115,14 +115,14 @@ module _ {h ts hd cs qs : List ℕ} (d : Laid h ts hd cs qs) where
 
   -- a clock reading, and the wakings
   pub clock-law : {ts' qs' : List ℕ} (r : ℕ) →
-      Means (set h nowCell r) ts' hd cs qs' (wakeUp r (taskCount (set h nowCell r)) (modelOf (set h nowCell r) ts hd cs qs)) →
+      Means (set h nowCell r) ts' hd cs qs' (wakeUp r (taskCountIn (set h nowCell r)) (modelOf (set h nowCell r) ts hd cs qs)) →
       Means (set h nowCell r) ts' hd cs qs'
       (takeReading (modelOf h ts hd cs qs) r)
   clock-law r y =
       let x = now-law d r in
-      let count : taskCount (set h nowCell r) ≡ length (modelOf h ts hd cs qs .tasks) =
+      let count : taskCountIn (set h nowCell r) ≡ length (modelOf h ts hd cs qs .tasks) =
       getD-set-other h nowCell tasksCell r 0 (omega arith) ∙ sym (count-is d) in
-      means-by (then-means (wakeUp r (taskCount (set h nowCell r))) x y)
+      means-by (then-means (wakeUp r (taskCountIn (set h nowCell r))) x y)
       (ap (λ (n : ℕ). wakeUp r n (withNow (modelOf h ts hd cs qs) r)) count)
 
   -- who is due does not depend on the reading in the slices
@@ -132,11 +132,11 @@ module _ {h ts hd cs qs : List ℕ} (d : Laid h ts hd cs qs) where
   due-now r = sym (ap (λ (m : Model). someDue (firstDue r nobody 0 (m .tasks))) (now-law d r .same))
 
   -- one object more, one object less
-  pub hold-law : {hd' : List ℕ} (t o : ℕ) → t < taskCount h → HeldBecame hd hd' t (heldBy hd t ++ (o ∷ [])) →
+  pub hold-law : {hd' : List ℕ} (t o : ℕ) → t < taskCountIn h → HeldBecame hd hd' t (heldBy hd t ++ (o ∷ [])) →
       Means h ts hd' cs qs (takeHold (modelOf h ts hd cs qs) o t)
   hold-law t o g b = means-by (held-law d t _ g b) (rw (held-is d t g))
 
-  pub give-up-law : {hd' : List ℕ} (t : ℕ) → t < taskCount h →
+  pub give-up-law : {hd' : List ℕ} (t : ℕ) → t < taskCountIn h →
       HeldBecame hd hd' t (take (length (heldBy hd t) - 1) (heldBy hd t)) →
       Means h ts hd' cs qs (giveUp (modelOf h ts hd cs qs) t)
   give-up-law t g b = means-by (held-law d t _ g b) (rw (held-is d t g))
@@ -154,9 +154,9 @@ unfolding firstDue
 search-end r t best ks h f = sym (f ∙ rw (drop-of-length-le ks {i = t} h))
 
 -- what the search has found, in the Model that the slices mean
-pub found-due : (r : ℕ) (x y : Found) (n m : Model) → n ≡ m → dueOf x ≡ firstDue r nobody 0 (n .tasks) → x ≡ y →
-    firstDue r nobody 0 (m .tasks) ≡ dueOf y
-found-due r x y n m e f g = sym (ap (λ (z : Model). firstDue r nobody 0 (z .tasks)) e) ∙ (sym f ∙ ap dueOf g)
+pub found-due : (r : ℕ) (x y : Found) (n m : Model) → n ≡ m → ruleDueOf x ≡ firstDue r nobody 0 (n .tasks) → x ≡ y →
+    firstDue r nobody 0 (m .tasks) ≡ ruleDueOf y
+found-due r x y n m e f g = sym (ap (λ (z : Model). firstDue r nobody 0 (z .tasks)) e) ∙ (sym f ∙ ap ruleDueOf g)
 
 -- the ways of a requeue
 module _ (m : Model) (t p : ℕ) (x : Place) where

@@ -20,11 +20,11 @@ use Rattle.rules.proofs.EventLaws.{rest-permit}
 use Rattle.rules.proofs.Pending.{Good}
 use Rattle.rules.proofs.StillLaws.{still-now, still-permit}
 use Rattle.engine.specs.declared.effects.Due.{Due}
-use Rattle.engine.specs.Room.{isSuspended, dueOf, someDue}
-use Rattle.memory.specs.Memory.{modelOf, Laid, Means, Did}
+use Rattle.engine.specs.Room.{isSuspended, ruleDueOf, someDue}
+use Rattle.memory.specs.Memory.{modelOf, LaidOut, Means, Did}
 
 -- refused; or accepted with the Model n before the dispatch
-pub did-not : {h ts hd cs qs : List ℕ} {r : Moved} (a : Answer) → Laid h ts hd cs qs → r ≡ refused (modelOf h ts hd cs qs) a →
+pub did-not : {h ts hd cs qs : List ℕ} {r : Moved} (a : Answer) → LaidOut h ts hd cs qs → r ≡ refused (modelOf h ts hd cs qs) a →
     Did h ts hd cs qs a r
 did-not a d e =
     record { same = sym (ap (λ (x : Moved). x .model) e); laid = d; answer = sym (ap (λ (x : Moved). x .answer) e) }
@@ -66,14 +66,14 @@ unfolding dueAt
 due-later r t d x e h = sym (ap (dueAt r t) e ∙ cond-false _ _ _ (lt-leb d r h))
 
 module _ (t d u e : ℕ) (x y : Due) (f : x ≡ Due.Task t d) (g : y ≡ Due.Task u e) where
-  two-due : earlier (dueOf x) (dueOf y) ≡ earlier (task t d) (task u e)
-  two-due = ap (λ (v : Due). earlier (dueOf v) (dueOf y)) f ∙ ap (λ (v : Due). earlier (task t d) (dueOf v)) g
+  two-due : earlier (ruleDueOf x) (ruleDueOf y) ≡ earlier (task t d) (task u e)
+  two-due = ap (λ (v : Due). earlier (ruleDueOf v) (ruleDueOf y)) f ∙ ap (λ (v : Due). earlier (task t d) (ruleDueOf v)) g
 
-  pub former-first : d ≤ e → task t d ≡ earlier (dueOf x) (dueOf y)
+  pub former-first : d ≤ e → task t d ≡ earlier (ruleDueOf x) (ruleDueOf y)
   unfolding earlier
   former-first h = sym (two-due ∙ cond-true _ _ _ (le-leb d e h))
 
-  pub latter-first : e < d → task u e ≡ earlier (dueOf x) (dueOf y)
+  pub latter-first : e < d → task u e ≡ earlier (ruleDueOf x) (ruleDueOf y)
   unfolding earlier
   latter-first h = sym (two-due ∙ cond-false _ _ _ (lt-leb d e h))
 

@@ -13,7 +13,7 @@ use Rattle.rules.proofs.FreshLaws.{Joined, join-core, join-one, joined-none}
 use Rattle.memory.specs.Rows.{rows, queueWidth, heldWidth}
 use Rattle.memory.specs.Tasks.{taskWidth, blankTask, tasksIn}
 use Rattle.memory.specs.Memory.{nowCell, runningCell, tasksCell, objectsCell, headWidth, runnerOf, waitingIn, together}
-use Rattle.memory.specs.Memory.{taskCount, allRecords, modelOf, Means}
+use Rattle.memory.specs.Memory.{taskCountIn, allRecords, modelOf, Means}
 use Rattle.engine.specs.Fresh.{newcomer, Startable, Enrolled, JoinAll}
 use Rattle.engine.specs.Room.{Dispatches}
 use Rattle.memory.proofs.BlankLaws.{blank-lists, blank-good, blank-tasks}
@@ -129,9 +129,9 @@ module _ (bs cs : List ℕ) (s : Startable bs cs) where
 
 -- all tasks of a fresh start have joined
 pub joined-law : {h ts hd cs qs ts' qs' given : List ℕ} (bs : List ℕ) → Means h ts hd cs qs (unstarted bs given) →
-    Means h ts' hd cs qs' (joinFrom 0 (taskCount h) (modelOf h ts hd cs qs)) →
+    Means h ts' hd cs qs' (joinFrom 0 (taskCountIn h) (modelOf h ts hd cs qs)) →
     Means h ts' hd cs qs' (joinFrom 0 (length bs) (unstarted bs given))
 joined-law {h = h} {given = given} bs x y =
-    let count : taskCount h ≡ length bs =
+    let count : taskCountIn h ≡ length bs =
     sym (count-is (x .laid)) ∙ (ap (λ (m : Model). length (m .tasks)) (x .same) ∙ new-count bs) in
-    means-by (then-means (joinFrom 0 (taskCount h)) x y) (ap (λ (n : ℕ). joinFrom 0 n (unstarted bs given)) count)
+    means-by (then-means (joinFrom 0 (taskCountIn h)) x y) (ap (λ (n : ℕ). joinFrom 0 n (unstarted bs given)) count)

@@ -16,13 +16,13 @@ use Rattle.rules.proofs.Levels.{highest-top, highest-full}
 use Rattle.rules.proofs.MoveLaws.{dispatch-idle, dispatch-start, dispatch-stay, dispatch-switch}
 use Rattle.memory.specs.Rows.{HasQueue, queueIn, Queues, QueueBecame}
 use Rattle.memory.specs.Tasks.{taskIn, Tasks, TaskBecame, placed}
-use Rattle.memory.specs.Memory.{runningCell, taskCount, runnerOf, modelOf, Laid, Means}
+use Rattle.memory.specs.Memory.{runningCell, taskCountIn, runnerOf, modelOf, LaidOut, Means}
 use Rattle.engine.specs.Room.{Joins, Starts, Dispatches}
 use Rattle.memory.proofs.MemoryLaws.{then-means, means-by, count-is, run-law, queue-law, place-law}
 
 -- the tasks' slice is good for a task that is there
-module _ {h ts hd cs qs : List ℕ} (d : Laid h ts hd cs qs) where
-  pub counted : {t : ℕ} → t < length (modelOf h ts hd cs qs .tasks) → t < taskCount h
+module _ {h ts hd cs qs : List ℕ} (d : LaidOut h ts hd cs qs) where
+  pub counted : {t : ℕ} → t < length (modelOf h ts hd cs qs .tasks) → t < taskCountIn h
   counted g = omega (arith, count-is d)
 
   pub writable : {t : ℕ} → t < length (modelOf h ts hd cs qs .tasks) → (t < taskLimit) × Tasks ts

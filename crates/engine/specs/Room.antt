@@ -54,9 +54,9 @@ pub record Releases (m : Model) (t : ℕ) : Type 0 where
   pub suspended : isSuspended (taskAt m t .place) ≡ true → Joins m t
 
 -- a task that is due, as the rules have it
-abbrev pub dueOf : Due → RuleDue
-dueOf Nobody = nobody
-dueOf (Task t d) = task t d
+abbrev pub ruleDueOf : Due → RuleDue
+ruleDueOf Nobody = nobody
+ruleDueOf (Task t d) = task t d
 
 -- whether anybody is due
 abbrev pub someDue : RuleDue → Bool

@@ -6,7 +6,7 @@ ghost use lib.ListN.{length, drop, replicate};
 ghost use Rattle.rules.specs.Limits.{taskLimit};
 ghost use Rattle.rules.specs.Fresh.{unstarted, joinFrom, freshModel};
 ghost use Rattle.memory.specs.Tasks.{Tasks};
-ghost use Rattle.memory.specs.Memory.{taskCount, modelOf, Laid, Means};
+ghost use Rattle.memory.specs.Memory.{taskCountIn, modelOf, LaidOut, Means};
 ghost use Rattle.engine.specs.Fresh.{Sized, Startable, Enrolled, JoinAll};
 use crate::moves;
 use memory::sizes::HEAD_WIDTH;
@@ -82,11 +82,11 @@ fn join_all(
     ceilings: &[u8],
     queues: &mut [u8],
 )
-    requires { ⌜ Laid (now head) (now tasks) (now held) (now ceilings) (now queues) ⌝ }
+    requires { ⌜ LaidOut (now head) (now tasks) (now held) (now ceilings) (now queues) ⌝ }
     requires { ⌜ JoinAll (modelOf (now head) (now tasks) (now held) (now ceilings) (now queues)) ⌝ }
     ensures { λ u.
         ⌜ Means (now (head .entry)) (now (tasks .exit)) (now (held .entry)) (now (ceilings .entry)) (now (queues .exit))
-        (joinFrom 0 (taskCount (now (head .entry)))
+        (joinFrom 0 (taskCountIn (now (head .entry)))
         (modelOf (now (head .entry)) (now (tasks .entry)) (now (held .entry)) (now (ceilings .entry)) (now (queues .entry)))) ⌝ }
 {
     let n = head[TASKS_CELL] as usize;

@@ -2,7 +2,7 @@
 ghost use Prim.Native.Nat.{_<_};
 ghost use Rattle.rules.specs.Model.{active};
 ghost use Rattle.rules.specs.Moves.{becomeReady, preempt, start, dispatch};
-ghost use Rattle.memory.specs.Memory.{modelOf, Laid, Means};
+ghost use Rattle.memory.specs.Memory.{modelOf, LaidOut, Means};
 ghost use Rattle.engine.specs.Room.{Joins, Starts, Dispatches};
 use memory::priorities;
 use memory::queues;
@@ -21,7 +21,7 @@ pub fn become_ready(
     queues: &mut [u8],
     t: usize,
 )
-    requires { ⌜ Laid (now head) (now tasks) (now held) (now ceilings) (now queues) ⌝ }
+    requires { ⌜ LaidOut (now head) (now tasks) (now held) (now ceilings) (now queues) ⌝ }
     requires { ⌜ Joins (modelOf (now head) (now tasks) (now held) (now ceilings) (now queues)) t ⌝ }
     ensures { λ u.
         ⌜ Means (now (head .entry)) (now (tasks .exit)) (now (held .entry)) (now (ceilings .entry)) (now (queues .exit))
@@ -43,7 +43,7 @@ pub fn preempt(
     queues: &mut [u8],
     t: usize,
 )
-    requires { ⌜ Laid (now head) (now tasks) (now held) (now ceilings) (now queues) ⌝ }
+    requires { ⌜ LaidOut (now head) (now tasks) (now held) (now ceilings) (now queues) ⌝ }
     requires { ⌜ Joins (modelOf (now head) (now tasks) (now held) (now ceilings) (now queues)) t ⌝ }
     ensures { λ u.
         ⌜ Means (now (head .exit)) (now (tasks .exit)) (now (held .entry)) (now (ceilings .entry)) (now (queues .exit))
@@ -66,7 +66,7 @@ pub fn start(
     queues: &mut [u8],
     p: Priority,
 )
-    requires { ⌜ Laid (now head) (now tasks) (now held) (now ceilings) (now queues) ⌝ }
+    requires { ⌜ LaidOut (now head) (now tasks) (now held) (now ceilings) (now queues) ⌝ }
     requires { ⌜ Starts (modelOf (now head) (now tasks) (now held) (now ceilings) (now queues)) (p .0) ⌝ }
     ensures { λ u.
         ⌜ Means (now (head .exit)) (now (tasks .exit)) (now (held .entry)) (now (ceilings .entry)) (now (queues .exit))
@@ -88,7 +88,7 @@ pub fn dispatch(
     ceilings: &[u8],
     queues: &mut [u8],
 )
-    requires { ⌜ Laid (now head) (now tasks) (now held) (now ceilings) (now queues) ⌝ }
+    requires { ⌜ LaidOut (now head) (now tasks) (now held) (now ceilings) (now queues) ⌝ }
     requires { ⌜ Dispatches (modelOf (now head) (now tasks) (now held) (now ceilings) (now queues)) ⌝ }
     ensures { λ u.
         ⌜ Means (now (head .exit)) (now (tasks .exit)) (now (held .entry)) (now (ceilings .entry)) (now (queues .exit))

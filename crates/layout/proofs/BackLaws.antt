@@ -23,12 +23,12 @@ use Rattle.dispatch.specs.State.{level, priority}
 use Rattle.dispatch.specs.Loading.{Shaped}
 use Rattle.dispatch.specs.declared.State.{State}
 use Rattle.words.proofs.ListLaws.{map-at}
-use Rattle.layout.specs.Sizes.{nobodyByte, taskSize, kindCell, baseCell, waitsCell, waitingCell, permitCell}
+use Rattle.layout.specs.Sizes.{nobodyCode, taskSize, kindOffset, baseOffset, waitsOffset, waitingOffset, permitOffset}
 use Rattle.layout.specs.Sizes.{tasksStart, ceilingsStart, heldStart, queuesStart}
 use Rattle.words.specs.Words.{tabulate, byteAt, wordAt, numberAt}
-use Rattle.layout.specs.Decode.{runnerOf, placeOf, waitingOf, taskFrom, tasksFrom, cellsFrom}
+use Rattle.layout.specs.Decode.{runnerFrom, placeFrom, waitingFrom, taskFrom, tasksFrom, cellsFrom}
 use Rattle.layout.specs.Decode.{stateOfBytes}
-use Rattle.layout.specs.Encode.{lowBytes, runningByte, kindByte, waitsByte, waitingByte, taskTail, taskBytes, headTail, headBytes}
+use Rattle.layout.specs.Encode.{lowBytes, runnerCode, kindByte, waitsByte, waitingByte, taskTail, taskBytes, headTail, headBytes}
 use Rattle.layout.specs.Encode.{bytesOfState, numberValues, Fits}
 use Rattle.words.proofs.TableLaws.{tabulate-of}
 use Rattle.layout.proofs.PutLaws.{task-length}
@@ -65,21 +65,21 @@ number-back : (n : ℕ) (r : List ℕ) → n < numberValues → numberAt (lowByt
 unfolding numberAt wordAt lowBytes
 number-back n r h = omega arith
 
-runner-back : (w : Runner) → ((t : ℕ) → w ≡ Runs t → t < nobodyByte) → runnerOf (runningByte w) ≡ w
-unfolding runnerOf
+runner-back : (w : Runner) → ((t : ℕ) → w ≡ Runs t → t < nobodyCode) → runnerFrom (runnerCode w) ≡ w
+unfolding runnerFrom
 runner-back Nobody f = refl
-runner-back (Runs t) f = rw (ne-eqb t nobodyByte (λ e. let h = f t refl in omega arith))
+runner-back (Runs t) f = rw (ne-eqb t nobodyCode (λ e. let h = f t refl in omega arith))
 
-place-back : (x : Place) → placeOf (kindByte x) (dueOf x) ≡ x
-unfolding placeOf
+place-back : (x : Place) → placeFrom (kindByte x) (dueOf x) ≡ x
+unfolding placeFrom
 place-back Running = refl
 place-back Ready = refl
 place-back (Delayed d) = refl
 place-back Suspended = refl
 place-back Ended = refl
 
-waiting-back : (w : WaitingBase) → waitingOf (waitsByte w) (waitingByte w) ≡ w
-unfolding waitingOf
+waiting-back : (w : WaitingBase) → waitingFrom (waitsByte w) (waitingByte w) ≡ w
+unfolding waitingFrom
 waiting-back Nothing = refl
 waiting-back (Base p) = refl
 
@@ -102,11 +102,11 @@ module _ (p r : List ℕ) (n : ℕ) (e : length p ≡ n) (k : Task) (h : dueOf (
   unfolding taskFrom taskBytes lowBytes taskTail
   task-here =
       rw (
-        cell kindCell (kindByte (k .place)) refl,
-        cell baseCell (k .base .0) refl,
-        cell waitsCell (waitsByte (k .waiting)) refl,
-        cell waitingCell (waitingByte (k .waiting)) refl,
-        cell permitCell (bit (k .permit)) refl,
+        cell kindOffset (kindByte (k .place)) refl,
+        cell baseOffset (k .base .0) refl,
+        cell waitsOffset (waitsByte (k .waiting)) refl,
+        cell waitingOffset (waitingByte (k .waiting)) refl,
+        cell permitOffset (bit (k .permit)) refl,
         due,
         place-back (k .place),
         waiting-back (k .waiting),

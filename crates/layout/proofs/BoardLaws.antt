@@ -15,7 +15,7 @@ use Rattle.board.specs.declared.Row.{Row}
 use Rattle.board.specs.declared.NextAnswer.{NextAnswer}
 use Rattle.board.proofs.NextLaws.{next-is}
 use Rattle.board.proofs.ScanLaws.{first-many, first-few, finish-many}
-use Rattle.layout.specs.Sizes.{nobodyByte, readyKind, delayedKind, suspendedKind, endedKind}
+use Rattle.layout.specs.Sizes.{nobodyCode, readyCode, delayedCode, suspendedCode, endedCode}
 use Rattle.words.specs.Words.{tabulate}
 use Rattle.layout.specs.Boards.{rowSize, kindFrom, kindNumber, rowFrom, rowsFrom, rowCount, rowBytes}
 use Rattle.layout.specs.Boards.{rowByte, packedTold, nextNumber}
@@ -23,10 +23,10 @@ use Rattle.words.proofs.TableLaws.{length-tabulate, tabulate-take}
 use Rattle.words.proofs.CopyLaws.{sets-append}
 
 -- a kind that is none of the other four
-pub running-kind : (k : ℕ) → (k ≡ readyKind → ⊥) → (k ≡ delayedKind → ⊥) → (k ≡ suspendedKind → ⊥) → (k ≡ endedKind → ⊥) →
+pub running-kind : (k : ℕ) → (k ≡ readyCode → ⊥) → (k ≡ delayedCode → ⊥) → (k ≡ suspendedCode → ⊥) → (k ≡ endedCode → ⊥) →
     Running ≡ kindFrom k
 unfolding kindFrom
-running-kind k a b c d = rw (ne-eqb k readyKind a, ne-eqb k delayedKind b, ne-eqb k suspendedKind c, ne-eqb k endedKind d)
+running-kind k a b c d = rw (ne-eqb k readyCode a, ne-eqb k delayedCode b, ne-eqb k suspendedCode c, ne-eqb k endedCode d)
 
 -- a row is three bytes
 pub row-put : (l l' : List ℕ) (at : ℕ) (r : Row) (kind : ℕ) → kind ≡ kindNumber (r .kind) →
@@ -67,13 +67,13 @@ rows-end whole rs out i h g =
     sym (g ∙ ap (λ (l : List Row). sets out (rowSize * i) (flatMap rowBytes l)) (drop-of-length-le rs {i = i} h))
 
 -- a row that is named is one of those there may be
-told-small : (rows : List Row) (t : Told) → Answers rows t → rowByte (t .next) ≤ nobodyByte
+told-small : (rows : List Row) (t : Told) → Answers rows t → rowByte (t .next) ≤ nobodyCode
 told-small rows t (tooMany h) = omega arith
 told-small rows t (bad h b) = omega arith
 told-small rows t (named h g i r) = omega (arith, r .ready .there)
 told-small rows t (none h g f) = omega arith
 
-pub next-small : (rows : List Row) → rowByte (nextOf rows .next) ≤ nobodyByte
+pub next-small : (rows : List Row) → rowByte (nextOf rows .next) ≤ nobodyCode
 next-small rows = told-small rows (nextOf rows) (next-is rows)
 
 -- the next of all rows is that of the first of them, or 13
@@ -93,7 +93,7 @@ module _ (b : List ℕ) (rows : List Row) (a : NextAnswer) (number byte : ℕ) (
   unfolding rowsFrom
   told-next = f ∙ (ap (λ (l : List Row). nextFirstOf l (rowCount b)) e ∙ next-all (λ i. rowFrom b (rowSize * i)) (rowCount b))
 
-  pub byte-small : byte ≤ nobodyByte
+  pub byte-small : byte ≤ nobodyCode
   byte-small = rw (j, told-next) (next-small (rowsFrom b (rowCount b)))
 
   pub next-packed : number + 256 * byte ≡ nextNumber b

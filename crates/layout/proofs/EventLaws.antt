@@ -15,9 +15,9 @@ use Rattle.dispatch.specs.Sound.{soundOf}
 use Rattle.dispatch.specs.Methods.{appliedOf, freshOf}
 use Rattle.dispatch.specs.declared.State.{State}
 use Rattle.dispatch.specs.declared.Stepped.{Stepped}
-use Rattle.layout.specs.Sizes.{nobodyByte, stateSize}
+use Rattle.layout.specs.Sizes.{nobodyCode, stateSize}
 use Rattle.layout.specs.Decode.{stateOfBytes}
-use Rattle.layout.specs.Encode.{runningByte, withState}
+use Rattle.layout.specs.Encode.{runnerCode, withState}
 use Rattle.layout.proofs.WriteLaws.{state-kept}
 use Rattle.layout.specs.Events.{unlessShort, eventNumber, eventBytes, freshNumber, freshBytes, soundNumber, runningNumber}
 
@@ -97,13 +97,13 @@ module _ (b : List ℕ) (n : ℕ) where
         i ∙ sym (own ∙ cond-false (soundOf (stateOfBytes b)) 0 _ (tested ∙ g))
 
 -- who runs
-pub running-short : (b : List ℕ) → length b < stateSize → nobodyByte ≡ runningNumber b
+pub running-short : (b : List ℕ) → length b < stateSize → nobodyCode ≡ runningNumber b
 unfolding runningNumber
-running-short b h = sym (cond-true (ltb (length b) stateSize) nobodyByte _ (lt-ltb (length b) stateSize h))
+running-short b h = sym (cond-true (ltb (length b) stateSize) nobodyCode _ (lt-ltb (length b) stateSize h))
 
-pub running-told : (b : List ℕ) (s : State) (n : ℕ) → stateSize ≤ length b → s ≡ stateOfBytes b → n ≡ runningByte (s .running) →
+pub running-told : (b : List ℕ) (s : State) (n : ℕ) → stateSize ≤ length b → s ≡ stateOfBytes b → n ≡ runnerCode (s .running) →
     n ≡ runningNumber b
 unfolding runningNumber
 running-told b s n h e f =
-    f ∙ (ap (λ (x : State). runningByte (x .running)) e ∙
-    sym (cond-false (ltb (length b) stateSize) nobodyByte _ (le-ltb (length b) stateSize h)))
+    f ∙ (ap (λ (x : State). runnerCode (x .running)) e ∙
+    sym (cond-false (ltb (length b) stateSize) nobodyCode _ (le-ltb (length b) stateSize h)))

@@ -19,7 +19,7 @@ use Rattle.dispatch.specs.Loading.{Shaped}
 use Rattle.dispatch.specs.declared.State.{State}
 use Rattle.dispatch.proofs.LoadLaws.{fitting}
 use Rattle.board.specs.Rows.{rowLimit, fillNumber, Filling, fillingOf, behind}
-use Rattle.board.specs.Fill.{rowsOf, answerOf, boardAfter, fillOf, fillFirstOf}
+use Rattle.board.specs.Fill.{rowsOf, fillAnswerOf, boardAfter, fillOf, fillFirstOf}
 use Rattle.board.specs.declared.PlaceKind.the-variants.{Ended}
 use Rattle.board.specs.declared.Row.{Row}
 use Rattle.board.specs.declared.FillAnswer.{FillAnswer}
@@ -64,16 +64,16 @@ module _ (s : State) (known : Shaped s) where
       (λ h. omega (arith, tasks-cut s known h))
 
   -- rows that no task can have do not change the answer
-  lent-answer : (n : ℕ) → answerOf s (lentOf n) ≡ answerOf s n
-  unfolding answerOf
+  lent-answer : (n : ℕ) → fillAnswerOf s (lentOf n) ≡ fillAnswerOf s n
+  unfolding fillAnswerOf
   lent-answer n =
       compare n rowLimit
-      (λ h. ap (answerOf s) (cond-false (ltb rowLimit n) rowLimit n (le-ltb rowLimit n h)))
-      (λ h. ap (answerOf s) (cond-true (ltb rowLimit n) rowLimit n (lt-ltb rowLimit n h)) ∙
+      (λ h. ap (fillAnswerOf s) (cond-false (ltb rowLimit n) rowLimit n (le-ltb rowLimit n h)))
+      (λ h. ap (fillAnswerOf s) (cond-true (ltb rowLimit n) rowLimit n (lt-ltb rowLimit n h)) ∙
       rw (le-ltb rowLimit count most, le-ltb n count (omega (arith, most))))
 
   -- 0 is answered for a sound state with room for its tasks
-  done-sound : (n : ℕ) → answerOf s n ≡ FillAnswer.Done → (soundOf s ≡ true) × (count ≤ n)
+  done-sound : (n : ℕ) → fillAnswerOf s n ≡ FillAnswer.Done → (soundOf s ≡ true) × (count ≤ n)
   done-sound n e = go (soundOf s) refl
     where
       go : (t : Bool) → soundOf s ≡ t → (soundOf s ≡ true) × (count ≤ n)
@@ -107,17 +107,17 @@ module _ (b board : List ℕ) (room : stateSize ≤ length b) (s : State) (e : s
   whole : fillingOf a rows ≡ behind (fillOf s (take k blank)) (drop k blank)
   whole = filled ∙ fill-few s blank k few
 
-  answered : answerOf s (length (take k blank)) ≡ answerOf s (rowCount board)
-  answered = ap (answerOf s) (taken ∙ lent) ∙ lent-answer s shaped (rowCount board)
+  answered : fillAnswerOf s (length (take k blank)) ≡ fillAnswerOf s (rowCount board)
+  answered = ap (fillAnswerOf s) (taken ∙ lent) ∙ lent-answer s shaped (rowCount board)
 
-  number : fillNumber a ≡ fillNumber (answerOf s (rowCount board))
+  number : fillNumber a ≡ fillNumber (fillAnswerOf s (rowCount board))
   number = ap (λ (x : Filling). x .number) whole ∙ ap fillNumber answered
 
   fill-number : n ≡ fillAnswer b board
   unfolding fillAnswer
   fill-number =
-      told ∙ (number ∙ (ap (λ (x : State). fillNumber (answerOf x (rowCount board))) e ∙
-      sym (own-answer b (fillNumber (answerOf (stateOfBytes b) (rowCount board))) room)))
+      told ∙ (number ∙ (ap (λ (x : State). fillNumber (fillAnswerOf x (rowCount board))) e ∙
+      sym (own-answer b (fillNumber (fillAnswerOf (stateOfBytes b) (rowCount board))) room)))
 
   pub fill-refused : (n ≡ 0 → ⊥) → (n ≡ fillAnswer b board) × (board ≡ filledBytes b board)
   unfolding filledBytes
@@ -125,8 +125,8 @@ module _ (b board : List ℕ) (room : stateSize ≤ length b) (s : State) (e : s
       (fill-number, sym (cond-false (eqb (fillAnswer b board) 0) _ board (ne-eqb _ 0 (λ x. z (fill-number ∙ x)))))
 
   module _ (z : n ≡ 0) where
-    done : answerOf s (rowCount board) ≡ FillAnswer.Done
-    done = done-only (answerOf s (rowCount board)) (sym number ∙ (sym told ∙ z))
+    done : fillAnswerOf s (rowCount board) ≡ FillAnswer.Done
+    done = done-only (fillAnswerOf s (rowCount board)) (sym number ∙ (sym told ∙ z))
 
     good : (soundOf s ≡ true) × (length (view s .tasks) ≤ rowCount board)
     good = done-sound s shaped (rowCount board) done
@@ -166,5 +166,5 @@ pub fill-short : (b board : List ℕ) (n : ℕ) → n ≡ numberOf Unsound → l
     (n ≡ fillAnswer b board) × (board ≡ filledBytes b board)
 unfolding fillAnswer filledBytes
 fill-short b board n i h =
-    let same = short-answer b (fillNumber (answerOf (stateOfBytes b) (rowCount board))) h in
+    let same = short-answer b (fillNumber (fillAnswerOf (stateOfBytes b) (rowCount board))) h in
     (i ∙ sym same, sym (cond-false _ _ board (ne-eqb _ 0 (λ z. let clash = sym same ∙ z in omega arith))))

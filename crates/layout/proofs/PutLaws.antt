@@ -10,7 +10,7 @@ use Rattle.rules.specs.declared.Task.{Task}
 use Rattle.layout.specs.Sizes.{taskSize, tasksStart}
 use Rattle.memory.specs.Tasks.{dueOf, bit}
 use Rattle.dispatch.specs.declared.State.{State}
-use Rattle.layout.specs.Encode.{lowBytes, runningByte, kindByte, waitsByte, waitingByte, taskTail, taskBytes, headTail, headBytes}
+use Rattle.layout.specs.Encode.{lowBytes, runnerCode, kindByte, waitsByte, waitingByte, taskTail, taskBytes, headTail, headBytes}
 
 pub put-behind : (l l' l'' xs ys : List ℕ) (i j : ℕ) → l' ≡ sets l i xs → l'' ≡ sets l' j ys → j ≡ i + length xs → l'' ≡ sets l i (xs ++ ys)
 put-behind l l' l'' xs ys i j e f g =
@@ -92,7 +92,7 @@ module _ (l l' l'' : List ℕ) (at j : ℕ) (next : j ≡ at + 8) where
   task-put k due kind waits waiting on e1 e2 e3 e4 e5 f g =
       behind-number due (kind ∷ (k .base .0 ∷ (waits ∷ (waiting ∷ (on ∷ (0 ∷ (0 ∷ (0 ∷ [])))))))) f g ∙ rw (e1, e2, e3, e4, e5)
 
-  pub head-put : (s : State) (running : ℕ) → running ≡ runningByte (s .running) → l' ≡ sets l at (lowBytes 8 (s .now)) →
+  pub head-put : (s : State) (running : ℕ) → running ≡ runnerCode (s .running) → l' ≡ sets l at (lowBytes 8 (s .now)) →
       l'' ≡ sets l' j (running ∷ (s .«task_count» ∷ (s .«object_count» ∷ (0 ∷ (0 ∷ (0 ∷ (0 ∷ (0 ∷ [])))))))) → l'' ≡ sets l at (headBytes s)
   unfolding headBytes headTail
   head-put s running e f g =

@@ -7,11 +7,11 @@ use lib.ListN.{length, drop}
 use Rattle.dispatch.specs.State.{priority, view}
 use Rattle.board.specs.Rows.{rowLimit, Told, Named, nobody, row, fillNumber}
 use Rattle.board.specs.Scan.{nextOf}
-use Rattle.board.specs.Fill.{rowsOf, answerOf}
+use Rattle.board.specs.Fill.{rowsOf, fillAnswerOf}
 use Rattle.board.specs.declared.PlaceKind.{PlaceKind}
 use Rattle.board.specs.declared.PlaceKind.the-variants.{Running, Ready, Delayed, Suspended, Ended}
 use Rattle.board.specs.declared.Row.{Row}
-use Rattle.layout.specs.Sizes.{nobodyByte, runningKind, readyKind, delayedKind, suspendedKind, endedKind}
+use Rattle.layout.specs.Sizes.{nobodyCode, runningCode, readyCode, delayedCode, suspendedCode, endedCode}
 use Rattle.words.specs.Words.{tabulate, byteAt}
 use Rattle.layout.specs.Decode.{stateOfBytes}
 use Rattle.layout.specs.Events.{unlessShort}
@@ -22,17 +22,17 @@ rowSize = 3
 -- a kind that is none of the five reads as running, as in a state
 unfoldable pub kindFrom : ℕ → PlaceKind
 kindFrom k =
-    cond (eqb k readyKind) Ready
-    (cond (eqb k delayedKind) Delayed
-    (cond (eqb k suspendedKind) Suspended
-    (cond (eqb k endedKind) Ended Running)))
+    cond (eqb k readyCode) Ready
+    (cond (eqb k delayedCode) Delayed
+    (cond (eqb k suspendedCode) Suspended
+    (cond (eqb k endedCode) Ended Running)))
 
 abbrev pub kindNumber : PlaceKind → ℕ
-kindNumber Running = runningKind
-kindNumber Ready = readyKind
-kindNumber Delayed = delayedKind
-kindNumber Suspended = suspendedKind
-kindNumber Ended = endedKind
+kindNumber Running = runningCode
+kindNumber Ready = readyCode
+kindNumber Delayed = delayedCode
+kindNumber Suspended = suspendedCode
+kindNumber Ended = endedCode
 
 -- the row that starts at i, all rows, and the bytes for one
 unfoldable pub rowFrom : List ℕ → ℕ → Row
@@ -53,7 +53,7 @@ lentOf n = cond (ltb rowLimit n) rowLimit n
 
 -- "with an unsound state it answers 10, else with too few rows 13"; so do too few bytes for a state
 unfoldable pub fillAnswer : List ℕ → List ℕ → ℕ
-fillAnswer b board = unlessShort b (fillNumber (answerOf (stateOfBytes b) (rowCount board)))
+fillAnswer b board = unlessShort b (fillNumber (fillAnswerOf (stateOfBytes b) (rowCount board)))
 
 -- "Filling it writes the first rows, one per task, and no others"
 unfoldable pub filledBytes : List ℕ → List ℕ → List ℕ
@@ -64,7 +64,7 @@ filledBytes b board =
 
 -- the next row and the answer's number, in one: the number, and 256 times the row, 255 being nobody
 abbrev pub rowByte : Named → ℕ
-rowByte nobody = nobodyByte
+rowByte nobody = nobodyCode
 rowByte (row i) = i
 
 unfoldable pub packedTold : Told → ℕ

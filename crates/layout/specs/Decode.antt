@@ -15,35 +15,35 @@ use Rattle.rules.specs.declared.Task.{Task}
 use Rattle.memory.specs.Rows.{heldWidth, queueWidth}
 use Rattle.dispatch.specs.State.{priority}
 use Rattle.dispatch.specs.declared.State.{State}
-use Rattle.layout.specs.Sizes.{runningAt, taskCountAt, objectCountAt, nobodyByte, taskSize}
-use Rattle.layout.specs.Sizes.{kindCell, baseCell, waitsCell, waitingCell, permitCell}
-use Rattle.layout.specs.Sizes.{readyKind, delayedKind, suspendedKind, endedKind}
+use Rattle.layout.specs.Sizes.{runningAt, taskCountAt, objectCountAt, nobodyCode, taskSize}
+use Rattle.layout.specs.Sizes.{kindOffset, baseOffset, waitsOffset, waitingOffset, permitOffset}
+use Rattle.layout.specs.Sizes.{readyCode, delayedCode, suspendedCode, endedCode}
 use Rattle.layout.specs.Sizes.{tasksStart, ceilingsStart, heldStart, queuesStart}
 
 -- who runs; 255 is nobody
-unfoldable pub runnerOf : ℕ → Runner
-runnerOf b = cond (eqb b nobodyByte) Nobody (Runs b)
+unfoldable pub runnerFrom : ℕ → Runner
+runnerFrom b = cond (eqb b nobodyCode) Nobody (Runs b)
 
 -- a kind that is none of the five reads as running, as 0 does: of a task that does not run it makes the state unsound
-unfoldable pub placeOf : ℕ → ℕ → Place
-placeOf kind due =
-    cond (eqb kind readyKind) Ready
-    (cond (eqb kind delayedKind) (Delayed due)
-    (cond (eqb kind suspendedKind) Suspended
-    (cond (eqb kind endedKind) Ended Running)))
+unfoldable pub placeFrom : ℕ → ℕ → Place
+placeFrom kind due =
+    cond (eqb kind readyCode) Ready
+    (cond (eqb kind delayedCode) (Delayed due)
+    (cond (eqb kind suspendedCode) Suspended
+    (cond (eqb kind endedCode) Ended Running)))
 
 -- a base waits unless the byte before it is 0
-unfoldable pub waitingOf : ℕ → ℕ → WaitingBase
-waitingOf waits p = cond (eqb waits 0) Nothing (Base (priority p))
+unfoldable pub waitingFrom : ℕ → ℕ → WaitingBase
+waitingFrom waits p = cond (eqb waits 0) Nothing (Base (priority p))
 
 -- the task row that starts at i; a permit is off if its byte is 0
 unfoldable pub taskFrom : List ℕ → ℕ → Task
 taskFrom s i =
     record {
-      place = placeOf (byteAt s (i + kindCell)) (numberAt s i);
-      base = priority (byteAt s (i + baseCell));
-      waiting = waitingOf (byteAt s (i + waitsCell)) (byteAt s (i + waitingCell));
-      permit = not (eqb (byteAt s (i + permitCell)) 0);
+      place = placeFrom (byteAt s (i + kindOffset)) (numberAt s i);
+      base = priority (byteAt s (i + baseOffset));
+      waiting = waitingFrom (byteAt s (i + waitsOffset)) (byteAt s (i + waitingOffset));
+      permit = not (eqb (byteAt s (i + permitOffset)) 0);
     }
 
 unfoldable pub tasksFrom : List ℕ → List Task
@@ -58,7 +58,7 @@ unfoldable pub stateOfBytes : List ℕ → State
 stateOfBytes s =
     record {
       now = numberAt s 0;
-      running = runnerOf (byteAt s runningAt);
+      running = runnerFrom (byteAt s runningAt);
       «task_count» = byteAt s taskCountAt;
       «object_count» = byteAt s objectCountAt;
       tasks = tasksFrom s;

@@ -15,23 +15,23 @@ use Rattle.rules.specs.declared.Task.{Task}
 use Rattle.memory.specs.Tasks.{dueOf, bit, blankTask}
 use Rattle.dispatch.specs.State.{level}
 use Rattle.dispatch.specs.declared.State.{State}
-use Rattle.layout.specs.Sizes.{numberSize, nobodyByte, runningKind, readyKind, delayedKind, suspendedKind, endedKind, stateSize}
+use Rattle.layout.specs.Sizes.{numberSize, nobodyCode, runningCode, readyCode, delayedCode, suspendedCode, endedCode, stateSize}
 
 -- the k lowest bytes of a number, the lowest first
 unfoldable pub lowBytes : ℕ → ℕ → List ℕ
 lowBytes zero n = []
 lowBytes (suc k) n = n % 256 ∷ lowBytes k (n / 256)
 
-abbrev pub runningByte : Runner → ℕ
-runningByte Nobody = nobodyByte
-runningByte (Runs t) = t
+abbrev pub runnerCode : Runner → ℕ
+runnerCode Nobody = nobodyCode
+runnerCode (Runs t) = t
 
 abbrev pub kindByte : Place → ℕ
-kindByte Running = runningKind
-kindByte Ready = readyKind
-kindByte (Delayed d) = delayedKind
-kindByte Suspended = suspendedKind
-kindByte Ended = endedKind
+kindByte Running = runningCode
+kindByte Ready = readyCode
+kindByte (Delayed d) = delayedCode
+kindByte Suspended = suspendedCode
+kindByte Ended = endedCode
 
 -- whether a base waits, and which
 abbrev pub waitsByte : WaitingBase → ℕ
@@ -52,7 +52,7 @@ taskBytes k = lowBytes numberSize (dueOf (k .place)) ++ taskTail k
 
 -- the head
 unfoldable pub headTail : State → List ℕ
-headTail s = runningByte (s .running) ∷ (s .«task_count» ∷ (s .«object_count» ∷ (0 ∷ (0 ∷ (0 ∷ (0 ∷ (0 ∷ [])))))))
+headTail s = runnerCode (s .running) ∷ (s .«task_count» ∷ (s .«object_count» ∷ (0 ∷ (0 ∷ (0 ∷ (0 ∷ (0 ∷ [])))))))
 
 unfoldable pub headBytes : State → List ℕ
 headBytes s = lowBytes numberSize (s .now) ++ headTail s
@@ -71,5 +71,5 @@ numberValues = 18446744073709551616
 
 pub record Fits (s : State) : Type 0 where
   pub now : s .now < numberValues
-  pub running : (t : ℕ) → s .running ≡ Runs t → t < nobodyByte
+  pub running : (t : ℕ) → s .running ≡ Runs t → t < nobodyCode
   pub due : (t : ℕ) → dueOf (getD (s .tasks) t blankTask .place) < numberValues

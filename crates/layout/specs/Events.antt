@@ -10,9 +10,9 @@ use Rattle.rules.specs.declared.Answer.the-variants.{Unsound}
 use Rattle.dispatch.specs.Sound.{soundOf}
 use Rattle.dispatch.specs.Methods.{appliedOf, freshOf}
 use Rattle.dispatch.specs.declared.State.{State}
-use Rattle.layout.specs.Sizes.{nobodyByte, stateSize}
+use Rattle.layout.specs.Sizes.{nobodyCode, stateSize}
 use Rattle.layout.specs.Decode.{stateOfBytes}
-use Rattle.layout.specs.Encode.{runningByte, withState}
+use Rattle.layout.specs.Encode.{runnerCode, withState}
 
 -- too few bytes for a state answer 10
 abbrev pub unlessShort : List ℕ → ℕ → ℕ
@@ -42,4 +42,4 @@ soundNumber b = unlessShort b (cond (soundOf (stateOfBytes b)) 0 (numberOf Unsou
 
 -- who runs, 255 being nobody
 unfoldable pub runningNumber : List ℕ → ℕ
-runningNumber b = cond (ltb (length b) stateSize) nobodyByte (runningByte (stateOfBytes b .running))
+runningNumber b = cond (ltb (length b) stateSize) nobodyCode (runnerCode (stateOfBytes b .running))

@@ -17,43 +17,43 @@ taskCountAt = 9
 abbrev pub objectCountAt : ℕ
 objectCountAt = 10
 
-abbrev pub nobodyByte : ℕ
-nobodyByte = 255
+abbrev pub nobodyCode : ℕ
+nobodyCode = 255
 
 -- a task row, 16 bytes: due time (8), place kind, base, whether a base waits, that base, permit, then 3 zeros that nobody reads
 abbrev pub taskSize : ℕ
 taskSize = 16
 
-abbrev pub kindCell : ℕ
-kindCell = 8
+abbrev pub kindOffset : ℕ
+kindOffset = 8
 
-abbrev pub baseCell : ℕ
-baseCell = 9
+abbrev pub baseOffset : ℕ
+baseOffset = 9
 
-abbrev pub waitsCell : ℕ
-waitsCell = 10
+abbrev pub waitsOffset : ℕ
+waitsOffset = 10
 
-abbrev pub waitingCell : ℕ
-waitingCell = 11
+abbrev pub waitingOffset : ℕ
+waitingOffset = 11
 
-abbrev pub permitCell : ℕ
-permitCell = 12
+abbrev pub permitOffset : ℕ
+permitOffset = 12
 
 -- the place kinds, in the scope's order: "running, ready, delayed, suspended or ended"
-abbrev pub runningKind : ℕ
-runningKind = 0
+abbrev pub runningCode : ℕ
+runningCode = 0
 
-abbrev pub readyKind : ℕ
-readyKind = 1
+abbrev pub readyCode : ℕ
+readyCode = 1
 
-abbrev pub delayedKind : ℕ
-delayedKind = 2
+abbrev pub delayedCode : ℕ
+delayedCode = 2
 
-abbrev pub suspendedKind : ℕ
-suspendedKind = 3
+abbrev pub suspendedCode : ℕ
+suspendedCode = 3
 
-abbrev pub endedKind : ℕ
-endedKind = 4
+abbrev pub endedCode : ℕ
+endedCode = 4
 
 -- where the parts start, with no gaps, and where the last ends
 abbrev pub tasksStart : ℕ

@@ -3,10 +3,10 @@ ghost use mathlib.Core.Path.{_≡_};
 ghost use Prim.Native.Nat.{_+_, _≤_, _<_};
 ghost use lib.ListN.{length};
 ghost use Rattle.dispatch.specs.State.{priority};
-ghost use Rattle.layout.specs.Sizes.{permitCell, ceilingsStart, stateSize};
+ghost use Rattle.layout.specs.Sizes.{permitOffset, ceilingsStart, stateSize};
 ghost use Rattle.rules.specs.Limits.{objectLimit};
 ghost use Rattle.words.specs.Words.{byteAt, tabulate};
-ghost use Rattle.layout.specs.Decode.{runnerOf, placeOf, waitingOf, taskFrom, tasksFrom};
+ghost use Rattle.layout.specs.Decode.{runnerFrom, placeFrom, waitingFrom, taskFrom, tasksFrom};
 ghost use Rattle.layout.specs.Decode.{cellsFrom, stateOfBytes};
 use crate::sizes::BASE;
 use crate::sizes::CEILINGS_START;
@@ -39,8 +39,8 @@ use rules::WaitingBase;
 use words::byte_at;
 use words::number_at;
 
-fn runner_of(b: u8) -> Runner
-    ensures { λ r. ⌜ r ≡ runnerOf b ⌝ }
+fn runner_from(b: u8) -> Runner
+    ensures { λ r. ⌜ r ≡ runnerFrom b ⌝ }
 {
     if b == NOBODY {
         return Runner::Nobody;
@@ -48,8 +48,8 @@ fn runner_of(b: u8) -> Runner
     Runner::Task(b)
 }
 
-fn place_of(kind: u8, due: u64) -> Place
-    ensures { λ r. ⌜ r ≡ placeOf kind due ⌝ }
+fn place_from(kind: u8, due: u64) -> Place
+    ensures { λ r. ⌜ r ≡ placeFrom kind due ⌝ }
 {
     match kind {
         READY => Place::Ready,
@@ -60,8 +60,8 @@ fn place_of(kind: u8, due: u64) -> Place
     }
 }
 
-fn waiting_of(waits: u8, p: u8) -> WaitingBase
-    ensures { λ r. ⌜ r ≡ waitingOf waits p ⌝ }
+fn waiting_from(waits: u8, p: u8) -> WaitingBase
+    ensures { λ r. ⌜ r ≡ waitingFrom waits p ⌝ }
 {
     if waits == 0 {
         return WaitingBase::Nothing;
@@ -71,13 +71,13 @@ fn waiting_of(waits: u8, p: u8) -> WaitingBase
 
 // The task row that starts at i.
 fn task_from(s: &[u8], i: usize) -> Task
-    requires { ⌜ i + permitCell < stateSize ⌝ }
+    requires { ⌜ i + permitOffset < stateSize ⌝ }
     ensures { λ r. ⌜ r ≡ taskFrom (now (s .entry)) i ⌝ }
 {
     let due = number_at(s, i);
-    let place = place_of(byte_at(s, i + KIND), due);
+    let place = place_from(byte_at(s, i + KIND), due);
     let base = Priority(byte_at(s, i + BASE));
-    let waiting = waiting_of(byte_at(s, i + WAITS), byte_at(s, i + WAITING));
+    let waiting = waiting_from(byte_at(s, i + WAITS), byte_at(s, i + WAITING));
     let permit = byte_at(s, i + PERMIT) != 0;
     Task {
         place: place,
@@ -131,7 +131,7 @@ fn copy_cells(s: &[u8], start: usize, to: &mut [u8])
 pub fn read(bytes: &[u8]) -> State
     ensures { λ r. ⌜ r ≡ stateOfBytes (now (bytes .entry)) ⌝ }
 {
-    let running = runner_of(byte_at(bytes, RUNNING_AT));
+    let running = runner_from(byte_at(bytes, RUNNING_AT));
     let tasks = tasks_from(bytes);
     let mut held = [0u8; HELD_CELLS];
     copy_cells(bytes, HELD_START, &mut held);

@@ -7,7 +7,7 @@ ghost use lib.Seq.{sets};
 ghost use Rattle.memory.specs.Tasks.{dueOf, bit};
 ghost use Rattle.dispatch.specs.State.{level};
 ghost use Rattle.layout.specs.Sizes.{numberSize, taskSize, tasksStart, stateSize};
-ghost use Rattle.layout.specs.Encode.{lowBytes, runningByte, kindByte, waitsByte, waitingByte, taskBytes, headBytes, withState};
+ghost use Rattle.layout.specs.Encode.{lowBytes, runnerCode, kindByte, waitsByte, waitingByte, taskBytes, headBytes, withState};
 use crate::sizes::CEILINGS_START;
 use crate::sizes::DELAYED;
 use crate::sizes::ENDED;
@@ -59,8 +59,8 @@ fn put_number(out: &mut [u8], at: usize, n: u64)
     }
 }
 
-pub fn running_byte(running: Runner) -> u8
-    ensures { λ r. ⌜ r ≡ runningByte running ⌝ }
+pub fn runner_code(running: Runner) -> u8
+    ensures { λ r. ⌜ r ≡ runnerCode running ⌝ }
 {
     match running {
         Runner::Nobody => NOBODY,
@@ -171,7 +171,7 @@ fn put_head(out: &mut [u8], state: State)
     let running = state.running;
     put_number(out, 0, state.now);
     let rest = [
-        running_byte(running),
+        runner_code(running),
         state.task_count,
         state.object_count,
         0,

@@ -2,7 +2,7 @@
 ghost use mathlib.Core.Path.{_≡_};
 ghost use Rattle.layout.specs.Events.{eventNumber, eventBytes, freshNumber, freshBytes, soundNumber, runningNumber};
 use crate::decode::read;
-use crate::encode::running_byte;
+use crate::encode::runner_code;
 use crate::encode::write;
 use crate::sizes::NOBODY;
 use crate::sizes::STATE_SIZE;
@@ -68,5 +68,5 @@ pub fn running(bytes: &[u8]) -> u8
     }
     let state = read(bytes);
     let runner = state.running;
-    running_byte(runner)
+    runner_code(runner)
 }

@@ -65,7 +65,8 @@ pub put-digits : {b b' b'' : List ℕ} {at e e' : ℕ} (n d : ℕ) → 10 ≤ n 
 put-digits {b} {b'} {b''} {at} {e} {e'} n d h k p q =
     rw (decimal-more n h) (rw k at (put-then p q))
 
-pub put-digit : {b b' : List ℕ} {at e : ℕ} (n d : ℕ) → n < 10 → d ≡ firstDigit + n → Copied b at (d ∷ []) b' e → Copied b at (decimal n) b' e
+pub put-digit : {b b' : List ℕ} {at e : ℕ} (n d : ℕ) → n < 10 → d ≡ firstDigit + n → Copied b at (d ∷ []) b' e →
+    Copied b at (decimal n) b' e
 put-digit n d h k p = rw (decimal-one n h) (rw k at p)
 
 pub decimal-room : (n : ℕ) → 10 ≤ n → length (decimal n) ≡ length (decimal (n / 10)) + 1
@@ -242,8 +243,8 @@ unfolding refusedLine
 put-refused number task position p q s t u = put-then p (put-then q (put-then s (put-then t u)))
 
 pub put-passed : {b b1 b2 b3 b4 b5 : List ℕ} {e1 e2 e3 e4 e5 : ℕ} (pairs : List ℕ) → Copied b 0 passedWord b1 e1 →
-    Copied b1 e1 (newline ∷ []) b2 e2 → Copied b2 e2 (pairLines pairs) b3 e3 → Copied b3 e3 endWord b4 e4 → Copied b4 e4 (newline ∷ []) b5 e5 →
-    Copied b 0 (passedLines pairs) b5 e5
+    Copied b1 e1 (newline ∷ []) b2 e2 → Copied b2 e2 (pairLines pairs) b3 e3 → Copied b3 e3 endWord b4 e4 →
+    Copied b4 e4 (newline ∷ []) b5 e5 → Copied b 0 (passedLines pairs) b5 e5
 unfolding passedLines
 put-passed pairs p q s t u = put-then p (put-then q (put-then s (put-then t u)))
 

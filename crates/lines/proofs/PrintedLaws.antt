@@ -123,7 +123,8 @@ module _ (roster events : List ℕ) (size : ℕ) (out : List ℕ) (pairs-enough 
       ap (λ (x : Bool). cond x (linesOf a pairs ++ drop (length (linesOf a pairs)) out) out) b ∙
       ap (λ (l : List ℕ). l ++ drop (length l) out) et
       in (
-        ap (λ (x : RunAnswer). linesSize x (pairsWritten roster events size) out) ea ∙ (ap (λ (l : List ℕ). linesSize a l out) ew ∙ size-is),
+        ap (λ (x : RunAnswer). linesSize x (pairsWritten roster events size) out) ea ∙
+            (ap (λ (l : List ℕ). linesSize a l out) ew ∙ size-is),
         ap (λ (x : RunAnswer). linesBuffer x (pairsWritten roster events size) out) ea ∙
             (ap (λ (l : List ℕ). linesBuffer a l out) ew ∙ buffer-is),
       )

@@ -8,7 +8,7 @@ use lib.ListN.{replicate, length-replicate, getD-replicate}
 use Rattle.words.proofs.ListLaws.{take-replicate, drop-replicate, map-replicate}
 use Rattle.rules.specs.Limits.{taskLimit}
 use Rattle.memory.specs.Rows.{rows, inRow, rowFor, lists, Lists}
-use Rattle.memory.specs.Tasks.{taskWidth, taskOf, taskRow, blankTask, tasksIn, Neat, Tasks}
+use Rattle.memory.specs.Tasks.{taskWidth, taskInRow, taskCells, blankTask, tasksIn, Neat, Tasks}
 use Rattle.memory.proofs.RowLaws.{in-row, tidy-row}
 use Rattle.memory.proofs.TaskLaws.{task-back}
 
@@ -39,22 +39,22 @@ module _ (l : List ℕ) (w n : ℕ) (e : l ≡ replicate (n * w) 0) (h : 0 < w) 
         rows = λ i g. rw (e, zero-rows w n, getD-replicate n i none [] g) (rw zero-row (tidy-row w [] h));
       }
 
-zero-task : replicate taskWidth 0 ≡ taskRow blankTask
-unfolding taskRow
+zero-task : replicate taskWidth 0 ≡ taskCells blankTask
+unfolding taskCells
 zero-task = refl
 
 module _ (l : List ℕ) (e : l ≡ replicate (taskLimit * taskWidth) 0) where
   pub blank-tasks : tasksIn l ≡ replicate taskLimit blankTask
   unfolding tasksIn
   blank-tasks =
-      let one : taskOf (replicate taskWidth 0) ≡ blankTask = ap taskOf zero-task ∙ task-back blankTask in
-      rw (e, zero-rows taskWidth taskLimit) (map-replicate taskOf taskLimit (replicate taskWidth 0) ∙ ap (replicate taskLimit) one)
+      let one : taskInRow (replicate taskWidth 0) ≡ blankTask = ap taskInRow zero-task ∙ task-back blankTask in
+      rw (e, zero-rows taskWidth taskLimit) (map-replicate taskInRow taskLimit (replicate taskWidth 0) ∙ ap (replicate taskLimit) one)
 
   pub blank-rows : Tasks l
   blank-rows =
       let none : List ℕ = replicate taskWidth 0 in
-      let one : taskOf none ≡ blankTask = ap taskOf zero-task ∙ task-back blankTask in
-      let neat : Neat none = record { laid = zero-task ∙ ap taskRow (sym one); base = omega arith; waiting = omega arith } in
+      let one : taskInRow none ≡ blankTask = ap taskInRow zero-task ∙ task-back blankTask in
+      let neat : Neat none = record { laid = zero-task ∙ ap taskCells (sym one); base = omega arith; waiting = omega arith } in
       record {
         size = rw e (length-replicate {A = ℕ} (taskLimit * taskWidth) 0);
         rows = λ t g. rw (e, zero-rows taskWidth taskLimit, getD-replicate taskLimit t none [] g) neat;

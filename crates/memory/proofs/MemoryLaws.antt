@@ -17,9 +17,9 @@ use Rattle.rules.specs.declared.WaitingBase.{WaitingBase}
 use Rattle.rules.specs.declared.Runner.the-variants.{Nobody, Task as Runs}
 use Rattle.rules.specs.declared.Task.{Task}
 use Rattle.memory.specs.Rows.{heldWidth, heldIn, heldBy, QueueBecame, HeldBecame}
-use Rattle.memory.specs.Tasks.{blankTask, tasksIn, taskIn, TaskBecame, placed, based, waited, permitted}
-use Rattle.memory.specs.Memory.{nowCell, runningCell, tasksCell, objectsCell, taskCount, objectCount, runnerOf, waitingIn}
-use Rattle.memory.specs.Memory.{recordOf, together, allRecords, modelOf, Laid, Means}
+use Rattle.memory.specs.Tasks.{blankTask, tasksIn, taskIn, TaskBecame, placed, based, waited, granted}
+use Rattle.memory.specs.Memory.{nowCell, runningCell, tasksCell, objectsCell, taskCountIn, objectCountIn, runnerOf, waitingIn}
+use Rattle.memory.specs.Memory.{recordOf, together, allRecords, modelOf, LaidOut, Means}
 use Rattle.memory.proofs.GridLaws.{list-count}
 use Rattle.memory.proofs.TaskLaws.{tasks-count}
 
@@ -73,33 +73,33 @@ then-means f x y = record { same = y .same ∙ ap f (x .same); laid = y .laid }
 pub means-by : {h ts hd cs qs : List ℕ} {m n : Model} → Means h ts hd cs qs m → m ≡ n → Means h ts hd cs qs n
 means-by x e = record { same = x .same ∙ e; laid = x .laid }
 
-pub as-laid : {h ts hd cs qs : List ℕ} → Laid h ts hd cs qs → Means h ts hd cs qs (modelOf h ts hd cs qs)
+pub as-laid : {h ts hd cs qs : List ℕ} → LaidOut h ts hd cs qs → Means h ts hd cs qs (modelOf h ts hd cs qs)
 as-laid d = record { same = refl; laid = d }
 
-module _ {h ts hd cs qs : List ℕ} (d : Laid h ts hd cs qs) where
+module _ {h ts hd cs qs : List ℕ} (d : LaidOut h ts hd cs qs) where
   -- what is read
-  pub count-is : length (modelOf h ts hd cs qs .tasks) ≡ taskCount h
-  count-is = length-take-le (taskCount h) (allRecords ts hd) (omega (arith, records-count ts hd, d .count))
+  pub count-is : length (modelOf h ts hd cs qs .tasks) ≡ taskCountIn h
+  count-is = length-take-le (taskCountIn h) (allRecords ts hd) (omega (arith, records-count ts hd, d .count))
 
-  pub objects-is : length (modelOf h ts hd cs qs .ceilings) ≡ objectCount h
-  objects-is = length-take-le (objectCount h) cs (omega (arith, d .objects, d .ceilings))
+  pub objects-is : length (modelOf h ts hd cs qs .ceilings) ≡ objectCountIn h
+  objects-is = length-take-le (objectCountIn h) cs (omega (arith, d .objects, d .ceilings))
 
-  pub task-is : (t : ℕ) → t < taskCount h → taskAt (modelOf h ts hd cs qs) t ≡ recordOf (taskIn ts t) (heldBy hd t)
-  task-is t g = getD-take (taskCount h) (allRecords ts hd) t blank g ∙ record-at ts hd t (omega (arith, d .count))
+  pub task-is : (t : ℕ) → t < taskCountIn h → taskAt (modelOf h ts hd cs qs) t ≡ recordOf (taskIn ts t) (heldBy hd t)
+  task-is t g = getD-take (taskCountIn h) (allRecords ts hd) t blank g ∙ record-at ts hd t (omega (arith, d .count))
 
-  pub held-is : (t : ℕ) → t < taskCount h → taskAt (modelOf h ts hd cs qs) t .held ≡ heldBy hd t
+  pub held-is : (t : ℕ) → t < taskCountIn h → taskAt (modelOf h ts hd cs qs) t .held ≡ heldBy hd t
   held-is t g = ap (λ (k : TaskRecord). k .held) (task-is t g)
 
-  pub place-is : (t : ℕ) → t < taskCount h → taskAt (modelOf h ts hd cs qs) t .place ≡ taskIn ts t .place
+  pub place-is : (t : ℕ) → t < taskCountIn h → taskAt (modelOf h ts hd cs qs) t .place ≡ taskIn ts t .place
   place-is t g = ap (λ (k : TaskRecord). k .place) (task-is t g)
 
-  pub waiting-is : (t : ℕ) → t < taskCount h → taskAt (modelOf h ts hd cs qs) t .waiting ≡ waitingIn (taskIn ts t .waiting)
+  pub waiting-is : (t : ℕ) → t < taskCountIn h → taskAt (modelOf h ts hd cs qs) t .waiting ≡ waitingIn (taskIn ts t .waiting)
   waiting-is t g = ap (λ (k : TaskRecord). k .waiting) (task-is t g)
 
-  pub base-is : (t : ℕ) → t < taskCount h → taskAt (modelOf h ts hd cs qs) t .base ≡ taskIn ts t .base .0
+  pub base-is : (t : ℕ) → t < taskCountIn h → taskAt (modelOf h ts hd cs qs) t .base ≡ taskIn ts t .base .0
   base-is t g = ap (λ (k : TaskRecord). k .base) (task-is t g)
 
-  pub permit-is : (t : ℕ) → t < taskCount h → taskAt (modelOf h ts hd cs qs) t .permit ≡ taskIn ts t .permit
+  pub permit-is : (t : ℕ) → t < taskCountIn h → taskAt (modelOf h ts hd cs qs) t .permit ≡ taskIn ts t .permit
   permit-is t g = ap (λ (k : TaskRecord). k .permit) (task-is t g)
 
   pub idle : getD h runningCell 0 ≡ 0 → modelOf h ts hd cs qs .running ≡ Nobody
@@ -116,8 +116,8 @@ module _ {h ts hd cs qs : List ℕ} (d : Laid h ts hd cs qs) where
       let n = d .head in
       let a : getD (set h runningCell v) nowCell 0 ≡ getD h nowCell 0 = getD-set-other h runningCell nowCell v 0 (omega arith) in
       let b : getD (set h runningCell v) runningCell 0 ≡ v = getD-set-same h runningCell v 0 (omega arith) in
-      let c : taskCount (set h runningCell v) ≡ taskCount h = getD-set-other h runningCell tasksCell v 0 (omega arith) in
-      let e : objectCount (set h runningCell v) ≡ objectCount h = getD-set-other h runningCell objectsCell v 0 (omega arith) in
+      let c : taskCountIn (set h runningCell v) ≡ taskCountIn h = getD-set-other h runningCell tasksCell v 0 (omega arith) in
+      let e : objectCountIn (set h runningCell v) ≡ objectCountIn h = getD-set-other h runningCell objectsCell v 0 (omega arith) in
       record {
         same = rw (a, b, c, e);
         laid = record {
@@ -138,8 +138,8 @@ module _ {h ts hd cs qs : List ℕ} (d : Laid h ts hd cs qs) where
       let n = d .head in
       let a : getD (set h nowCell v) nowCell 0 ≡ v = getD-set-same h nowCell v 0 (omega arith) in
       let b : getD (set h nowCell v) runningCell 0 ≡ getD h runningCell 0 = getD-set-other h nowCell runningCell v 0 (omega arith) in
-      let c : taskCount (set h nowCell v) ≡ taskCount h = getD-set-other h nowCell tasksCell v 0 (omega arith) in
-      let e : objectCount (set h nowCell v) ≡ objectCount h = getD-set-other h nowCell objectsCell v 0 (omega arith) in
+      let c : taskCountIn (set h nowCell v) ≡ taskCountIn h = getD-set-other h nowCell tasksCell v 0 (omega arith) in
+      let e : objectCountIn (set h nowCell v) ≡ objectCountIn h = getD-set-other h nowCell objectsCell v 0 (omega arith) in
       record {
         same = rw (a, b, c, e);
         laid = record {
@@ -173,13 +173,13 @@ module _ {h ts hd cs qs : List ℕ} (d : Laid h ts hd cs qs) where
         };
       }
 
-  pub held-law : {hd' : List ℕ} (t : ℕ) (l : List ℕ) → t < taskCount h → HeldBecame hd hd' t l →
+  pub held-law : {hd' : List ℕ} (t : ℕ) (l : List ℕ) → t < taskCountIn h → HeldBecame hd hd' t l →
       Means h ts hd' cs qs (withTask (modelOf h ts hd cs qs) t (withHeld (taskAt (modelOf h ts hd cs qs) t) l))
   held-law {hd'} t l g b =
       let all : allRecords ts hd' ≡ set (allRecords ts hd) t (recordOf (taskIn ts t) l) =
       ap (together (tasksIn ts)) (b .same) ∙ together-right (tasksIn ts) (heldIn hd) t l in
       record {
-        same = rw (all, take-set-lt (taskCount h) (allRecords ts hd) t (recordOf (taskIn ts t) l) g, task-is t g);
+        same = rw (all, take-set-lt (taskCountIn h) (allRecords ts hd) t (recordOf (taskIn ts t) l) g, task-is t g);
         laid = record {
           head = d .head;
           count = d .count;
@@ -188,18 +188,18 @@ module _ {h ts hd cs qs : List ℕ} (d : Laid h ts hd cs qs) where
           held = b .good;
           ceilings = d .ceilings;
           queues = d .queues;
-          unused = rw all (drop-set-lt (taskCount h) (allRecords ts hd) t (recordOf (taskIn ts t) l) g ∙ d .unused);
+          unused = rw all (drop-set-lt (taskCountIn h) (allRecords ts hd) t (recordOf (taskIn ts t) l) g ∙ d .unused);
           zeros = d .zeros;
         };
       }
 
-  pub task-law : {ts' : List ℕ} (t : ℕ) (k : Task) → t < taskCount h → TaskBecame ts ts' t k →
+  pub task-law : {ts' : List ℕ} (t : ℕ) (k : Task) → t < taskCountIn h → TaskBecame ts ts' t k →
       Means h ts' hd cs qs (withTask (modelOf h ts hd cs qs) t (recordOf k (taskAt (modelOf h ts hd cs qs) t .held)))
   task-law {ts'} t k g b =
       let all : allRecords ts' hd ≡ set (allRecords ts hd) t (recordOf k (heldBy hd t)) =
       ap (λ (ks : List Task). together ks (heldIn hd)) (b .same) ∙ together-left (tasksIn ts) (heldIn hd) t k in
       record {
-        same = rw (all, take-set-lt (taskCount h) (allRecords ts hd) t (recordOf k (heldBy hd t)) g, task-is t g);
+        same = rw (all, take-set-lt (taskCountIn h) (allRecords ts hd) t (recordOf k (heldBy hd t)) g, task-is t g);
         laid = record {
           head = d .head;
           count = d .count;
@@ -208,24 +208,24 @@ module _ {h ts hd cs qs : List ℕ} (d : Laid h ts hd cs qs) where
           held = d .held;
           ceilings = d .ceilings;
           queues = d .queues;
-          unused = rw all (drop-set-lt (taskCount h) (allRecords ts hd) t (recordOf k (heldBy hd t)) g ∙ d .unused);
+          unused = rw all (drop-set-lt (taskCountIn h) (allRecords ts hd) t (recordOf k (heldBy hd t)) g ∙ d .unused);
           zeros = d .zeros;
         };
       }
 
   -- the four parts of a task's record
-  pub place-law : {ts' : List ℕ} (t : ℕ) (x : Place) → t < taskCount h → TaskBecame ts ts' t (placed (taskIn ts t) x) →
+  pub place-law : {ts' : List ℕ} (t : ℕ) (x : Place) → t < taskCountIn h → TaskBecame ts ts' t (placed (taskIn ts t) x) →
       Means h ts' hd cs qs (withTask (modelOf h ts hd cs qs) t (withPlace (taskAt (modelOf h ts hd cs qs) t) x))
   place-law t x g b = means-by (task-law t _ g b) (rw (task-is t g))
 
-  pub base-law : {ts' : List ℕ} (t : ℕ) (p : Priority) → t < taskCount h → TaskBecame ts ts' t (based (taskIn ts t) p) →
+  pub base-law : {ts' : List ℕ} (t : ℕ) (p : Priority) → t < taskCountIn h → TaskBecame ts ts' t (based (taskIn ts t) p) →
       Means h ts' hd cs qs (withTask (modelOf h ts hd cs qs) t (withBase (taskAt (modelOf h ts hd cs qs) t) (p .0)))
   base-law t p g b = means-by (task-law t _ g b) (rw (task-is t g))
 
-  pub waiting-law : {ts' : List ℕ} (t : ℕ) (w : WaitingBase) → t < taskCount h → TaskBecame ts ts' t (waited (taskIn ts t) w) →
+  pub waiting-law : {ts' : List ℕ} (t : ℕ) (w : WaitingBase) → t < taskCountIn h → TaskBecame ts ts' t (waited (taskIn ts t) w) →
       Means h ts' hd cs qs (withTask (modelOf h ts hd cs qs) t (withWaiting (taskAt (modelOf h ts hd cs qs) t) (waitingIn w)))
   waiting-law t w g b = means-by (task-law t _ g b) (rw (task-is t g))
 
-  pub permit-law : {ts' : List ℕ} (t : ℕ) (x : Bool) → t < taskCount h → TaskBecame ts ts' t (permitted (taskIn ts t) x) →
+  pub permit-law : {ts' : List ℕ} (t : ℕ) (x : Bool) → t < taskCountIn h → TaskBecame ts ts' t (granted (taskIn ts t) x) →
       Means h ts' hd cs qs (withTask (modelOf h ts hd cs qs) t (withPermit (taskAt (modelOf h ts hd cs qs) t) x))
   permit-law t x g b = means-by (task-law t _ g b) (rw (task-is t g))

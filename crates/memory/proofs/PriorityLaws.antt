@@ -12,7 +12,7 @@ use Rattle.rules.specs.Model.{ceilingOf, highestOf, active, queue}
 use Rattle.rules.specs.Moves.{highestTo, highest}
 use Rattle.memory.specs.Rows.{heldBy}
 use Rattle.memory.specs.Tasks.{taskIn}
-use Rattle.memory.specs.Memory.{taskCount, objectCount, modelOf, Laid}
+use Rattle.memory.specs.Memory.{taskCountIn, objectCountIn, modelOf, LaidOut}
 use Rattle.memory.proofs.MemoryLaws.{task-is}
 
 -- the highest queue, in a loop from the last priority down
@@ -47,7 +47,7 @@ pub raise-end : (cs l : List ℕ) (p a i : ℕ) → length l ≤ i → highestOf
 unfolding highestOf
 raise-end cs l p a i h f = sym (f ∙ rw (drop-of-length-le l {i = i} h))
 
-module _ {h ts hd cs qs : List ℕ} (d : Laid h ts hd cs qs) where
-  pub active-is : (t a b n : ℕ) → t < taskCount h → n ≡ objectCount h → b ≡ taskIn ts t .base .0 →
+module _ {h ts hd cs qs : List ℕ} (d : LaidOut h ts hd cs qs) where
+  pub active-is : (t a b n : ℕ) → t < taskCountIn h → n ≡ objectCountIn h → b ≡ taskIn ts t .base .0 →
       a ≡ highestOf (take n cs) b (heldBy hd t) → a ≡ active (modelOf h ts hd cs qs) t
   active-is t a b n g k e f = f ∙ rw (task-is d t g, k, e)

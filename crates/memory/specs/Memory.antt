@@ -33,11 +33,11 @@ tasksCell = 2
 abbrev pub objectsCell : ℕ
 objectsCell = 3
 
-abbrev pub taskCount : List ℕ → ℕ
-taskCount h = getD h tasksCell 0
+abbrev pub taskCountIn : List ℕ → ℕ
+taskCountIn h = getD h tasksCell 0
 
-abbrev pub objectCount : List ℕ → ℕ
-objectCount h = getD h objectsCell 0
+abbrev pub objectCountIn : List ℕ → ℕ
+objectCountIn h = getD h objectsCell 0
 
 -- who runs
 unfoldable pub runnerOf : ℕ → Runner
@@ -67,37 +67,37 @@ modelOf h ts hd cs qs =
     record {
       now = getD h nowCell 0;
       running = runnerOf (getD h runningCell 0);
-      tasks = take (taskCount h) (allRecords ts hd);
-      ceilings = take (objectCount h) cs;
+      tasks = take (taskCountIn h) (allRecords ts hd);
+      ceilings = take (objectCountIn h) cs;
       ready = queuesIn qs;
     }
 
 -- the slices are laid out: their sizes, tidy rows, counts within the rows, and nothing behind the counts
-pub record Laid (h ts hd cs qs : List ℕ) : Type 0 where
+pub record LaidOut (h ts hd cs qs : List ℕ) : Type 0 where
   pub head : length h ≡ headWidth
-  pub count : taskCount h ≤ taskLimit
-  pub objects : objectCount h ≤ objectLimit
+  pub count : taskCountIn h ≤ taskLimit
+  pub objects : objectCountIn h ≤ objectLimit
   pub tasks : Tasks ts
   pub held : Held hd
   pub ceilings : length cs ≡ objectLimit
   pub queues : Queues qs
-  pub unused : drop (taskCount h) (allRecords ts hd) ≡ replicate (taskLimit - taskCount h) blank
-  pub zeros : drop (objectCount h) cs ≡ replicate (objectLimit - objectCount h) 0
+  pub unused : drop (taskCountIn h) (allRecords ts hd) ≡ replicate (taskLimit - taskCountIn h) blank
+  pub zeros : drop (objectCountIn h) cs ≡ replicate (objectLimit - objectCountIn h) 0
 
 -- the slices are laid out and mean m
 pub record Means (h ts hd cs qs : List ℕ) (m : Model) : Type 0 where
   pub same : modelOf h ts hd cs qs ≡ m
-  pub laid : Laid h ts hd cs qs
+  pub laid : LaidOut h ts hd cs qs
 
 -- the slices are laid out and mean a sound Model
 pub record Valid (h ts hd cs qs : List ℕ) : Type 0 where
-  pub laid : Laid h ts hd cs qs
+  pub laid : LaidOut h ts hd cs qs
   pub sound : sound (modelOf h ts hd cs qs) ≡ true
 
 -- after an event: its answer too
 pub record Did (h ts hd cs qs : List ℕ) (a : Answer) (r : Moved) : Type 0 where
   pub same : modelOf h ts hd cs qs ≡ r .model
-  pub laid : Laid h ts hd cs qs
+  pub laid : LaidOut h ts hd cs qs
   pub answer : a ≡ r .answer
 
 -- after an event of a sound Model: laid out and sound again

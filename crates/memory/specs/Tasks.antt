@@ -49,12 +49,12 @@ delayedKind = 3
 abbrev pub suspendedKind : ℕ
 suspendedKind = 4
 
-abbrev pub kindOf : Place → ℕ
-kindOf Running = runningKind
-kindOf Ready = readyKind
-kindOf (Delayed d) = delayedKind
-kindOf Suspended = suspendedKind
-kindOf Ended = endedKind
+abbrev pub kindCode : Place → ℕ
+kindCode Running = runningKind
+kindCode Ready = readyKind
+kindCode (Delayed d) = delayedKind
+kindCode Suspended = suspendedKind
+kindCode Ended = endedKind
 
 abbrev pub dueOf : Place → ℕ
 dueOf Running = 0
@@ -85,8 +85,8 @@ bit true = 1
 bit false = 0
 
 -- the record in a row, and the row for a record
-unfoldable pub taskOf : List ℕ → Task
-taskOf r =
+unfoldable pub taskInRow : List ℕ → Task
+taskInRow r =
     record {
       place = placeOf (getD r kindCell 0) (getD r dueCell 0);
       base = record { 0 = getD r baseCell 0 };
@@ -94,9 +94,9 @@ taskOf r =
       permit = eqb (getD r permitCell 0) 1;
     }
 
-unfoldable pub taskRow : Task → List ℕ
-taskRow k =
-    kindOf (k .place) ∷ (dueOf (k .place) ∷ (k .base .0 ∷ (waitingCode (k .waiting) ∷ (bit (k .permit) ∷ []))))
+unfoldable pub taskCells : Task → List ℕ
+taskCells k =
+    kindCode (k .place) ∷ (dueOf (k .place) ∷ (k .base .0 ∷ (waitingCode (k .waiting) ∷ (bit (k .permit) ∷ []))))
 
 -- the record of a blank row
 abbrev pub blankTask : Task
@@ -104,14 +104,14 @@ blankTask = record { place = Ended; base = record { 0 = 0 }; waiting = Nothing; 
 
 -- the records of a slice, and one of them
 unfoldable pub tasksIn : List ℕ → List Task
-tasksIn l = map taskOf (rows taskWidth taskLimit l)
+tasksIn l = map taskInRow (rows taskWidth taskLimit l)
 
 abbrev pub taskIn : List ℕ → ℕ → Task
 taskIn l t = getD (tasksIn l) t blankTask
 
 -- a row that is the row for its record, whose base and waiting base are of bytes
 pub record Neat (r : List ℕ) : Type 0 where
-  pub laid : r ≡ taskRow (taskOf r)
+  pub laid : r ≡ taskCells (taskInRow r)
   pub base : getD r baseCell 0 < byteValues
   pub waiting : getD r waitingCell 0 ≤ byteValues
 
@@ -135,5 +135,5 @@ based k p = record { place = k .place; base = p; waiting = k .waiting; permit = 
 abbrev pub waited : Task → WaitingBase → Task
 waited k w = record { place = k .place; base = k .base; waiting = w; permit = k .permit }
 
-abbrev pub permitted : Task → Bool → Task
-permitted k b = record { place = k .place; base = k .base; waiting = k .waiting; permit = b }
+abbrev pub granted : Task → Bool → Task
+granted k b = record { place = k .place; base = k .base; waiting = k .waiting; permit = b }

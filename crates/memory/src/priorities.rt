@@ -6,7 +6,7 @@ ghost use Rattle.rules.specs.Limits.{taskLimit, lastPriority};
 ghost use Rattle.rules.specs.Model.{ceilingOf, highestOf, active};
 ghost use Rattle.rules.specs.Moves.{highestTo};
 ghost use Rattle.memory.specs.Rows.{heldBy, Held, queuesIn, Queues};
-ghost use Rattle.memory.specs.Memory.{taskCount, modelOf, Laid};
+ghost use Rattle.memory.specs.Memory.{taskCountIn, modelOf, LaidOut};
 use crate::queues;
 use crate::sizes::HEAD_WIDTH;
 use crate::sizes::HELD_WIDTH;
@@ -76,8 +76,8 @@ pub fn active(
     queues: &[u8],
     t: usize,
 ) -> Priority
-    requires { ⌜ Laid (now head) (now tasks) (now held) (now ceilings) (now queues) ⌝ }
-    requires { ⌜ t < taskCount (now head) ⌝ }
+    requires { ⌜ LaidOut (now head) (now tasks) (now held) (now ceilings) (now queues) ⌝ }
+    requires { ⌜ t < taskCountIn (now head) ⌝ }
     ensures { λ r.
         ⌜ r .0 ≡
         active

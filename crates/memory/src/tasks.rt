@@ -3,8 +3,8 @@ ghost use mathlib.Core.Path.{_≡_};
 ghost use Prim.Native.Nat.{_≤_, _<_};
 ghost use Rattle.rules.specs.Limits.{taskLimit};
 ghost use Rattle.memory.specs.Rows.{byteValues};
-ghost use Rattle.memory.specs.Tasks.{kindOf, dueOf, waitingCode, bit, taskIn, Tasks, TaskBecame};
-ghost use Rattle.memory.specs.Tasks.{placed, based, waited, permitted};
+ghost use Rattle.memory.specs.Tasks.{kindCode, dueOf, waitingCode, bit, taskIn, Tasks, TaskBecame};
+ghost use Rattle.memory.specs.Tasks.{placed, based, waited, granted};
 use crate::sizes::BASE;
 use crate::sizes::DELAYED;
 use crate::sizes::DUE;
@@ -21,8 +21,8 @@ use rules::Priority;
 use rules::Task;
 use rules::WaitingBase;
 
-fn kind_of(place: Place) -> u64
-    ensures { λ r. ⌜ r ≡ kindOf place ⌝ }
+fn kind_code(place: Place) -> u64
+    ensures { λ r. ⌜ r ≡ kindCode place ⌝ }
 {
     match place {
         Place::Running => RUNNING,
@@ -126,7 +126,7 @@ pub fn set_place(tasks: &mut [u64], t: usize, place: Place)
     ensures { λ u. ⌜ TaskBecame (now (tasks .entry)) (now (tasks .exit)) t (placed (taskIn (now (tasks .entry)) t) place) ⌝ }
 {
     let row = t * TASK_WIDTH;
-    tasks[row + KIND] = kind_of(place);
+    tasks[row + KIND] = kind_code(place);
     tasks[row + DUE] = due_of(place);
 }
 
@@ -149,7 +149,7 @@ pub fn set_waiting(tasks: &mut [u64], t: usize, waiting: WaitingBase)
 pub fn set_permit(tasks: &mut [u64], t: usize, permit: bool)
     requires { ⌜ t < taskLimit ⌝ }
     requires { ⌜ Tasks (now tasks) ⌝ }
-    ensures { λ u. ⌜ TaskBecame (now (tasks .entry)) (now (tasks .exit)) t (permitted (taskIn (now (tasks .entry)) t) permit) ⌝ }
+    ensures { λ u. ⌜ TaskBecame (now (tasks .entry)) (now (tasks .exit)) t (granted (taskIn (now (tasks .entry)) t) permit) ⌝ }
 {
     tasks[t * TASK_WIDTH + PERMIT] = bit(permit);
 }

@@ -20,7 +20,7 @@ use Rattle.rules.specs.declared.WaitingBase.{WaitingBase}
 use Rattle.rules.specs.Lists.{allOf, below}
 use Rattle.memory.specs.Rows.{queueWidth, queuesIn, queueIn, heldBy}
 use Rattle.memory.specs.Tasks.{taskIn}
-use Rattle.memory.specs.Memory.{nowCell, runningCell, taskCount, objectCount, runnerOf, waitingIn, modelOf, Laid}
+use Rattle.memory.specs.Memory.{nowCell, runningCell, taskCountIn, objectCountIn, runnerOf, waitingIn, modelOf, LaidOut}
 use Rattle.soundness.specs.Tested.{onePlaceAt, heldGoodAt, holderHere, waitsInside, taskSound, queueSound, tested}
 use Rattle.memory.proofs.GridLaws.{list-count}
 use Rattle.memory.proofs.MemoryLaws.{count-is, objects-is, task-is, held-is, place-is, waiting-is}
@@ -38,42 +38,42 @@ and-true : (b : Bool) → (b && true) ≡ b
 and-true true = refl
 and-true false = refl
 
-module _ {h ts hd cs qs : List ℕ} (d : Laid h ts hd cs qs) where
+module _ {h ts hd cs qs : List ℕ} (d : LaidOut h ts hd cs qs) where
   -- counts, now and ceilings
   sizes-is : sizesGood (modelOf h ts hd cs qs) ≡
-      (leb 1 (taskCount h) && leb (getD h nowCell 0) lastReading && allOf inRange (take (objectCount h) cs))
+      (leb 1 (taskCountIn h) && leb (getD h nowCell 0) lastReading && allOf inRange (take (objectCountIn h) cs))
   sizes-is =
-      let few = le-leb (taskCount h) taskLimit (d .count) in
-      let objects = le-leb (objectCount h) objectLimit (d .objects) in
+      let few = le-leb (taskCountIn h) taskLimit (d .count) in
+      let objects = le-leb (objectCountIn h) objectLimit (d .objects) in
       let lines = eq-eqb (length (queuesIn qs)) lastPriority (list-count queueWidth lastPriority qs) in
       simp (count-is d, objects-is d, few, objects, lines, and-true)
 
-  pub no-tasks : (b : Bool) → taskCount h ≡ 0 → (sizesGood (modelOf h ts hd cs qs) && b) ≡ false
+  pub no-tasks : (b : Bool) → taskCountIn h ≡ 0 → (sizesGood (modelOf h ts hd cs qs) && b) ≡ false
   no-tasks b e = rw (sizes-is, e)
 
-  pub too-late : (b : Bool) → (taskCount h ≡ 0 → ⊥) → lastReading < getD h nowCell 0 → (sizesGood (modelOf h ts hd cs qs) && b) ≡ false
-  too-late b n e = rw (sizes-is, le-leb 1 (taskCount h) (omega (arith, n)), lt-leb (getD h nowCell 0) lastReading e)
+  pub too-late : (b : Bool) → (taskCountIn h ≡ 0 → ⊥) → lastReading < getD h nowCell 0 → (sizesGood (modelOf h ts hd cs qs) && b) ≡ false
+  too-late b n e = rw (sizes-is, le-leb 1 (taskCountIn h) (omega (arith, n)), lt-leb (getD h nowCell 0) lastReading e)
 
-  module _ (n : taskCount h ≡ 0 → ⊥) (e : getD h nowCell 0 ≤ lastReading) (b : Bool)
-      (f : b ≡ allOf inRange (take (objectCount h) cs)) where
+  module _ (n : taskCountIn h ≡ 0 → ⊥) (e : getD h nowCell 0 ≤ lastReading) (b : Bool)
+      (f : b ≡ allOf inRange (take (objectCountIn h) cs)) where
     ceilings-left : sizesGood (modelOf h ts hd cs qs) ≡ b
-    ceilings-left = rw (sizes-is, le-leb 1 (taskCount h) (omega (arith, n)), le-leb (getD h nowCell 0) lastReading e) (sym f)
+    ceilings-left = rw (sizes-is, le-leb 1 (taskCountIn h) (omega (arith, n)), le-leb (getD h nowCell 0) lastReading e) (sym f)
 
     pub bad-ceilings : (c : Bool) → b ≡ false → (sizesGood (modelOf h ts hd cs qs) && c) ≡ false
     bad-ceilings c g = fails-first (sizesGood (modelOf h ts hd cs qs)) c (ceilings-left ∙ g)
 
     -- .. and the running task
     pub head-left : (v : ℕ) → b ≡ true →
-        (sizesGood (modelOf h ts hd cs qs) && runnerGood (modelOf h ts hd cs qs) (runnerOf v)) ≡ leb v (taskCount h)
+        (sizesGood (modelOf h ts hd cs qs) && runnerGood (modelOf h ts hd cs qs) (runnerOf v)) ≡ leb v (taskCountIn h)
     unfolding runnerGood runnerOf
     head-left v g = holds-first (sizesGood (modelOf h ts hd cs qs)) _ (ceilings-left ∙ g) ∙ runner v
       where
-        runner : (v : ℕ) → runnerGood (modelOf h ts hd cs qs) (runnerOf v) ≡ leb v (taskCount h)
-        runner zero = sym (leb·zero (taskCount h))
+        runner : (v : ℕ) → runnerGood (modelOf h ts hd cs qs) (runnerOf v) ≡ leb v (taskCountIn h)
+        runner zero = sym (leb·zero (taskCountIn h))
         runner (suc t) = below-is (length (modelOf h ts hd cs qs .tasks)) t ∙ ap (leb (suc t)) (count-is d)
 
   -- active priorities; that of no task is 0
-  pub active-out : (t : ℕ) → taskCount h ≤ t → 0 ≡ active (modelOf h ts hd cs qs) t
+  pub active-out : (t : ℕ) → taskCountIn h ≤ t → 0 ≡ active (modelOf h ts hd cs qs) t
   unfolding highestOf
   active-out t g =
       let none : taskAt (modelOf h ts hd cs qs) t ≡ blank =
@@ -81,36 +81,36 @@ module _ {h ts hd cs qs : List ℕ} (d : Laid h ts hd cs qs) where
       sym (ap (λ (k : TaskRecord). highestOf (modelOf h ts hd cs qs .ceilings) (k .base) (k .held)) none)
 
   -- a task's record
-  pub record-is : (t : ℕ) → t < taskCount h → recordGood (modelOf h ts hd cs qs) (taskAt (modelOf h ts hd cs qs) t) ≡
+  pub record-is : (t : ℕ) → t < taskCountIn h → recordGood (modelOf h ts hd cs qs) (taskAt (modelOf h ts hd cs qs) t) ≡
       (inRange (taskIn ts t .base .0) && waitingGood (waitingIn (taskIn ts t .waiting)) &&
-      allOf (λ o. not (leb (objectCount h) o)) (heldBy hd t))
+      allOf (λ o. not (leb (objectCountIn h) o)) (heldBy hd t))
   record-is t g = rw (task-is d t g, objects-is d)
 
-  pub place-one : (t a b n c : ℕ) (x : Place) → t < taskCount h → x ≡ taskIn ts t .place → a ≡ runs (runnerOf (getD h runningCell 0)) t →
+  pub place-one : (t a b n c : ℕ) (x : Place) → t < taskCountIn h → x ≡ taskIn ts t .place → a ≡ runs (runnerOf (getD h runningCell 0)) t →
       b ≡ isRunning x → n ≡ queued (queuesIn qs) t → c ≡ isReady x → onePlaceAt (modelOf h ts hd cs qs) t ≡ (eqb a b && eqb n c)
   place-one t a b n c x g e p q r s =
       let place : taskAt (modelOf h ts hd cs qs) t .place ≡ x = place-is d t g ∙ sym e in
       rw (place, p, q, r, s)
 
-  pub held-one : (t : ℕ) → t < taskCount h → heldGoodAt (modelOf h ts hd cs qs) (taskAt (modelOf h ts hd cs qs) t) ≡
-      (distinct (heldBy hd t) && rising (take (objectCount h) cs) (taskIn ts t .base .0) (heldBy hd t))
+  pub held-one : (t : ℕ) → t < taskCountIn h → heldGoodAt (modelOf h ts hd cs qs) (taskAt (modelOf h ts hd cs qs) t) ≡
+      (distinct (heldBy hd t) && rising (take (objectCountIn h) cs) (taskIn ts t .base .0) (heldBy hd t))
   held-one t g = rw (task-is d t g)
 
-  pub due-one : (t : ℕ) (x : Place) → t < taskCount h → x ≡ taskIn ts t .place →
+  pub due-one : (t : ℕ) (x : Place) → t < taskCountIn h → x ≡ taskIn ts t .place →
       dueGood (getD h nowCell 0) x ≡ dueGood (modelOf h ts hd cs qs .now) (taskAt (modelOf h ts hd cs qs) t .place)
   due-one t x g e = ap (dueGood (getD h nowCell 0)) (e ∙ sym (place-is d t g))
 
-  pub holder-one : (t n : ℕ) (x : Place) → t < taskCount h → n ≡ length (heldBy hd t) → x ≡ taskIn ts t .place →
+  pub holder-one : (t n : ℕ) (x : Place) → t < taskCountIn h → n ≡ length (heldBy hd t) → x ≡ taskIn ts t .place →
       (not (ltb 0 n) || eqb (isReady x + isRunning x) 1) ≡ holderHere (taskAt (modelOf h ts hd cs qs) t)
   holder-one t n x g e f = rw (e, f, task-is d t g)
 
-  pub waits-one : (t n : ℕ) (w : WaitingBase) → t < taskCount h → n ≡ length (heldBy hd t) → w ≡ taskIn ts t .waiting →
+  pub waits-one : (t n : ℕ) (w : WaitingBase) → t < taskCountIn h → n ≡ length (heldBy hd t) → w ≡ taskIn ts t .waiting →
       (ltb 0 n || isNone (waitingIn w)) ≡ waitsInside (taskAt (modelOf h ts hd cs qs) t)
   waits-one t n w g e f = rw (e, f, task-is d t g)
 
   -- a queue's tasks
   pub queue-one : (p : ℕ) → queueSound (modelOf h ts hd cs qs) p ≡
-      (allOf (λ t. not (leb (taskCount h) t)) (queueIn qs p) &&
+      (allOf (λ t. not (leb (taskCountIn h) t)) (queueIn qs p) &&
       allOf (λ t. eqb (active (modelOf h ts hd cs qs) t) p) (queue (modelOf h ts hd cs qs) p))
   unfolding queueSound
   queue-one p = rw (count-is d)
@@ -128,9 +128,9 @@ busy-top m v p a n f g =
     sym (ap (λ (x : ℕ). highestRuns m (runnerOf x)) e ∙ rw (f, g))
 
 -- all clauses
-pub tested-all : {h ts hd cs qs : List ℕ} (d : Laid h ts hd cs qs) → tested (modelOf h ts hd cs qs) ≡
+pub tested-all : {h ts hd cs qs : List ℕ} (d : LaidOut h ts hd cs qs) → tested (modelOf h ts hd cs qs) ≡
     (sizesGood (modelOf h ts hd cs qs) && runnerGood (modelOf h ts hd cs qs) (runnerOf (getD h runningCell 0)) &&
-    highestRuns (modelOf h ts hd cs qs) (runnerOf (getD h runningCell 0)) && below (taskCount h) (taskSound (modelOf h ts hd cs qs)) &&
+    highestRuns (modelOf h ts hd cs qs) (runnerOf (getD h runningCell 0)) && below (taskCountIn h) (taskSound (modelOf h ts hd cs qs)) &&
     eachPriority (queueSound (modelOf h ts hd cs qs)))
 unfolding tested
 tested-all d = rw (count-is d)

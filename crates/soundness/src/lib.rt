@@ -12,7 +12,7 @@ ghost use Rattle.rules.specs.Sound.{eachPriority, waitingGood, recordGood, runs
 ghost use Rattle.rules.specs.Sound.{rising, sizesGood, runnerGood, highestRuns, sound};
 ghost use Rattle.rules.specs.Lists.{allOf, below};
 ghost use Rattle.memory.specs.Rows.{HasQueue, queuesIn, Queues, heldBy, Held};
-ghost use Rattle.memory.specs.Memory.{nowCell, runningCell, taskCount, objectCount, runnerOf, waitingIn, modelOf, Laid};
+ghost use Rattle.memory.specs.Memory.{nowCell, runningCell, taskCountIn, objectCountIn, runnerOf, waitingIn, modelOf, LaidOut};
 ghost use Rattle.soundness.specs.Tested.{onePlaceAt, heldGoodAt, taskSound, queueSound};
 use memory::held;
 use memory::priorities;
@@ -195,7 +195,7 @@ fn head_good(
     ceilings: &[u8],
     queues: &[u8],
 ) -> bool
-    requires { ⌜ Laid (now head) (now tasks) (now held) (now ceilings) (now queues) ⌝ }
+    requires { ⌜ LaidOut (now head) (now tasks) (now held) (now ceilings) (now queues) ⌝ }
     ensures { λ r.
         ⌜ r ≡
         (sizesGood
@@ -225,7 +225,7 @@ fn active_of(
     queues: &[u8],
     t: usize,
 ) -> Priority
-    requires { ⌜ Laid (now head) (now tasks) (now held) (now ceilings) (now queues) ⌝ }
+    requires { ⌜ LaidOut (now head) (now tasks) (now held) (now ceilings) (now queues) ⌝ }
     ensures { λ r.
         ⌜ r .0 ≡
         active
@@ -246,7 +246,7 @@ fn highest_runs(
     ceilings: &[u8],
     queues: &[u8],
 ) -> bool
-    requires { ⌜ Laid (now head) (now tasks) (now held) (now ceilings) (now queues) ⌝ }
+    requires { ⌜ LaidOut (now head) (now tasks) (now held) (now ceilings) (now queues) ⌝ }
     ensures { λ r.
         ⌜ r ≡
         highestRuns
@@ -271,8 +271,8 @@ fn record_good(
     queues: &[u8],
     t: usize,
 ) -> bool
-    requires { ⌜ Laid (now head) (now tasks) (now held) (now ceilings) (now queues) ⌝ }
-    requires { ⌜ t < taskCount (now head) ⌝ }
+    requires { ⌜ LaidOut (now head) (now tasks) (now held) (now ceilings) (now queues) ⌝ }
+    requires { ⌜ t < taskCountIn (now head) ⌝ }
     ensures { λ r.
         ⌜ r ≡
         recordGood
@@ -300,8 +300,8 @@ fn one_place(
     queues: &[u8],
     t: usize,
 ) -> bool
-    requires { ⌜ Laid (now head) (now tasks) (now held) (now ceilings) (now queues) ⌝ }
-    requires { ⌜ t < taskCount (now head) ⌝ }
+    requires { ⌜ LaidOut (now head) (now tasks) (now held) (now ceilings) (now queues) ⌝ }
+    requires { ⌜ t < taskCountIn (now head) ⌝ }
     ensures { λ r.
         ⌜ r ≡
         onePlaceAt
@@ -324,8 +324,8 @@ fn held_good(
     queues: &[u8],
     t: usize,
 ) -> bool
-    requires { ⌜ Laid (now head) (now tasks) (now held) (now ceilings) (now queues) ⌝ }
-    requires { ⌜ t < taskCount (now head) ⌝ }
+    requires { ⌜ LaidOut (now head) (now tasks) (now held) (now ceilings) (now queues) ⌝ }
+    requires { ⌜ t < taskCountIn (now head) ⌝ }
     ensures { λ r.
         ⌜ r ≡
         heldGoodAt
@@ -350,8 +350,8 @@ fn task_good(
     queues: &[u8],
     t: usize,
 ) -> bool
-    requires { ⌜ Laid (now head) (now tasks) (now held) (now ceilings) (now queues) ⌝ }
-    requires { ⌜ t < taskCount (now head) ⌝ }
+    requires { ⌜ LaidOut (now head) (now tasks) (now held) (now ceilings) (now queues) ⌝ }
+    requires { ⌜ t < taskCountIn (now head) ⌝ }
     ensures { λ r.
         ⌜ r ≡
         taskSound
@@ -385,10 +385,10 @@ fn tasks_good(
     ceilings: &[u8],
     queues: &[u8],
 ) -> bool
-    requires { ⌜ Laid (now head) (now tasks) (now held) (now ceilings) (now queues) ⌝ }
+    requires { ⌜ LaidOut (now head) (now tasks) (now held) (now ceilings) (now queues) ⌝ }
     ensures { λ r.
         ⌜ r ≡
-        below (taskCount (now (head .entry)))
+        below (taskCountIn (now (head .entry)))
         (taskSound
         (modelOf (now (head .entry)) (now (tasks .entry)) (now (held .entry)) (now (ceilings .entry)) (now (queues .entry)))) ⌝ }
 {
@@ -412,7 +412,7 @@ fn own_queue(
     queues: &[u8],
     p: Priority,
 ) -> bool
-    requires { ⌜ Laid (now head) (now tasks) (now held) (now ceilings) (now queues) ⌝ }
+    requires { ⌜ LaidOut (now head) (now tasks) (now held) (now ceilings) (now queues) ⌝ }
     requires { ⌜ HasQueue (p .0) ⌝ }
     ensures { λ r.
         ⌜ r ≡
@@ -450,7 +450,7 @@ fn queue_good(
     queues: &[u8],
     p: Priority,
 ) -> bool
-    requires { ⌜ Laid (now head) (now tasks) (now held) (now ceilings) (now queues) ⌝ }
+    requires { ⌜ LaidOut (now head) (now tasks) (now held) (now ceilings) (now queues) ⌝ }
     requires { ⌜ HasQueue (p .0) ⌝ }
     ensures { λ r.
         ⌜ r ≡
@@ -471,7 +471,7 @@ fn queues_good(
     ceilings: &[u8],
     queues: &[u8],
 ) -> bool
-    requires { ⌜ Laid (now head) (now tasks) (now held) (now ceilings) (now queues) ⌝ }
+    requires { ⌜ LaidOut (now head) (now tasks) (now held) (now ceilings) (now queues) ⌝ }
     ensures { λ r.
         ⌜ r ≡
         eachPriority
@@ -496,7 +496,7 @@ pub fn sound(
     ceilings: &[u8],
     queues: &[u8],
 ) -> bool
-    requires { ⌜ Laid (now head) (now tasks) (now held) (now ceilings) (now queues) ⌝ }
+    requires { ⌜ LaidOut (now head) (now tasks) (now held) (now ceilings) (now queues) ⌝ }
     ensures { λ r.
         ⌜ r ≡
         sound

@@ -50,7 +50,7 @@ use denote.Triple.Statement.{Contract, Triple}
 use denote.Triple.Table.{entered, cited}
 use denote.Triple.Walked.{says, Stays, stay-none, stay-slice, walkOf, Walks, ends-at, walked, goes-none, goes-slice, walk-meets}
 use Rattle.board.specs.Rows.{noRow, fillingOf}
-use Rattle.board.specs.Fill.{rowOf, answerOf, pairsWritten, boardAfter}
+use Rattle.board.specs.Fill.{rowOf, fillAnswerOf, rowsWritten, boardAfter}
 use Rattle.board.specs.declared.FillAnswer.{FillAnswer}
 use Rattle.dispatch.specs.State.{view}
 use Rattle.dispatch.specs.Sound.{soundOf}
@@ -119,22 +119,22 @@ module _ {M : Type 1} (𝓤 : URA M) (H : Heap 𝓤) (A : Atoms 𝓤) (mem : Mem
 
 module _ {M : Type 1} (𝓤 : URA M) (H : Heap 𝓤) (A : Atoms 𝓤) (W : Given 𝓤 H A) (mem : Memory → SProp 𝓤) (run : Routine → Fun 𝓤)
     (C : Calls 𝓤 H) (fm : FmC 𝓤 H (W .laws) C) (known : Known 𝓤 H A mem run C) (s : State) (iss : Is S s (lowS s ∷ [])) where
-  answer-runs : (n : ℕ) → n < 2 ^ 64 → Returns 𝓤 H C #board·fill-answer (lowS s ∷ vint w64 n ∷ []) F.the-row lowF (answerOf s n)
+  answer-runs : (n : ℕ) → n < 2 ^ 64 → Returns 𝓤 H C #board·fill-answer (lowS s ∷ vint w64 n ∷ []) F.the-row lowF (fillAnswerOf s n)
   answer-runs n g =
       runs-plain W fm fill-answer.signature (fill-answer.spec 𝓤 H A mem run) (known .to-answer)
       ((tt, tt, tt, (s, (n, tt)), (lowS s ∷ [], (vint w64 n ∷ [], tt))), tt) (id⊢ 𝓤 (emp 𝓤))
-      (LL.makes P.the-type P′.the-plain 𝓤 H A, (uint-makes 𝓤 H A W w64, tt)) (iss, ((refl, g), tt)) (id⊢ 𝓤 (emp 𝓤)) (answerOf s n)
-      (λ r. exE 𝓤 _ (λ ws. snd∗ 𝓤 (sem 𝓤 H A (lasts fill-answer.ended tt (s, (n, tt)) ws)) (fact 𝓤 (r ≡ answerOf s n))))
+      (LL.makes P.the-type P′.the-plain 𝓤 H A, (uint-makes 𝓤 H A W w64, tt)) (iss, ((refl, g), tt)) (id⊢ 𝓤 (emp 𝓤)) (fillAnswerOf s n)
+      (λ r. exE 𝓤 _ (λ ws. snd∗ 𝓤 (sem 𝓤 H A (lasts fill-answer.ended tt (s, (n, tt)) ws)) (fact 𝓤 (r ≡ fillAnswerOf s n))))
       lowF (EL.tells F.the-type F′.the-laws)
 
   written-runs : (a : FillAnswer) → Is F.the-row a (lowF a ∷ [])
-      → Returns 𝓤 H C #board·written (lowS s ∷ lowF a ∷ []) usize (vint w64) (pairsWritten s a)
+      → Returns 𝓤 H C #board·written (lowS s ∷ lowF a ∷ []) usize (vint w64) (rowsWritten s a)
   written-runs a isa =
       runs-plain W fm written.signature (written.spec 𝓤 H A mem run) (known .to-written)
       ((tt, tt, tt, (s, (a, tt)), (lowS s ∷ [], (lowF a ∷ [], tt))), tt) (id⊢ 𝓤 (emp 𝓤))
       (LL.makes P.the-type P′.the-plain 𝓤 H A, (EL.makes F.the-type F′.the-plain 𝓤 H A, tt)) (iss, (isa, tt)) (id⊢ 𝓤 (emp 𝓤))
-      (pairsWritten s a)
-      (λ r. exE 𝓤 _ (λ ws. snd∗ 𝓤 (sem 𝓤 H A (lasts written.ended tt (s, (a, tt)) ws)) (fact 𝓤 (r ≡ pairsWritten s a))))
+      (rowsWritten s a)
+      (λ r. exE 𝓤 _ (λ ws. snd∗ 𝓤 (sem 𝓤 H A (lasts written.ended tt (s, (a, tt)) ws)) (fact 𝓤 (r ≡ rowsWritten s a))))
       (vint w64) (uint-tells w64)
 
   row-of-runs : (i : ℕ) → i < 2 ^ 64 → (soundOf s ≡ true) × (i < length (view s .tasks))
@@ -163,10 +163,10 @@ module _ {M : Type 1} (𝓤 : URA M) (H : Heap 𝓤) (A : Atoms 𝓤) (W : Given
   n = length ys
 
   abbrev told : FillAnswer
-  told = answerOf s n
+  told = fillAnswerOf s n
 
   abbrev m : ℕ
-  m = pairsWritten s told
+  m = rowsWritten s told
 
   abbrev at : Vals fill.signature (κ, tt)
   at = (lowS s ∷ [], (sliceVal (b, o) n ∷ [], tt))

@@ -50,7 +50,7 @@ use denote.Triple.Statement.{Contract, Triple}
 use denote.Triple.Table.{entered, cited}
 use denote.Triple.Walked.{says, Stays, stay-none-slice, walkOf, Walks, ends-at, walked, goes-none-slice, walk-meets}
 use Rattle.board.specs.Rows.{rowLimit, noRow, toldOf}
-use Rattle.board.specs.Scan.{bestNone, betterOf, bestOf, lookedOf, finishOf, scanOf}
+use Rattle.board.specs.Scan.{bestNone, betterOf, bestOf, lookedOf, concluded, scanOf}
 use Rattle.board.specs.declared.NextAnswer.{NextAnswer}
 use Rattle.board.specs.declared.scan.Best.{Best}
 use Rattle.board.specs.declared.Row.{Row}
@@ -152,12 +152,12 @@ module _ {M : Type 1} (𝓤 : URA M) (H : Heap 𝓤) (A : Atoms 𝓤) (W : Given
       lowB (LL.tells B.the-type B′.the-laws)
 
   finish-runs : (n : ℕ) (d : Best) → n < 2 ^ 64 → Is B.the-row d (lowB d ∷ [])
-      → Returns 𝓤 H C #board·finish (vint w64 n ∷ lowB d ∷ []) N.the-row lowN (finishOf n d)
+      → Returns 𝓤 H C #board·finish (vint w64 n ∷ lowB d ∷ []) N.the-row lowN (concluded n d)
   finish-runs n d g isd =
       runs-plain W fm finish.signature (finish.spec 𝓤 H A mem run) (known .to-finish)
       ((tt, tt, tt, (n, (d, tt)), (vint w64 n ∷ [], (lowB d ∷ [], tt))), tt) (id⊢ 𝓤 (emp 𝓤))
-      (uint-makes 𝓤 H A W w64, (LL.makes B.the-type B′.the-plain 𝓤 H A, tt)) ((refl, g), (isd, tt)) (id⊢ 𝓤 (emp 𝓤)) (finishOf n d)
-      (λ x. exE 𝓤 _ (λ ws. snd∗ 𝓤 (sem 𝓤 H A (lasts finish.ended tt (n, (d, tt)) ws)) (fact 𝓤 (x ≡ finishOf n d))))
+      (uint-makes 𝓤 H A W w64, (LL.makes B.the-type B′.the-plain 𝓤 H A, tt)) ((refl, g), (isd, tt)) (id⊢ 𝓤 (emp 𝓤)) (concluded n d)
+      (λ x. exE 𝓤 _ (λ ws. snd∗ 𝓤 (sem 𝓤 H A (lasts finish.ended tt (n, (d, tt)) ws)) (fact 𝓤 (x ≡ concluded n d))))
       lowN (EL.tells N.the-type N′.the-laws)
 
 -- ---- the walk
@@ -280,7 +280,7 @@ module _ {M : Type 1} (𝓤 : URA M) (H : Heap 𝓤) (A : Atoms 𝓤) (W : Given
           (and-then ! (load ! (from ! (stop !)) (look ! 18 refl)) (and-then ! (load ! (from ! (stop !)) (look ! 14 refl)) (no-more !)))
           (λ is.
           land ! (from ! (stop !))
-          (init ! 22 refl (EL.lawful N.the-type N′.the-laws 𝓤 H A W tt .typed (finishOf n (bestOf ys i)) _ is .0)) $
+          (init ! 22 refl (EL.lawful N.the-type N′.the-laws 𝓤 H A W tt .typed (concluded n (bestOf ys i)) _ is .0)) $
           returns ! (look ! 22 refl) $
           forget ! 8 refl $ forget ! 12 refl $ forget ! 14 refl $ forget ! 16 refl $ forget ! 18 refl $ forget ! 20 refl $
           forget ! 22 refl $
@@ -290,7 +290,7 @@ module _ {M : Type 1} (𝓤 : URA M) (H : Heap 𝓤) (A : Atoms 𝓤) (W : Given
           move ! (4 ∷ 5 ∷ []) $ free1 ! $ move ! (2 ∷ 3 ∷ []) $ free1 ! $ free0 ! $
           -- [the token; the fractured borrow; res; the slice's fact]
           move ! (2 ∷ 1 ∷ []) $ fjoin ! $ move ! (2 ∷ 0 ∷ []) $ fjoin ! $ move ! (1 ∷ 0 ∷ []) $
-          by ! (exits (finishOf n (bestOf ys i)) (ap (λ (j : ℕ). finishOf n (bestOf ys j)) all) is)))
+          by ! (exits (concluded n (bestOf ys i)) (ap (λ (j : ℕ). concluded n (bestOf ys j)) all) is)))
         where
           i : ℕ
           i = s .0

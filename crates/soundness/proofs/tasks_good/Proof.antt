@@ -6,7 +6,7 @@ use native.Mathlib.Omega.{arith}
 use borrow.Author.Needs.{needs}
 use borrow.Author.Tests.{not-true, not-false}
 use Rattle.rules.specs.Lists.{below}
-use Rattle.memory.specs.Memory.{modelOf, taskCount}
+use Rattle.memory.specs.Memory.{modelOf, taskCountIn}
 use Rattle.soundness.specs.Tested.{taskSound}
 use Rattle.memory.proofs.TestLaws.{below-more, below-fails}
 use Rattle.soundness.proofs.tasks_good.Statement.{statement}
@@ -55,7 +55,7 @@ returns-2 : tie.Need-returns-2 Inv-loop μ-loop
 returns-2 c =
     let at-loop = c .before in
     let entry = at-loop .before .before .before .before .before .before in
-    let e : at-loop .loop .t ≡ taskCount (entry .args .head .now) = omega arith in
+    let e : at-loop .loop .t ≡ taskCountIn (entry .args .head .now) = omega arith in
     sym (rw e at (at-loop .loop .inv .1))
 
 pub tasks-good-spec : {M : Type 1} → statement M

@@ -1,7 +1,7 @@
 -- `board::source::written` meets its contract.
 use mathlib.Core.Path.{sym, ap, _∙_}
 use borrow.Author.Needs.{needs}
-use Rattle.board.specs.Fill.{pairsWritten}
+use Rattle.board.specs.Fill.{rowsWritten}
 use Rattle.board.proofs.source.written.Statement.{statement}
 use Rattle.board.proofs.source.written.Tie as tie
 
@@ -20,7 +20,7 @@ enum-told-3 c = search needs
 returns : tie.Need-returns
 returns c =
     let k = c .before .before in
-    k .tasks-in .ensures ∙ sym (ap (pairsWritten (k .before .args .state)) (c .enum-told .given .1))
+    k .tasks-in .ensures ∙ sym (ap (rowsWritten (k .before .args .state)) (c .enum-told .given .1))
 
 returns-2 : tie.Need-returns-2
 returns-2 c = search needs

@@ -6,7 +6,7 @@ use borrow.Author.Needs.{needs}
 use lib.ListN.{drop}
 use Rattle.rules.specs.Events.{nobody, firstDue, Due as RuleDue, earlier, dueAt}
 use Rattle.memory.specs.Memory.{modelOf}
-use Rattle.engine.specs.Room.{dueOf}
+use Rattle.engine.specs.Room.{ruleDueOf}
 use Rattle.engine.proofs.EffectLaws.{readable, search-more, search-end}
 use Rattle.memory.proofs.MemoryLaws.{count-is, place-is}
 use Rattle.engine.proofs.effects.first_due.Statement.{statement}
@@ -16,7 +16,7 @@ abbrev Inv-loop : tie.InvT-loop
 Inv-loop head tasks held ceilings queues r n best₀ t₀ best t =
     (t ≤ n) ×
     (firstDue r nobody 0 (modelOf head tasks held ceilings queues .tasks) ≡
-    firstDue r (dueOf best) t (drop t (modelOf head tasks held ceilings queues .tasks)))
+    firstDue r (ruleDueOf best) t (drop t (modelOf head tasks held ceilings queues .tasks)))
 
 abbrev μ-loop : tie.MeasureT-loop
 μ-loop head tasks held ceilings queues r n best₀ t₀ best t = n - t
@@ -55,7 +55,7 @@ loop-again c =
     let l = at-loop .loop in
     let count = count-is d in
     let x =
-    c .earlier .ensures ∙ ap (λ (y : RuleDue). earlier (dueOf (l .best)) y)
+    c .earlier .ensures ∙ ap (λ (y : RuleDue). earlier (ruleDueOf (l .best)) y)
     (at-due-at .due-at .ensures ∙ ap (dueAt _ _) (at-place .place .ensures ∙ sym (place-is d (l .t) (omega arith)))) in
     (search needs, search-more _ (l .t) _ _ _ (omega (arith, count)) x (l .inv .1))
 

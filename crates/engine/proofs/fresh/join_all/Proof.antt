@@ -8,7 +8,7 @@ use lib.ListN.{length}
 use Rattle.rules.specs.Fresh.{joinFrom}
 use Rattle.rules.specs.Model.{Model}
 use Rattle.rules.specs.Moves.{becomeReady}
-use Rattle.memory.specs.Memory.{modelOf, taskCount, Means}
+use Rattle.memory.specs.Memory.{modelOf, taskCountIn, Means}
 use Rattle.engine.proofs.FreshLaws.{join-next}
 use Rattle.memory.proofs.MemoryLaws.{as-laid, means-by, then-means, count-is}
 use Rattle.engine.proofs.fresh.join_all.Statement.{statement}
@@ -65,7 +65,7 @@ returns : tie.Need-returns Inv-loop μ-loop
 returns c =
     let at-loop = c .before in
     let entry = at-loop .before .before .before .before .before .before in
-    let e : at-loop .loop .t ≡ taskCount (entry .args .head .now) = omega arith in
+    let e : at-loop .loop .t ≡ taskCountIn (entry .args .head .now) = omega arith in
     means-by (at-loop .loop .inv .1) (rw e)
 
 pub join-all-spec : {M : Type 1} → statement M

@@ -7,8 +7,8 @@ use Rattle.layout.proofs.decode.read.Tie as tie
 byte-at-requires : tie.Need-byte-at-requires
 byte-at-requires c κs = search needs
 
-runner-of-requires : tie.Need-runner-of-requires
-runner-of-requires c κs = search needs
+runner-from-requires : tie.Need-runner-from-requires
+runner-from-requires c κs = search needs
 
 tasks-from-requires : tie.Need-tasks-from-requires
 tasks-from-requires c κs = search needs
@@ -46,7 +46,7 @@ read-spec =
     tie.close
     (tie.spec
     byte-at-requires
-    runner-of-requires
+    runner-from-requires
     tasks-from-requires
     slice-aggregate-copy-cells
     copy-cells-requires

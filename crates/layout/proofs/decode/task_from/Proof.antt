@@ -13,8 +13,8 @@ add-byte-at c = search needs
 byte-at-requires : tie.Need-byte-at-requires
 byte-at-requires c κs = search needs
 
-place-of-requires : tie.Need-place-of-requires
-place-of-requires c κs = search needs
+place-from-requires : tie.Need-place-from-requires
+place-from-requires c κs = search needs
 
 add-byte-at-2 : tie.Need-add-byte-at-2
 add-byte-at-2 c = search needs
@@ -34,8 +34,8 @@ add-byte-at-4 c = search needs
 byte-at-requires-4 : tie.Need-byte-at-requires-4
 byte-at-requires-4 c κs = search needs
 
-waiting-of-requires : tie.Need-waiting-of-requires
-waiting-of-requires c κs = search needs
+waiting-from-requires : tie.Need-waiting-from-requires
+waiting-from-requires c κs = search needs
 
 add-byte-at-5 : tie.Need-add-byte-at-5
 add-byte-at-5 c = search needs
@@ -54,14 +54,14 @@ task-from-spec =
     number-at-requires
     add-byte-at
     byte-at-requires
-    place-of-requires
+    place-from-requires
     add-byte-at-2
     byte-at-requires-2
     add-byte-at-3
     byte-at-requires-3
     add-byte-at-4
     byte-at-requires-4
-    waiting-of-requires
+    waiting-from-requires
     add-byte-at-5
     byte-at-requires-5
     returns)

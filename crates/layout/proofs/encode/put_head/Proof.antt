@@ -8,8 +8,8 @@ use Rattle.layout.proofs.encode.put_head.Tie as tie
 put-number-requires : tie.Need-put-number-requires
 put-number-requires c κs = search needs
 
-running-byte-requires : tie.Need-running-byte-requires
-running-byte-requires c κs = search needs
+runner-code-requires : tie.Need-runner-code-requires
+runner-code-requires c κs = search needs
 
 slice-aggregate-put : tie.Need-slice-aggregate-put
 slice-aggregate-put c = search needs
@@ -26,14 +26,14 @@ returns c =
     let b2 = p .before .before .before in
     let b1 = b2 .before .before .before in
     let a = b1 .before .before .before .args in
-    head-put (a .out .now) _ _ 0 _ (omega arith) (a .state) _ (b2 .running-byte .ensures) (b1 .put-number .ensures) (p .put .ensures)
+    head-put (a .out .now) _ _ 0 _ (omega arith) (a .state) _ (b2 .runner-code .ensures) (b1 .put-number .ensures) (p .put .ensures)
 
 pub put-head-spec : {M : Type 1} → statement M
 put-head-spec =
     tie.close
     (tie.spec
     put-number-requires
-    running-byte-requires
+    runner-code-requires
     slice-aggregate-put
     put-requires
     same-length

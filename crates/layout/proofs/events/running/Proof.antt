@@ -11,14 +11,14 @@ returns c = running-short (c .before .before .args .bytes .now) (omega arith)
 read-requires : tie.Need-read-requires
 read-requires c κs = search needs
 
-running-byte-requires : tie.Need-running-byte-requires
-running-byte-requires c κs = search needs
+runner-code-requires : tie.Need-runner-code-requires
+runner-code-requires c κs = search needs
 
 returns-2 : tie.Need-returns-2
 returns-2 c =
     let r = c .before in
     let a = r .before .before .before .args in
-    running-told (a .bytes .now) _ _ (omega arith) (r .read .ensures) (c .running-byte .ensures)
+    running-told (a .bytes .now) _ _ (omega arith) (r .read .ensures) (c .runner-code .ensures)
 
 pub running-spec : {M : Type 1} → statement M
 running-spec =
@@ -26,5 +26,5 @@ running-spec =
     (tie.spec
     returns
     read-requires
-    running-byte-requires
+    runner-code-requires
     returns-2)

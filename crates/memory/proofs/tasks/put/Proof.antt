@@ -2,7 +2,7 @@
 use Prim.Native.Nat.{_-_}
 use borrow.Author.Needs.{needs}
 use Rattle.rules.specs.declared.Task.{Task}
-use Rattle.memory.specs.Tasks.{based, waited, permitted}
+use Rattle.memory.specs.Tasks.{based, waited, granted}
 use Rattle.memory.proofs.TaskLaws.{then-became}
 use Rattle.memory.proofs.tasks.put.Statement.{statement}
 use Rattle.memory.proofs.tasks.put.Tie as tie
@@ -33,7 +33,7 @@ returns c =
     let k = entry .args .task in
     let two = then-became _ _ (λ (x : Task). based x (k .base)) h (at-set-place .set-place .ensures) (at-set-base .set-base .ensures) in
     let three = then-became _ _ (λ (x : Task). waited x (k .waiting)) h two (at-set-waiting .set-waiting .ensures) in
-    then-became _ _ (λ (x : Task). permitted x (k .permit)) h three (at-set-permit .set-permit .ensures)
+    then-became _ _ (λ (x : Task). granted x (k .permit)) h three (at-set-permit .set-permit .ensures)
 
 pub put-spec : {M : Type 1} → statement M
 put-spec =

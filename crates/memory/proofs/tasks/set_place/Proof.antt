@@ -10,8 +10,8 @@ use Rattle.memory.proofs.tasks.set_place.Tie as tie
 mul-row : tie.Need-mul-row
 mul-row c = search needs
 
-kind-of-requires : tie.Need-kind-of-requires
-kind-of-requires c κs = search needs
+kind-code-requires : tie.Need-kind-code-requires
+kind-code-requires c κs = search needs
 
 add-tasks : tie.Need-add-tasks
 add-tasks c = search needs
@@ -40,14 +40,14 @@ same-length c = search needs
 returns : tie.Need-returns
 returns c =
     let a = c .before .before .before in
-    place-became _ _ (a .pre .1) (a .pre .0) _ _ _ (c .before .kind-of .ensures) (c .due-of .ensures)
+    place-became _ _ (a .pre .1) (a .pre .0) _ _ _ (c .before .kind-code .ensures) (c .due-of .ensures)
 
 pub set-place-spec : {M : Type 1} → statement M
 set-place-spec =
     tie.close
     (tie.spec
     mul-row
-    kind-of-requires
+    kind-code-requires
     add-tasks
     mul-tasks
     slice-write-tasks
