@@ -1,12 +1,11 @@
 -- What the methods give back: the answer, and the state beside it.
 use mathlib.Core.Bool.{cond}
-use mathlib.Core.List.{List}
 use Prim.Native.Nat.{ℕ}
 use lib.Dec.{eqb}
 use Rattle.rules.specs.Answers.{numberOf}
 use Rattle.rules.specs.Moved.{Moved}
 use Rattle.rules.specs.Events.{apply}
-use Rattle.rules.specs.Fresh.{fresh}
+use Rattle.rules.specs.Fresh.{Setup, fresh}
 use Rattle.rules.specs.declared.Priority.{Priority}
 use Rattle.rules.specs.declared.Event.{Event}
 use Rattle.rules.specs.declared.Event.the-variants.{Enter, Leave, Delay, Suspend, Release, Clock, Set, Work, Finish}
@@ -61,5 +60,5 @@ abbrev pub beside : Moved → Stepped
 beside r = record { answer = r .answer; state = encode (r .model) }
 
 -- "A fresh start is refused with 13 .., else with 15 ..; the state beside that answer is the fresh one of a single task"
-unfoldable pub freshOf : List ℕ → List ℕ → Stepped
-freshOf bases ceilings = beside (fresh bases ceilings)
+unfoldable pub freshOf : Setup → Stepped
+freshOf s = beside (fresh s)

@@ -1,7 +1,6 @@
 // The fresh start.
 ghost use mathlib.Core.Path.{_≡_};
-ghost use Rattle.rules.specs.Fresh.{freshModel, refusedFresh};
-ghost use Rattle.engine.specs.Fresh.{Startable};
+ghost use Rattle.rules.specs.Fresh.{freshModel, refusedFresh, Startable};
 ghost use Rattle.dispatch.specs.State.{encode};
 ghost use Rattle.dispatch.specs.Methods.{beside, freshOf};
 use crate::State;
@@ -18,8 +17,8 @@ use rules::Answer;
 
 // The fresh state of these bases and ceilings.
 fn started(bases: &[u8], given: &[u8]) -> State
-    requires { ⌜ Startable (now bases) (now given) ⌝ }
-    ensures { λ r. ⌜ r ≡ encode (freshModel (now (bases .entry)) (now (given .entry))) ⌝ }
+    requires { ⌜ Startable (record { bases = now bases; ceilings = now given }) ⌝ }
+    ensures { λ r. ⌜ r ≡ encode (freshModel (record { bases = now (bases .entry); ceilings = now (given .entry) })) ⌝ }
 {
     let mut head = [0u64; HEAD_WIDTH];
     let mut tasks = [0u64; TASK_CELLS];
@@ -49,7 +48,7 @@ fn single() -> State
 
 impl State {
     pub fn fresh(bases: &[u8], ceilings: &[u8]) -> Stepped
-        ensures { λ r. ⌜ r ≡ freshOf (now (bases .entry)) (now (ceilings .entry)) ⌝ }
+        ensures { λ r. ⌜ r ≡ freshOf (record { bases = now (bases .entry); ceilings = now (ceilings .entry) }) ⌝ }
     {
         if bases.len() < 1 {
             return refused(Answer::BadCounts);

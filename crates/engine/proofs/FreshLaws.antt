@@ -8,13 +8,13 @@ use lib.Seq.{take-at, drop-at, take-append-seam, drop-append-seam}
 use Rattle.rules.specs.Limits.{taskLimit, objectLimit, lastPriority}
 use Rattle.rules.specs.Model.{Model, TaskRecord, blank}
 use Rattle.rules.specs.Moves.{becomeReady}
-use Rattle.rules.specs.Fresh.{newTask, newTasks, unstarted, joinFrom}
+use Rattle.rules.specs.Fresh.{Setup, newTask, newTasks, unstarted, joinFrom, Startable}
 use Rattle.rules.proofs.FreshLaws.{Joined, join-core, join-one, joined-none}
 use Rattle.memory.specs.Rows.{rows, queueWidth, heldWidth}
 use Rattle.memory.specs.Tasks.{taskWidth, blankTask, tasksIn}
 use Rattle.memory.specs.Memory.{nowCell, runningCell, tasksCell, objectsCell, headWidth, runnerOf, waitingIn, together}
 use Rattle.memory.specs.Memory.{taskCountIn, allRecords, modelOf, Means}
-use Rattle.engine.specs.Fresh.{newcomer, Startable, Enrolled, JoinAll}
+use Rattle.engine.specs.Fresh.{newcomer, Enrolled, JoinAll}
 use Rattle.engine.specs.Room.{Dispatches}
 use Rattle.memory.proofs.BlankLaws.{blank-lists, blank-good, blank-tasks}
 use Rattle.memory.proofs.MemoryLaws.{then-means, means-by, count-is}
@@ -52,7 +52,7 @@ fresh-head (a ∷ (b ∷ (c ∷ (x ∷ [])))) n k e = refl
 fresh-head (a ∷ (b ∷ (c ∷ (x ∷ (y ∷ l))))) n k e = absurd (omega arith)
 
 -- blank slices with newcomers, ceilings and counts written: nobody has started
-module _ (bs given h ts₀ ts hd cs₀ cs qs : List ℕ) (s : Startable bs given) (head : h ≡ 0 ∷ (0 ∷ (length bs ∷ (length given ∷ []))))
+module _ (bs given h ts₀ ts hd cs₀ cs qs : List ℕ) (s : Startable (record { bases = bs; ceilings = given })) (head : h ≡ 0 ∷ (0 ∷ (length bs ∷ (length given ∷ []))))
     (empty : ts₀ ≡ replicate (taskLimit * taskWidth) 0) (new : Enrolled ts₀ ts bs) (held : hd ≡ replicate (taskLimit * heldWidth) 0)
     (none : cs₀ ≡ replicate objectLimit 0) (ceilings : cs ≡ given ++ drop (length given) cs₀)
     (queues : qs ≡ replicate (lastPriority * queueWidth) 0) where
@@ -72,7 +72,7 @@ module _ (bs given h ts₀ ts hd cs₀ cs qs : List ℕ) (s : Startable bs given
       ap (λ (n : ℕ). drop (length given) (replicate {A = ℕ} n 0)) k ∙ drop-same {A = ℕ} (length given) (objectLimit - length given) 0 in
       ceilings ∙ rw (none, rest)
 
-  pub fresh-law : Means h ts hd cs qs (unstarted bs given)
+  pub fresh-law : Means h ts hd cs qs (unstarted (record { bases = bs; ceilings = given }))
   unfolding runnerOf
   fresh-law =
       let seam = new-count bs in
@@ -106,32 +106,32 @@ join-next t (suc n) m =
     let e : suc t + n ≡ t + suc n = omega arith in
     join-next (suc t) n (becomeReady m t) ∙ ap (becomeReady (joinFrom (suc t) n (becomeReady m t))) e
 
-module _ (bs cs : List ℕ) (s : Startable bs cs) where
-  joined-to : (i : ℕ) → i ≤ length bs → Joined bs cs (s .count) (s .bases) (s .ceilings) i (joinFrom 0 i (unstarted bs cs))
+module _ (x : Setup) (s : Startable x) where
+  joined-to : (i : ℕ) → i ≤ length (x .bases) → Joined x s i (joinFrom 0 i (unstarted x))
   unfolding joinFrom
-  joined-to zero h = joined-none bs cs (s .count) (s .bases) (s .ceilings)
+  joined-to zero h = joined-none x s
   joined-to (suc i) h =
       let a = joined-to i (omega arith) in
-      let e : becomeReady (joinFrom 0 i (unstarted bs cs)) (0 + i) ≡ becomeReady (joinFrom 0 i (unstarted bs cs)) i =
-      let z : 0 + i ≡ i = omega arith in ap (becomeReady (joinFrom 0 i (unstarted bs cs))) z in
-      rw (join-next 0 i (unstarted bs cs), e) (join-one bs cs (s .count) (s .bases) (s .ceilings) i _ (omega arith) a)
+      let e : becomeReady (joinFrom 0 i (unstarted x)) (0 + i) ≡ becomeReady (joinFrom 0 i (unstarted x)) i =
+      let z : 0 + i ≡ i = omega arith in ap (becomeReady (joinFrom 0 i (unstarted x))) z in
+      rw (join-next 0 i (unstarted x), e) (join-one x s i _ (omega arith) a)
 
-  pub fresh-joins : JoinAll (unstarted bs cs)
+  pub fresh-joins : JoinAll (unstarted x)
   fresh-joins =
       record {
         next = λ t h.
-            let a = joined-to t (omega (arith, new-count bs)) in
-            core-joins _ t (join-core bs cs (s .count) (s .bases) (s .ceilings) t _ a) (omega (arith, a .size, new-count bs));
+            let a = joined-to t (omega (arith, new-count (x .bases))) in
+            core-joins _ t (join-core x s t _ a) (omega (arith, a .size, new-count (x .bases)));
       }
 
-  pub fresh-dispatches : Dispatches (joinFrom 0 (length bs) (unstarted bs cs))
-  fresh-dispatches = core-dispatches _ (joined-to (length bs) (omega arith) .core)
+  pub fresh-dispatches : Dispatches (joinFrom 0 (length (x .bases)) (unstarted x))
+  fresh-dispatches = core-dispatches _ (joined-to (length (x .bases)) (omega arith) .core)
 
 -- all tasks of a fresh start have joined
-pub joined-law : {h ts hd cs qs ts' qs' given : List ℕ} (bs : List ℕ) → Means h ts hd cs qs (unstarted bs given) →
+pub joined-law : {h ts hd cs qs ts' qs' : List ℕ} (x : Setup) → Means h ts hd cs qs (unstarted x) →
     Means h ts' hd cs qs' (joinFrom 0 (taskCountIn h) (modelOf h ts hd cs qs)) →
-    Means h ts' hd cs qs' (joinFrom 0 (length bs) (unstarted bs given))
-joined-law {h = h} {given = given} bs x y =
-    let count : taskCountIn h ≡ length bs =
-    sym (count-is (x .laid)) ∙ (ap (λ (m : Model). length (m .tasks)) (x .same) ∙ new-count bs) in
-    means-by (then-means (joinFrom 0 (taskCountIn h)) x y) (ap (λ (n : ℕ). joinFrom 0 n (unstarted bs given)) count)
+    Means h ts' hd cs qs' (joinFrom 0 (length (x .bases)) (unstarted x))
+joined-law {h = h} x y z =
+    let count : taskCountIn h ≡ length (x .bases) =
+    sym (count-is (y .laid)) ∙ (ap (λ (m : Model). length (m .tasks)) (y .same) ∙ new-count (x .bases)) in
+    means-by (then-means (joinFrom 0 (taskCountIn h)) y z) (ap (λ (n : ℕ). joinFrom 0 n (unstarted x)) count)

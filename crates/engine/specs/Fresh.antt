@@ -1,17 +1,15 @@
 -- What a fresh start writes into the slices.
 use mathlib.Core.Path.{_≡_}
-use mathlib.Core.Bool.{true, false}
+use mathlib.Core.Bool.{false}
 use mathlib.Core.List.{List, _++_, map}
-use Prim.Native.Nat.{ℕ, _*_, _<_, _≤_}
+use Prim.Native.Nat.{ℕ, _*_, _<_}
 use lib.ListN.{length, drop}
 use Rattle.rules.specs.Limits.{taskLimit, objectLimit, lastPriority}
-use Rattle.rules.specs.Priorities.{inRange}
 use Rattle.rules.specs.Model.{Model}
 use Rattle.rules.specs.Fresh.{joinFrom}
 use Rattle.rules.specs.declared.Place.the-variants.{Suspended}
 use Rattle.rules.specs.declared.WaitingBase.the-variants.{Nothing}
 use Rattle.rules.specs.declared.Task.{Task}
-use Rattle.rules.specs.Lists.{allOf}
 use Rattle.memory.specs.Rows.{queueWidth, heldWidth}
 use Rattle.memory.specs.Tasks.{taskWidth, tasksIn, Tasks}
 use Rattle.memory.specs.Memory.{headWidth}
@@ -24,14 +22,6 @@ pub record Sized (h ts hd cs qs : List ℕ) : Type 0 where
   pub held : length hd ≡ taskLimit * heldWidth
   pub ceilings : length cs ≡ objectLimit
   pub queues : length qs ≡ lastPriority * queueWidth
-
--- bases and ceilings that a fresh start accepts
-pub record Startable (bs cs : List ℕ) : Type 0 where
-  pub some : 1 ≤ length bs
-  pub count : length bs ≤ taskLimit
-  pub objects : length cs ≤ objectLimit
-  pub bases : allOf inRange bs ≡ true
-  pub ceilings : allOf inRange cs ≡ true
 
 -- a task of base p that has not joined a queue yet
 abbrev pub newcomer : ℕ → Task

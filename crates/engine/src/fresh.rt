@@ -4,10 +4,10 @@ ghost use mathlib.Core.List.{_++_};
 ghost use Prim.Native.Nat.{_≤_};
 ghost use lib.ListN.{length, drop, replicate};
 ghost use Rattle.rules.specs.Limits.{taskLimit};
-ghost use Rattle.rules.specs.Fresh.{unstarted, joinFrom, freshModel};
+ghost use Rattle.rules.specs.Fresh.{unstarted, joinFrom, freshModel, Startable};
 ghost use Rattle.memory.specs.Tasks.{Tasks};
 ghost use Rattle.memory.specs.Memory.{taskCountIn, modelOf, LaidOut, Means};
-ghost use Rattle.engine.specs.Fresh.{Sized, Startable, Enrolled, JoinAll};
+ghost use Rattle.engine.specs.Fresh.{Sized, Enrolled, JoinAll};
 use crate::moves;
 use memory::sizes::HEAD_WIDTH;
 use memory::sizes::NOW_CELL;
@@ -107,11 +107,11 @@ fn lay_out(
     ceilings: &mut [u8],
     queues: &mut [u8],
 )
-    requires { ⌜ Startable (now bases) (now given) ⌝ }
+    requires { ⌜ Startable (record { bases = now bases; ceilings = now given }) ⌝ }
     requires { ⌜ Sized (now head) (now tasks) (now held) (now ceilings) (now queues) ⌝ }
     ensures { λ u.
         ⌜ Means (now (head .exit)) (now (tasks .exit)) (now (held .exit)) (now (ceilings .exit)) (now (queues .exit))
-        (unstarted (now (bases .entry)) (now (given .entry))) ⌝ }
+        (unstarted (record { bases = now (bases .entry); ceilings = now (given .entry) })) ⌝ }
 {
     clear_words(tasks);
     clear_bytes(held);
@@ -134,11 +134,11 @@ pub fn fresh(
     ceilings: &mut [u8],
     queues: &mut [u8],
 )
-    requires { ⌜ Startable (now bases) (now given) ⌝ }
+    requires { ⌜ Startable (record { bases = now bases; ceilings = now given }) ⌝ }
     requires { ⌜ Sized (now head) (now tasks) (now held) (now ceilings) (now queues) ⌝ }
     ensures { λ u.
         ⌜ Means (now (head .exit)) (now (tasks .exit)) (now (held .exit)) (now (ceilings .exit)) (now (queues .exit))
-        (freshModel (now (bases .entry)) (now (given .entry))) ⌝ }
+        (freshModel (record { bases = now (bases .entry); ceilings = now (given .entry) })) ⌝ }
 {
     lay_out(bases, given, head, tasks, held, ceilings, queues);
     join_all(head, tasks, held, ceilings, queues);

@@ -8,8 +8,10 @@ use rules::Priority;
 // The fresh state of bases and ceilings: 0, 13 or 15, the state being written each time; 10, and nothing, into too few bytes.
 #[no_mangle]
 pub extern "C" fn dispatch_fresh(bases: &[u8], ceilings: &[u8], state: &mut [u8]) -> u8
-    ensures { λ r. ⌜ r ≡ freshNumber (now (bases .entry)) (now (ceilings .entry)) (now (state .entry)) ⌝ }
-    ensures { λ r. ⌜ now (state .exit) ≡ freshBytes (now (bases .entry)) (now (ceilings .entry)) (now (state .entry)) ⌝ }
+    ensures { λ r. ⌜ r ≡ freshNumber (record { bases = now (bases .entry); ceilings = now (ceilings .entry) }) (now (state .entry)) ⌝ }
+    ensures { λ r.
+        ⌜ now (state .exit) ≡
+        freshBytes (record { bases = now (bases .entry); ceilings = now (ceilings .entry) }) (now (state .entry)) ⌝ }
 {
     layout::fresh(bases, ceilings, state)
 }

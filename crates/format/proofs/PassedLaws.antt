@@ -5,8 +5,9 @@ use mathlib.Core.List.{List}
 use Prim.Native.Nat.{ℕ, zero, suc, _≤_, _<_}
 use native.Mathlib.Omega.{arith}
 use lib.ListN.{length}
-use Rattle.rules.specs.Limits.{taskLimit, objectLimit, lastDelay}
+use Rattle.rules.specs.Limits.{lastDelay}
 use Rattle.rules.specs.Priorities.{inRange}
+use Rattle.rules.specs.Fresh.{Startable}
 use Rattle.rules.specs.Lists.{allOf}
 use Rattle.rules.specs.declared.Priority.{Priority}
 use Rattle.rules.proofs.Choices.{and-make}
@@ -14,7 +15,7 @@ use Rattle.words.specs.Words.{Bytes, tabulate}
 use Rattle.format.specs.Answers.{passed}
 use Rattle.format.specs.Format.{taskCount, objectCount, baseAt, ceilingAt}
 use Rattle.format.specs.Steps.{stepIn}
-use Rattle.format.specs.Roster.{Roster, rosterOf, scriptOf}
+use Rattle.format.specs.Roster.{Roster, rosterOf, setupOf, scriptOf}
 use Rattle.format.specs.Form.{namesListed, formOf}
 use Rattle.format.specs.Check.{heldBefore, topAt, faultIn, stepsFault, scriptFault, rosterFault, checkOf, Passes}
 use Rattle.format.specs.declared.Step.{Step}
@@ -37,11 +38,7 @@ all-tabulated f (suc n) g h =
 
 -- what a roster that passes keeps to
 pub record Orderly (r : Roster) : Type 0 where
-  pub some : 1 ≤ length (r .bases)
-  pub count : length (r .bases) ≤ taskLimit
-  pub objects : length (r .ceilings) ≤ objectLimit
-  pub bases : allOf inRange (r .bases) ≡ true
-  pub ceilings : allOf inRange (r .ceilings) ≡ true
+  pub start : Startable (setupOf r)
   pub rules : (t k : ℕ) → t < length (r .bases) → k ≤ length (scriptOf r t) →
       Clean (r .ceilings) (topAt r t) (heldBefore (scriptOf r t) k) t (stepIn (scriptOf r t) k)
   pub names : (t k : ℕ) → t < length (r .bases) → namesListed (length (r .bases)) (length (r .ceilings)) (stepIn (scriptOf r t) k) ≡ true
@@ -59,21 +56,16 @@ module _ (s : List ℕ) (ok : Passes s) where
   unfolding checkOf
   passes-rules = sym (ap (λ (v : Verdict). cond (passed v) (rosterFault (rosterOf s)) v) passes-form) ∙ ok
 
-  -- "tasks 1 to 32, objects 0 to 16"
-  pub passes-tasks : (1 ≤ length (rosterOf s .bases)) × (length (rosterOf s .bases) ≤ taskLimit)
-  passes-tasks = (omega (arith, base-count s, tasks-some s passes-form), omega (arith, base-count s, tasks-few s passes-form))
-
-  pub passes-objects : length (rosterOf s .ceilings) ≤ objectLimit
-  passes-objects = omega (arith, ceiling-count s, objects-few s passes-form)
-
-  -- bases and ceilings are priorities
-  pub passes-bases : allOf inRange (rosterOf s .bases) ≡ true
+  -- counts, bases and ceilings in range
+  pub passes-starts : Startable (setupOf (rosterOf s))
   unfolding rosterOf
-  passes-bases = all-tabulated inRange (taskCount s) (baseAt s) (base-good s passes-form)
-
-  pub passes-ceilings : allOf inRange (rosterOf s .ceilings) ≡ true
-  unfolding rosterOf
-  passes-ceilings = all-tabulated inRange (objectCount s) (ceilingAt s) (ceiling-good s passes-form)
+  passes-starts = record {
+    some = omega (arith, base-count s, tasks-some s passes-form);
+    count = omega (arith, base-count s, tasks-few s passes-form);
+    objects = omega (arith, ceiling-count s, objects-few s passes-form);
+    bases = all-tabulated inRange (taskCount s) (baseAt s) (base-good s passes-form);
+    ceilings = all-tabulated inRange (objectCount s) (ceilingAt s) (ceiling-good s passes-form);
+  }
 
   module _ (t k : ℕ) (h : t < length (rosterOf s .bases)) where
     here : t < taskCount s
@@ -101,11 +93,7 @@ module _ (s : List ℕ) (ok : Passes s) where
 
   pub orderly : Bytes s → Orderly (rosterOf s)
   orderly y = record {
-    some = passes-tasks .0;
-    count = passes-tasks .1;
-    objects = passes-objects;
-    bases = passes-bases;
-    ceilings = passes-ceilings;
+    start = passes-starts;
     rules = passes-clean;
     names = passes-names;
     delays = script-delay s y;

@@ -3,6 +3,7 @@ use mathlib.Core.List.{List, []}
 use Prim.Native.Nat.{ℕ}
 use lib.ListN.{getD}
 use Rattle.format.specs.Format.{taskCount, objectCount, baseAt, ceilingAt, partAt}
+use Rattle.rules.specs.Fresh.{Setup}
 use Rattle.words.specs.Words.{tabulate}
 use Rattle.format.specs.Steps.{stepsOf}
 use Rattle.format.specs.declared.Step.{Step}
@@ -20,6 +21,10 @@ rosterOf s =
       ceilings = tabulate (objectCount s) (ceilingAt s);
       scripts = tabulate (taskCount s) (λ t. stepsOf (partAt s t));
     }
+
+-- what a fresh start of it is made from
+abbrev pub setupOf : Roster → Setup
+setupOf r = record { bases = r .bases; ceilings = r .ceilings }
 
 -- the base and the script of a task
 abbrev pub baseOf : Roster → ℕ → ℕ

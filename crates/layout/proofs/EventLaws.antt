@@ -12,6 +12,7 @@ use Rattle.rules.specs.declared.Event.{Event}
 use Rattle.rules.specs.declared.Answer.the-variants.{Unsound}
 use Rattle.rules.proofs.Choices.{cond-true, cond-false}
 use Rattle.dispatch.specs.Sound.{soundOf}
+use Rattle.rules.specs.Fresh.{Setup}
 use Rattle.dispatch.specs.Methods.{appliedOf, freshOf}
 use Rattle.dispatch.specs.declared.State.{State}
 use Rattle.dispatch.specs.declared.Stepped.{Stepped}
@@ -61,18 +62,18 @@ module _ (b : List ℕ) (e : Event) where
         (sym done, f ∙ (ap (λ (x : Stepped). withState (x .state) b) step ∙ sym written))
 
 -- a fresh start
-module _ (bases ceilings b : List ℕ) (n : ℕ) where
+module _ (s : Setup) (b : List ℕ) (n : ℕ) where
   pub fresh-short : n ≡ numberOf Unsound → length b < stateSize →
-      (n ≡ freshNumber bases ceilings b) × (b ≡ freshBytes bases ceilings b)
+      (n ≡ freshNumber s b) × (b ≡ freshBytes s b)
   unfolding freshNumber freshBytes
   fresh-short i h =
-      (i ∙ sym (short-answer b (numberOf (freshOf bases ceilings .answer)) h), state-kept (freshOf bases ceilings .state) b h)
+      (i ∙ sym (short-answer b (numberOf (freshOf s .answer)) h), state-kept (freshOf s .state) b h)
 
-  pub fresh-made : (b' : List ℕ) (r : Stepped) → r ≡ freshOf bases ceilings → b' ≡ withState (r .state) b → n ≡ numberOf (r .answer) →
-      stateSize ≤ length b → (n ≡ freshNumber bases ceilings b) × (b' ≡ freshBytes bases ceilings b)
+  pub fresh-made : (b' : List ℕ) (r : Stepped) → r ≡ freshOf s → b' ≡ withState (r .state) b → n ≡ numberOf (r .answer) →
+      stateSize ≤ length b → (n ≡ freshNumber s b) × (b' ≡ freshBytes s b)
   unfolding freshNumber freshBytes
   fresh-made b' r e f i h =
-      let own = own-answer b (numberOf (freshOf bases ceilings .answer)) h in
+      let own = own-answer b (numberOf (freshOf s .answer)) h in
       (i ∙ (ap (λ (x : Stepped). numberOf (x .answer)) e ∙ sym own), f ∙ ap (λ (x : Stepped). withState (x .state) b) e)
 
 -- the test of soundness

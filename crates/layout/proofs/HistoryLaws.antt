@@ -13,7 +13,7 @@ use Rattle.rules.specs.Answers.{numberOf}
 use Rattle.rules.specs.Model.{Model, blank, taskAt}
 use Rattle.rules.specs.Sound.{sound}
 use Rattle.rules.specs.Events.{apply}
-use Rattle.rules.specs.Fresh.{fresh}
+use Rattle.rules.specs.Fresh.{Setup, fresh}
 use Rattle.rules.specs.declared.Place.{Place}
 use Rattle.rules.specs.declared.Place.the-variants.{Running, Ready, Delayed, Suspended, Ended}
 use Rattle.rules.specs.declared.Event.{Event}
@@ -96,10 +96,9 @@ module _ (m : Model) (s : sound m ≡ true) where
       state-back (encode m) (drop stateSize b) shaped fits
 
 -- after a fresh start
-pub fresh-back : (bases ceilings b : List ℕ) → stateSize ≤ length b →
-    stateOfBytes (freshBytes bases ceilings b) ≡ freshOf bases ceilings .state
+pub fresh-back : (s : Setup) (b : List ℕ) → stateSize ≤ length b → stateOfBytes (freshBytes s b) ≡ freshOf s .state
 unfolding freshBytes freshOf
-fresh-back bases ceilings b h = written-back (fresh bases ceilings .model) (fresh-sound bases ceilings) b h
+fresh-back s b h = written-back (fresh s .model) (fresh-sound s) b h
 
 -- after an event
 module _ (b : List ℕ) (e : Event) (h : stateSize ≤ length b) (d : delayFits e ≡ true) where

@@ -8,6 +8,7 @@ use Rattle.rules.specs.Answers.{numberOf}
 use Rattle.rules.specs.declared.Event.{Event}
 use Rattle.rules.specs.declared.Answer.the-variants.{Unsound}
 use Rattle.dispatch.specs.Sound.{soundOf}
+use Rattle.rules.specs.Fresh.{Setup}
 use Rattle.dispatch.specs.Methods.{appliedOf, freshOf}
 use Rattle.dispatch.specs.declared.State.{State}
 use Rattle.layout.specs.Sizes.{nobodyCode, stateSize}
@@ -30,11 +31,11 @@ unfoldable pub eventBytes : List ℕ → Event → List ℕ
 eventBytes b e = ifDone (eventNumber b e) (appliedOf (stateOfBytes b) e .state) b
 
 -- a fresh start: "the state beside that answer" is written too
-unfoldable pub freshNumber : List ℕ → List ℕ → List ℕ → ℕ
-freshNumber bases ceilings b = unlessShort b (numberOf (freshOf bases ceilings .answer))
+unfoldable pub freshNumber : Setup → List ℕ → ℕ
+freshNumber s b = unlessShort b (numberOf (freshOf s .answer))
 
-unfoldable pub freshBytes : List ℕ → List ℕ → List ℕ → List ℕ
-freshBytes bases ceilings b = withState (freshOf bases ceilings .state) b
+unfoldable pub freshBytes : Setup → List ℕ → List ℕ
+freshBytes s b = withState (freshOf s .state) b
 
 -- 0, or 10 for an unsound state
 unfoldable pub soundNumber : List ℕ → ℕ

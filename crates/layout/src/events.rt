@@ -32,8 +32,10 @@ pub fn apply(bytes: &mut [u8], event: Event) -> u8
 
 // The fresh state of these bases and ceilings, or the one beside a refusal.
 pub fn fresh(bases: &[u8], ceilings: &[u8], bytes: &mut [u8]) -> u8
-    ensures { λ r. ⌜ r ≡ freshNumber (now (bases .entry)) (now (ceilings .entry)) (now (bytes .entry)) ⌝ }
-    ensures { λ r. ⌜ now (bytes .exit) ≡ freshBytes (now (bases .entry)) (now (ceilings .entry)) (now (bytes .entry)) ⌝ }
+    ensures { λ r. ⌜ r ≡ freshNumber (record { bases = now (bases .entry); ceilings = now (ceilings .entry) }) (now (bytes .entry)) ⌝ }
+    ensures { λ r.
+        ⌜ now (bytes .exit) ≡
+        freshBytes (record { bases = now (bases .entry); ceilings = now (ceilings .entry) }) (now (bytes .entry)) ⌝ }
 {
     if bytes.len() < STATE_SIZE {
         return Answer::Unsound.number();

@@ -13,7 +13,8 @@ use Rattle.rules.specs.Priorities.{inRange}
 use Rattle.rules.specs.Model.{Model, TaskRecord, blank, withPlace, taskAt}
 use Rattle.rules.specs.Moves.{becomeReady}
 use Rattle.rules.specs.Moved.{Moved}
-use Rattle.rules.specs.Fresh.{newTask, newTasks, unstarted, joinFrom, freshModel, refusedFresh, countsGood, fresh}
+use Rattle.rules.specs.Fresh.{Setup, newTask, newTasks, unstarted, joinFrom, freshModel, singleTask, refusedFresh}
+use Rattle.rules.specs.Fresh.{setupCounted, setupInRange, fresh, Startable}
 use Rattle.rules.specs.Sound.{runs, isReady, isRunning, dueGood, sound}
 use Rattle.rules.specs.declared.Place.the-variants.{Ready}
 use Rattle.rules.specs.declared.Answer.the-variants.{Done, BadCounts, BadBases}
@@ -59,7 +60,7 @@ no-queue zero p = refl
 no-queue (suc n) zero = refl
 no-queue (suc n) (suc p) = no-queue n p
 
-module _ (bs cs : List ℕ) (count : length bs ≤ taskLimit) (bases : allOf inRange bs ≡ true) (ceilings : allOf inRange cs ≡ true) where
+module _ (s : Setup) (ok : Startable s) where
   no-row : (p u : ℕ) → 0 < timesIn u (getD (replicate lastPriority []) p []) → ⊥
   unfolding timesIn
   no-row p u g = not-suc-le-zero (subst (λ (l : List ℕ). 0 < timesIn u l) (no-queue lastPriority p) g)
@@ -68,29 +69,29 @@ module _ (bs cs : List ℕ) (count : length bs ≤ taskLimit) (bases : allOf inR
   unfolding timesIn
   no-behind p u g = not-suc-le-zero (subst (λ (l : List ℕ). 0 < timesIn u (drop 1 l)) (no-queue lastPriority p) g)
 
-  base-in : (u : ℕ) → u < length (newTasks bs) → inRange (entry (newTasks bs) u .base) ≡ true
+  base-in : (u : ℕ) → u < length (newTasks (s .bases)) → inRange (entry (newTasks (s .bases)) u .base) ≡ true
   base-in u h =
-      let l : u < length bs = omega (arith, h, new-length bs) in
-      ap (λ (k : TaskRecord). inRange (k .base)) (new-at bs u l) ∙ in-range-at bs bases u l
+      let l : u < length (s .bases) = omega (arith, h, new-length (s .bases)) in
+      ap (λ (k : TaskRecord). inRange (k .base)) (new-at (s .bases) u l) ∙ in-range-at (s .bases) (ok .bases) u l
 
-  core-new : Core true (unstarted bs cs) taskLimit
+  core-new : Core true (unstarted s) taskLimit
   unfolding runs
   core-new = record {
     stand = record {
-      runner = λ u n. sym (new-off bs u .1);
-      queueing = λ u n. queued-empty u lastPriority ∙ sym (new-off bs u .0);
+      runner = λ u n. sym (new-off (s .bases) u .1);
+      queueing = λ u n. queued-empty u lastPriority ∙ sym (new-off (s .bases) u .0);
       idle = refl;
       unqueued = queued-empty taskLimit lastPriority;
-      empty = new-off bs taskLimit .2;
+      empty = new-off (s .bases) taskLimit .2;
       level = λ p u g. absurd (no-row p u g);
-      present = λ u g. absurd (omega (arith, g, new-off bs u .2));
+      present = λ u g. absurd (omega (arith, g, new-off (s .bases) u .2));
       heads = λ on p u g. absurd (no-behind p u g);
       above = λ on t u g. absurd (not-suc-le-zero g);
-      apart = λ on t u n g. absurd (omega (arith, g, new-off bs t .2));
+      apart = λ on t u n g. absurd (omega (arith, g, new-off (s .bases) t .2));
     };
-    count = omega (arith, count, new-length bs);
+    count = omega (arith, ok .count, new-length (s .bases));
     queues = length-replicate {A = List ℕ} lastPriority [];
-    ceils = ceilings-high cs ceilings;
+    ceils = ceilings-high (s .ceilings) (ok .ceilings);
     low = λ u h. in-bounds _ (base-in u h) .0;
     high = λ u h. in-bounds _ (base-in u h) .1;
   }
@@ -99,21 +100,21 @@ module _ (bs cs : List ℕ) (count : length bs ≤ taskLimit) (bases : allOf inR
   pub record Joined (i : ℕ) (m : Model) : Type 0 where
     pub core : Core true m taskLimit
     pub now : m .now ≡ 0
-    pub objects : m .ceilings ≡ cs
-    pub size : length (m .tasks) ≡ length bs
-    pub done : (u : ℕ) → u < i → taskAt m u ≡ withPlace (newTask (getD bs u 0)) Ready
-    pub left : (u : ℕ) → i ≤ u → taskAt m u ≡ entry (newTasks bs) u
+    pub objects : m .ceilings ≡ s .ceilings
+    pub size : length (m .tasks) ≡ length (s .bases)
+    pub done : (u : ℕ) → u < i → taskAt m u ≡ withPlace (newTask (getD (s .bases) u 0)) Ready
+    pub left : (u : ℕ) → i ≤ u → taskAt m u ≡ entry (newTasks (s .bases)) u
 
   -- the next one is on its way
   pub join-core : (i : ℕ) (m : Model) → Joined i m → Core true m i
   join-core i m a =
-      let is : taskAt m i ≡ entry (newTasks bs) i = a .left i (omega arith) in
-      core-wake m (a .core) i (omega (arith, ap ready is, ap running is, new-off bs i .0, new-off bs i .1))
+      let is : taskAt m i ≡ entry (newTasks (s .bases)) i = a .left i (omega arith) in
+      core-wake m (a .core) i (omega (arith, ap ready is, ap running is, new-off (s .bases) i .0, new-off (s .bases) i .1))
 
-  pub join-one : (i : ℕ) (m : Model) → i < length bs → Joined i m → Joined (suc i) (becomeReady m i)
+  pub join-one : (i : ℕ) (m : Model) → i < length (s .bases) → Joined i m → Joined (suc i) (becomeReady m i)
   unfolding becomeReady
   join-one i m h a =
-      let is : taskAt m i ≡ entry (newTasks bs) i = a .left i (omega arith) in
+      let is : taskAt m i ≡ entry (newTasks (s .bases)) i = a .left i (omega arith) in
       let k : TaskRecord = withPlace (taskAt m i) Ready in
       let l : i < length (m .tasks) = omega (arith, a .size) in
       record {
@@ -123,115 +124,113 @@ module _ (bs cs : List ℕ) (count : length bs ≤ taskLimit) (bases : allOf inR
         size = length-set (m .tasks) i k ∙ a .size;
         done = λ u g. split u i
             (λ e. at-same (λ (v : TaskRecord). v) blank (m .tasks) i k u e l ∙ ap (λ (v : TaskRecord). withPlace v Ready)
-            (is ∙ new-at bs i h) ∙
-            ap (λ (v : ℕ). withPlace (newTask (getD bs v 0)) Ready) (sym e))
+            (is ∙ new-at (s .bases) i h) ∙
+            ap (λ (v : ℕ). withPlace (newTask (getD (s .bases) v 0)) Ready) (sym e))
             (λ n. at-other (λ (v : TaskRecord). v) blank (m .tasks) i k u n ∙ a .done u (omega (arith, n)));
         left = λ u g. at-other (λ (v : TaskRecord). v) blank (m .tasks) i k u (λ e. omega arith) ∙ a .left u (omega arith);
       }
 
-  join-all : (n i : ℕ) (m : Model) → i + n ≡ length bs → Joined i m → Joined (length bs) (joinFrom i n m)
+  join-all : (n i : ℕ) (m : Model) → i + n ≡ length (s .bases) → Joined i m → Joined (length (s .bases)) (joinFrom i n m)
   unfolding joinFrom
-  join-all zero i m h a = let e : i ≡ length bs = omega arith in subst (λ (v : ℕ). Joined v m) e a
+  join-all zero i m h a = let e : i ≡ length (s .bases) = omega arith in subst (λ (v : ℕ). Joined v m) e a
   join-all (suc n) i m h a = join-all n (suc i) (becomeReady m i) (omega arith) (join-one i m (omega arith) a)
 
-  pub joined-none : Joined 0 (unstarted bs cs)
+  pub joined-none : Joined 0 (unstarted s)
   joined-none = record {
     core = core-new;
     now = refl;
     objects = refl;
-    size = new-length bs;
+    size = new-length (s .bases);
     done = λ u g. absurd (not-suc-le-zero g);
     left = λ u g. refl;
   }
 
-  joined : Joined (length bs) (joinFrom 0 (length bs) (unstarted bs cs))
-  joined = join-all (length bs) 0 (unstarted bs cs) (omega arith) joined-none
+  joined : Joined (length (s .bases)) (joinFrom 0 (length (s .bases)) (unstarted s))
+  joined = join-all (length (s .bases)) 0 (unstarted s) (omega arith) joined-none
 
   -- sound, in ceiling order, and each task as document 01 says
-  pub fresh-good : 1 ≤ length bs → length cs ≤ objectLimit → Good true (freshModel bs cs)
+  pub fresh-good : Good true (freshModel s)
   unfolding freshModel dueGood
-  fresh-good some few = good-dispatch m (record {
+  fresh-good = good-dispatch m (record {
     core = joined .core;
     sizes = record {
-      some = omega (arith, some, joined .size);
-      objects = omega (arith, few, ap length (joined .objects));
+      some = omega (arith, ok .some, joined .size);
+      objects = omega (arith, ok .objects, ap length (joined .objects));
       reading = omega (arith, joined .now);
-      ceilings = ap (allOf inRange) (joined .objects) ∙ ceilings;
+      ceilings = ap (allOf inRange) (joined .objects) ∙ ok .ceilings;
     };
     fair = λ u h. subst (Fair (m .ceilings) (m .now)) (sym (joined .done u (omega (arith, h, joined .size))))
-        (fair-bare (m .ceilings) (m .now) (withPlace (newTask (getD bs u 0)) Ready) refl refl refl);
+        (fair-bare (m .ceilings) (m .now) (withPlace (newTask (getD (s .bases) u 0)) Ready) refl refl refl);
   })
     where
       m : Model
-      m = joinFrom 0 (length bs) (unstarted bs cs)
+      m = joinFrom 0 (length (s .bases)) (unstarted s)
 
   -- what is fresh: now 0, the ceilings given, and each task at its base, ready or running, with no permit, holding nothing
-  pub fresh-now : freshModel bs cs .now ≡ 0
+  pub fresh-now : freshModel s .now ≡ 0
   unfolding freshModel
   fresh-now = alike-dispatch _ (joined .core) .now ∙ joined .now
 
-  pub fresh-ceilings : freshModel bs cs .ceilings ≡ cs
+  pub fresh-ceilings : freshModel s .ceilings ≡ s .ceilings
   unfolding freshModel
   fresh-ceilings = alike-dispatch _ (joined .core) .ceilings ∙ joined .objects
 
-  pub fresh-count : length (freshModel bs cs .tasks) ≡ length bs
+  pub fresh-count : length (freshModel s .tasks) ≡ length (s .bases)
   unfolding freshModel
   fresh-count = alike-dispatch _ (joined .core) .count ∙ joined .size
 
-  pub fresh-task : (u : ℕ) → u < length bs → unplaced (taskAt (freshModel bs cs) u) ≡ withPlace (newTask (getD bs u 0)) Ready
+  pub fresh-task : (u : ℕ) → u < length (s .bases) → unplaced (taskAt (freshModel s) u) ≡ withPlace (newTask (getD (s .bases) u 0)) Ready
   unfolding freshModel upright
   fresh-task u h = alike-dispatch _ (joined .core) .each u ∙ ap unplaced (joined .done u h)
 
 -- the three ways of a fresh start
-module _ (bs cs : List ℕ) where
+module _ (s : Setup) where
   -- with counts in range, with bases and ceilings in range too
   counted : Moved
-  counted =
-      cond (not (allOf inRange bs && allOf inRange cs)) (record { answer = BadBases; model = refusedFresh })
-      (record { answer = Done; model = freshModel bs cs })
+  counted = cond (not (setupInRange s)) (record { answer = BadBases; model = refusedFresh }) (record { answer = Done; model = freshModel s })
 
-  pub fresh-13 : countsGood (length bs) (length cs) ≡ false → fresh bs cs ≡ record { answer = BadCounts; model = refusedFresh }
+  pub fresh-13 : setupCounted s ≡ false → fresh s ≡ record { answer = BadCounts; model = refusedFresh }
   unfolding fresh counted
-  fresh-13 e = cond-true (not (countsGood (length bs) (length cs))) (record { answer = BadCounts; model = refusedFresh }) counted (ap not e)
+  fresh-13 e = cond-true (not (setupCounted s)) (record { answer = BadCounts; model = refusedFresh }) counted (ap not e)
 
-  on-counts : countsGood (length bs) (length cs) ≡ true → fresh bs cs ≡ counted
+  on-counts : setupCounted s ≡ true → fresh s ≡ counted
   unfolding fresh counted
-  on-counts e = cond-false (not (countsGood (length bs) (length cs))) (record { answer = BadCounts; model = refusedFresh }) counted
-      (ap not e)
+  on-counts e = cond-false (not (setupCounted s)) (record { answer = BadCounts; model = refusedFresh }) counted (ap not e)
 
-  pub fresh-15 : countsGood (length bs) (length cs) ≡ true → (allOf inRange bs && allOf inRange cs) ≡ false →
-      fresh bs cs ≡ record { answer = BadBases; model = refusedFresh }
+  pub fresh-15 : setupCounted s ≡ true → setupInRange s ≡ false → fresh s ≡ record { answer = BadBases; model = refusedFresh }
   unfolding counted
-  fresh-15 e f =
-      on-counts e ∙ cond-true (not (allOf inRange bs && allOf inRange cs)) _ (record { answer = Done; model = freshModel bs cs })
-      (ap not f)
+  fresh-15 e f = on-counts e ∙ cond-true (not (setupInRange s)) _ (record { answer = Done; model = freshModel s }) (ap not f)
 
-  pub fresh-0 : countsGood (length bs) (length cs) ≡ true → (allOf inRange bs && allOf inRange cs) ≡ true →
-      fresh bs cs ≡ record { answer = Done; model = freshModel bs cs }
+  pub fresh-0 : setupCounted s ≡ true → setupInRange s ≡ true → fresh s ≡ record { answer = Done; model = freshModel s }
   unfolding counted
-  fresh-0 e f =
-      on-counts e ∙ cond-false (not (allOf inRange bs && allOf inRange cs)) (record { answer = BadBases; model = refusedFresh }) _
-      (ap not f)
+  fresh-0 e f = on-counts e ∙ cond-false (not (setupInRange s)) (record { answer = BadBases; model = refusedFresh }) _ (ap not f)
+
+  -- the tests said apart
+  pub startable-by : setupCounted s ≡ true → setupInRange s ≡ true → Startable s
+  startable-by e f =
+      let bs = s .bases in
+      let cs = s .ceilings in
+      let tasks = and-left (leb 1 (length bs) && leb (length bs) taskLimit) (leb (length cs) objectLimit) e in
+      record {
+        some = leb-true 1 (length bs) (and-left (leb 1 (length bs)) (leb (length bs) taskLimit) tasks);
+        count = leb-true (length bs) taskLimit (and-right (leb 1 (length bs)) (leb (length bs) taskLimit) tasks);
+        objects = leb-true (length cs) objectLimit
+            (and-right (leb 1 (length bs) && leb (length bs) taskLimit) (leb (length cs) objectLimit) e);
+        bases = and-left (allOf inRange bs) (allOf inRange cs) f;
+        ceilings = and-right (allOf inRange bs) (allOf inRange cs) f;
+      }
 
 -- in every one of them the Model is sound and in ceiling order
 pub refused-good : Good true refusedFresh
 unfolding refusedFresh allOf
-refused-good = fresh-good (1 ∷ []) [] (omega arith) refl refl (omega arith) (omega arith)
+refused-good = fresh-good singleTask (startable-by singleTask refl refl)
 
-pub start-good : (bs cs : List ℕ) → Good true (fresh bs cs .model)
+pub start-good : (s : Setup) → Good true (fresh s .model)
 unfolding fresh
-start-good bs cs =
-    both-ways (λ (r : Moved). Good true (r .model)) (not (countsGood (length bs) (length cs))) _ _ (λ e. refused-good)
-    (λ e. both-ways (λ (r : Moved). Good true (r .model)) (not (allOf inRange bs && allOf inRange cs)) _ _ (λ f. refused-good)
-    (λ f. started (not-false _ e) (not-false _ f)))
-  where
-    started : countsGood (length bs) (length cs) ≡ true → (allOf inRange bs && allOf inRange cs) ≡ true → Good true (freshModel bs cs)
-    started e f =
-        let tasks = and-left (leb 1 (length bs) && leb (length bs) taskLimit) (leb (length cs) objectLimit) e in
-        let few = and-right (leb 1 (length bs) && leb (length bs) taskLimit) (leb (length cs) objectLimit) e in
-        fresh-good bs cs (leb-true (length bs) taskLimit (and-right (leb 1 (length bs)) (leb (length bs) taskLimit) tasks))
-        (and-left (allOf inRange bs) (allOf inRange cs) f) (and-right (allOf inRange bs) (allOf inRange cs) f)
-        (leb-true 1 (length bs) (and-left (leb 1 (length bs)) (leb (length bs) taskLimit) tasks)) (leb-true (length cs) objectLimit few)
+start-good s =
+    both-ways (λ (r : Moved). Good true (r .model)) (not (setupCounted s)) _ _ (λ e. refused-good)
+    (λ e. both-ways (λ (r : Moved). Good true (r .model)) (not (setupInRange s)) _ _ (λ f. refused-good)
+    (λ f. fresh-good s (startable-by s (not-false _ e) (not-false _ f))))
 
-pub fresh-sound : (bs cs : List ℕ) → sound (fresh bs cs .model) ≡ true
-fresh-sound bs cs = good-sound (fresh bs cs .model) (start-good bs cs)
+pub fresh-sound : (s : Setup) → sound (fresh s .model) ≡ true
+fresh-sound s = good-sound (fresh s .model) (start-good s)

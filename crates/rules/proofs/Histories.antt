@@ -21,7 +21,7 @@ keep-all (e ∷ es) m f h =
 
 -- from a fresh start, refused or not
 pub histories : HistoriesClaim
-histories bs cs es fits =
-    let m : Model = afterAll (fresh bs cs .model) es in
-    let g : Good true m = keep-all es (fresh bs cs .model) fits (start-good bs cs) in
+histories s es fits =
+    let m : Model = afterAll (fresh s .model) es in
+    let g : Good true m = keep-all es (fresh s .model) fits (start-good s) in
     (good-sound m g, one-holder m g)

@@ -6,7 +6,7 @@ use lib.ListN.{set, replicate}
 use Rattle.rules.specs.Limits.{lastPriority}
 use Rattle.rules.specs.Answers.{numberOf}
 use Rattle.rules.specs.Model.{Model}
-use Rattle.rules.specs.Fresh.{freshModel}
+use Rattle.rules.specs.Fresh.{Setup, freshModel}
 use Rattle.rules.specs.Events.{apply}
 use Rattle.rules.specs.declared.Priority.{Priority}
 use Rattle.rules.specs.declared.Event.{Event}
@@ -17,7 +17,7 @@ use Rattle.rules.specs.declared.Runner.the-variants.{Nobody, Task}
 pub data Letter : Type 0 where
   A B C D E F G H I J K L : Letter
 
--- a ready queue: its priority, and its tasks outcomeFrom the head on
+-- a ready queue: its priority, and its tasks from the head on
 pub record Queue : Type 0 where
   pub priority : ℕ
   pub tasks : List ℕ
@@ -28,11 +28,10 @@ pub record Outcome : Type 0 where
   pub running : Runner
   pub ready : List (List ℕ)
 
--- bases and ceilings of the start, the events, and what is expected of them; the queues that are not named are empty
+-- what the start is made from, the events, and what is expected of them; the queues that are not named are empty
 pub record Case : Type 0 where
   pub letter : Letter
-  pub bases : List ℕ
-  pub ceilings : List ℕ
+  pub setup : Setup
   pub events : List Event
   pub answers : List ℕ
   pub running : Runner
@@ -43,7 +42,7 @@ outcomeFrom m [] answers = record { answers = answers; running = m .running; rea
 outcomeFrom m (e ∷ es) answers = outcomeFrom (apply m e .model) es (answers ++ (numberOf (apply m e .answer) ∷ []))
 
 unfoldable pub outcome : Case → Outcome
-outcome c = outcomeFrom (freshModel (c .bases) (c .ceilings)) (c .events) []
+outcome c = outcomeFrom (freshModel (c .setup)) (c .events) []
 
 unfoldable pub queuesOf : List Queue → List (List ℕ)
 queuesOf [] = replicate lastPriority []
@@ -54,7 +53,14 @@ expected c = record { answers = c .answers; running = c .running; ready = queues
 
 unfoldable pub case : Letter → List ℕ → List ℕ → List Event → List ℕ → Runner → List Queue → Case
 case x bs cs es ns w qs =
-    record { letter = x; bases = bs; ceilings = cs; events = es; answers = ns; running = w; queues = qs }
+    record {
+      letter = x;
+      setup = record { bases = bs; ceilings = cs };
+      events = es;
+      answers = ns;
+      running = w;
+      queues = qs;
+    }
 
 abbrev pub at : ℕ → List ℕ → List Queue
 at p ts = record { priority = p; tasks = ts } ∷ []

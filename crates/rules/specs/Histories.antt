@@ -7,7 +7,7 @@ use lib.Dec.{leb}
 use Rattle.rules.specs.Limits.{lastDelay}
 use Rattle.rules.specs.Lists.{timesIn}
 use Rattle.rules.specs.Model.{Model, taskAt}
-use Rattle.rules.specs.Fresh.{fresh}
+use Rattle.rules.specs.Fresh.{Setup, fresh}
 use Rattle.rules.specs.Events.{apply}
 use Rattle.rules.specs.Sound.{sound}
 use Rattle.rules.specs.declared.Event.{Event}
@@ -46,5 +46,5 @@ OneHolder m = (t u o : ℕ) → 0 < timesIn o (taskAt m t .held) → 0 < timesIn
 -- outside among them
 abbrev pub HistoriesClaim : Type 0
 HistoriesClaim =
-    (bases ceilings : List ℕ) (es : List Event) → delaysFit es ≡ true →
-    (sound (afterAll (fresh bases ceilings .model) es) ≡ true) × OneHolder (afterAll (fresh bases ceilings .model) es)
+    (s : Setup) (es : List Event) → delaysFit es ≡ true →
+    (sound (afterAll (fresh s .model) es) ≡ true) × OneHolder (afterAll (fresh s .model) es)

@@ -1,6 +1,5 @@
 -- Laws of a run's start.
 use mathlib.Core.Path.{_≡_, ap, sym, _∙_}
-use mathlib.Core.Bool.{true}
 use mathlib.Core.List.{List}
 use Prim.Native.Nat.{ℕ, _+_, _-_, _≤_}
 use native.Mathlib.Omega.{arith}
@@ -8,18 +7,17 @@ use lib.ListN.{length, take, replicate, length-replicate, replicate-append-repli
 use lib.Seq.{take-at}
 use Rattle.rules.specs.Limits.{taskLimit}
 use Rattle.rules.specs.Model.{Model}
-use Rattle.rules.specs.Fresh.{freshModel}
+use Rattle.rules.specs.Fresh.{freshModel, Startable}
 use Rattle.rules.specs.Sound.{sound}
 use Rattle.rules.proofs.FreshLaws.{fresh-good, fresh-count}
 use Rattle.rules.proofs.Soundness.{good-sound}
 use Rattle.format.specs.Format.{taskCount}
-use Rattle.format.specs.Roster.{rosterOf}
+use Rattle.format.specs.Roster.{rosterOf, setupOf}
 use Rattle.format.specs.Check.{Passes}
 use Rattle.format.proofs.FormatLaws.{base-count}
 use Rattle.format.proofs.FormedLaws.{tasks-few}
-use Rattle.format.proofs.PassedLaws.{passes-form, passes-tasks, passes-objects, passes-bases, passes-ceilings}
+use Rattle.format.proofs.PassedLaws.{passes-form, passes-starts}
 use Rattle.memory.specs.Memory.{Means}
-use Rattle.engine.specs.Fresh.{Startable}
 use Rattle.memory.proofs.MemoryLaws.{means-by}
 use Rattle.trace.specs.Config.{Config, startOf}
 use Rattle.trace.specs.Inputs.{inputsOf}
@@ -39,39 +37,26 @@ take-zeros n m h =
 
 module _ (s : List ℕ) (ok : Passes s) where
   -- the bases and ceilings of a roster that passes can start
-  pub startable : {bs cs : List ℕ} → bs ≡ rosterOf s .bases → cs ≡ rosterOf s .ceilings → Startable bs cs
-  startable e f =
-      rw (e, f)
-      record {
-        some = passes-tasks s ok .0;
-        count = passes-tasks s ok .1;
-        objects = passes-objects s ok;
-        bases = passes-bases s ok;
-        ceilings = passes-ceilings s ok;
-      }
+  pub startable : {bs cs : List ℕ} → bs ≡ rosterOf s .bases → cs ≡ rosterOf s .ceilings → Startable (record { bases = bs; ceilings = cs })
+  startable e f = rw (e, f) (passes-starts s ok)
 
   pub starts-as : {bs cs h ts hd ks qs : List ℕ} → bs ≡ rosterOf s .bases → cs ≡ rosterOf s .ceilings →
-      Means h ts hd ks qs (freshModel bs cs) → Means h ts hd ks qs (freshModel (rosterOf s .bases) (rosterOf s .ceilings))
+      Means h ts hd ks qs (freshModel (record { bases = bs; ceilings = cs })) → Means h ts hd ks qs (freshModel (setupOf (rosterOf s)))
   starts-as {bs} {cs} e f m =
-      means-by m (ap (λ (l : List ℕ). freshModel l cs) e ∙ ap (freshModel (rosterOf s .bases)) f)
+      means-by m
+      (ap (λ (l : List ℕ). freshModel (record { bases = l; ceilings = cs })) e ∙
+      ap (λ (l : List ℕ). freshModel (record { bases = rosterOf s .bases; ceilings = l })) f)
 
   -- the first event gets the fresh state, with every script at its start
-  module _ {h ts hd cs qs : List ℕ} (m : Means h ts hd cs qs (freshModel (rosterOf s .bases) (rosterOf s .ceilings))) where
-    started-sound : sound (freshModel (rosterOf s .bases) (rosterOf s .ceilings)) ≡ true
-    started-sound =
-        good-sound _
-        (fresh-good (rosterOf s .bases) (rosterOf s .ceilings) (passes-tasks s ok .1) (passes-bases s ok) (passes-ceilings s ok)
-        (passes-tasks s ok .0) (passes-objects s ok))
-
+  module _ {h ts hd cs qs : List ℕ} (m : Means h ts hd cs qs (freshModel (setupOf (rosterOf s)))) where
     pub started : Going s h ts hd cs qs (zeros taskLimit)
     started =
+        let fresh = setupOf (rosterOf s) in
         record {
           form = passes-form s ok;
-          valid = record { laid = m .laid; sound = ap sound (m .same) ∙ started-sound };
+          valid = record { laid = m .laid; sound = ap sound (m .same) ∙ good-sound _ (fresh-good fresh (passes-starts s ok)) };
           count =
-              ap (λ (n : Model). length (n .tasks)) (m .same) ∙
-              (fresh-count (rosterOf s .bases) (rosterOf s .ceilings) (passes-tasks s ok .1) (passes-bases s ok) (passes-ceilings s ok) ∙
-              base-count s);
+              ap (λ (n : Model). length (n .tasks)) (m .same) ∙ (fresh-count fresh (passes-starts s ok) ∙ base-count s);
           places = length-replicate {A = ℕ} taskLimit 0;
         }
 
@@ -80,7 +65,7 @@ module _ (s : List ℕ) (ok : Passes s) where
     start-is =
         let places = take-zeros (taskCount s) taskLimit (tasks-few s (passes-form s ok)) ∙ ap zeros (sym (base-count s)) in
         ap (λ (n : Model). record { model = n; positions = take (taskCount s) (zeros taskLimit) }) (m .same) ∙
-        ap (λ (l : List ℕ). record { model = freshModel (rosterOf s .bases) (rosterOf s .ceilings); positions = l }) places
+        ap (λ (l : List ℕ). record { model = freshModel (setupOf (rosterOf s)); positions = l }) places
 
     pub pairs-are : (events : List ℕ) →
         pairsFrom (rosterOf s) (configOf s h ts hd cs qs (zeros taskLimit)) (inputsOf events) ≡ pairsOf s events

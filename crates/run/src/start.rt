@@ -4,7 +4,7 @@ ghost use Prim.Native.Nat.{_≤_};
 ghost use lib.ListN.{length, take};
 ghost use Rattle.rules.specs.Fresh.{freshModel};
 ghost use Rattle.format.specs.Format.{taskCount, objectCount};
-ghost use Rattle.format.specs.Roster.{rosterOf};
+ghost use Rattle.format.specs.Roster.{rosterOf, setupOf};
 ghost use Rattle.format.specs.Check.{checkOf};
 ghost use Rattle.format.specs.declared.Verdict.the-variants.{Passed};
 ghost use Rattle.memory.specs.Memory.{Means};
@@ -52,7 +52,7 @@ pub fn start(
     requires { ⌜ Sized (now head) (now tasks) (now held) (now ceilings) (now queues) ⌝ }
     ensures { λ u.
         ⌜ Means (now (head .exit)) (now (tasks .exit)) (now (held .exit)) (now (ceilings .exit)) (now (queues .exit))
-        (freshModel (rosterOf (now (roster .entry)) .bases) (rosterOf (now (roster .entry)) .ceilings)) ⌝ }
+        (freshModel (setupOf (rosterOf (now (roster .entry))))) ⌝ }
 {
     let mut bases = [0u8; TASK_LIMIT];
     let mut given = [0u8; OBJECT_LIMIT];

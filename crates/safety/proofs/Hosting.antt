@@ -14,7 +14,7 @@ use Rattle.rules.specs.declared.Runner.the-variants.{Nobody, Task}
 use Rattle.rules.specs.declared.Answer.the-variants.{Unsound}
 use Rattle.rules.proofs.Soundness.{good-sound}
 use Rattle.rules.proofs.EventLaws.{work-5}
-use Rattle.format.specs.Roster.{Roster, rosterOf}
+use Rattle.format.specs.Roster.{Roster, rosterOf, setupOf}
 use Rattle.format.specs.Check.{checkOf}
 use Rattle.format.specs.declared.Step.{Step}
 use Rattle.format.specs.declared.Step.the-variants.{Enter, Leave, Delay, Work, Suspend, Release, Set, Again, Finish}
@@ -103,7 +103,7 @@ opened-is : (r : Roster) → Orderly r → opening r ≡ beside (startOf r)
 unfolding opening startOf
 opened-is r k =
     ap (λ (x : Stepped). record { state = x .state; positions = replicate (length (r .bases)) 0 })
-    (sym (done-0 (r .bases) (r .ceilings) (k .some) (k .count) (k .objects) (k .bases) (k .ceilings)))
+    (let s = k .start in sym (done-0 (setupOf r) (s .some) (s .count) (s .objects) (s .bases) (s .ceilings)))
 
 module _ (r : Roster) (k : Orderly r) (es : List history.Event) where
   host-is : host r es ≡ beside (after r es)

@@ -24,7 +24,7 @@ use Rattle.rules.proofs.TaskLaws.{ready, running, one-place, runs-named}
 use Rattle.rules.proofs.Standing.{all-runs, all-queueing}
 use Rattle.rules.proofs.Kept.{one-holder}
 use Rattle.rules.proofs.FreshLaws.{fresh-good, fresh-now, fresh-ceilings, fresh-count, fresh-task}
-use Rattle.format.specs.Roster.{Roster, rosterOf, scriptOf, baseOf}
+use Rattle.format.specs.Roster.{Roster, rosterOf, scriptOf, baseOf, setupOf}
 use Rattle.format.specs.Check.{heldBefore, topAt, checkOf}
 use Rattle.format.proofs.TestLaws.{passed-is}
 use Rattle.format.proofs.KeptLaws.{top-low}
@@ -61,13 +61,13 @@ module _ (r : Roster) (k : Orderly r) where
   b₀ = record { now = 0; tasks = opened (r .bases) }
 
   m₀ : Model
-  m₀ = freshModel (r .bases) (r .ceilings)
+  m₀ = freshModel (setupOf r)
 
   task₀ : (u : ℕ) → u < length (r .bases) → statusOf (taskAt m₀ u) 0 ≡ statusOf (withPlace (newTask (getD (r .bases) u 0)) Ready) 0
   unfolding m₀
   task₀ u h =
       sym (status-unplaced (taskAt m₀ u) 0) ∙
-      ap (λ (x : TaskRecord). statusOf x 0) (fresh-task (r .bases) (r .ceilings) (k .count) (k .bases) (k .ceilings) u h)
+      ap (λ (x : TaskRecord). statusOf x 0) (fresh-task (setupOf r) (k .start) u h)
 
   each₀ : (u : ℕ) → getD (opened (r .bases)) u unknown ≡ statusOf (taskAt m₀ u) (getD (replicate (length (r .bases)) 0) u 0)
   unfolding m₀ awayOf
@@ -79,7 +79,7 @@ module _ (r : Roster) (k : Orderly r) where
       ap (statusOf (taskAt m₀ u)) (sym (all-zero (length (r .bases)) u))
     where
       count₀ : length (m₀ .tasks) ≡ length (r .bases)
-      count₀ = fresh-count (r .bases) (r .ceilings) (k .count) (k .bases) (k .ceilings)
+      count₀ = fresh-count (setupOf r) (k .start)
 
   fits₀ : (u : ℕ) → u < length (r .bases) → Fits r u (statusAt b₀ u)
   unfolding b₀ heldBefore topAt awayOf
@@ -93,14 +93,14 @@ module _ (r : Roster) (k : Orderly r) where
   start : Inv r (startOf r) b₀
   unfolding startOf b₀ m₀
   start = record {
-    good = fresh-good (r .bases) (r .ceilings) (k .count) (k .bases) (k .ceilings) (k .some) (k .objects);
+    good = fresh-good (setupOf r) (k .start);
     agree = record {
-      reading = sym (fresh-now (r .bases) (r .ceilings) (k .count) (k .bases) (k .ceilings));
-      size = opened-length (r .bases) ∙ sym (fresh-count (r .bases) (r .ceilings) (k .count) (k .bases) (k .ceilings));
-      spots = length-replicate (length (r .bases)) 0 ∙ sym (fresh-count (r .bases) (r .ceilings) (k .count) (k .bases) (k .ceilings));
+      reading = sym (fresh-now (setupOf r) (k .start));
+      size = opened-length (r .bases) ∙ sym (fresh-count (setupOf r) (k .start));
+      spots = length-replicate (length (r .bases)) 0 ∙ sym (fresh-count (setupOf r) (k .start));
       each = each₀;
     };
-    ceilings = fresh-ceilings (r .bases) (r .ceilings) (k .count) (k .bases) (k .ceilings);
+    ceilings = fresh-ceilings (setupOf r) (k .start);
     size = opened-length (r .bases);
     fits = fits₀;
   }

@@ -10,7 +10,7 @@ use Rattle.rules.specs.declared.Answer.{Answer}
 use Rattle.rules.specs.declared.Answer.the-variants.{Done, Unsound}
 use Rattle.words.specs.Words.{Bytes}
 use Rattle.format.specs.Answers.{passed}
-use Rattle.format.specs.Roster.{Roster, rosterOf}
+use Rattle.format.specs.Roster.{Roster, rosterOf, setupOf}
 use Rattle.format.specs.Check.{checkOf}
 use Rattle.format.specs.declared.Step.{Step}
 use Rattle.format.specs.declared.Step.the-variants.{Enter, Leave, Delay, Work, Suspend, Release, Set, Again, Finish}
@@ -31,7 +31,7 @@ pub record Reply : Type 0 where
 
 -- `State::fresh`, with every script at its start
 unfoldable pub opening : Roster → Host
-opening r = record { state = freshOf (r .bases) (r .ceilings) .state; positions = replicate (length (r .bases)) 0 }
+opening r = record { state = freshOf (setupOf r) .state; positions = replicate (length (r .bases)) 0 }
 
 -- the method that a step of a script calls; Again calls none
 unfoldable pub called : State → Step → Stepped

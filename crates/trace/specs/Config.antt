@@ -14,7 +14,7 @@ use Rattle.rules.specs.declared.Runner.the-variants.{Nobody, Task}
 use Rattle.rules.specs.declared.Answer.{Answer}
 use Rattle.rules.specs.declared.Answer.the-variants.{Done, NobodyRuns}
 use Rattle.format.specs.Steps.{stepIn}
-use Rattle.format.specs.Roster.{Roster, scriptOf}
+use Rattle.format.specs.Roster.{Roster, setupOf, scriptOf}
 use Rattle.format.specs.declared.Step.{Step}
 use Rattle.format.specs.declared.Step.the-variants.{Enter, Leave, Delay, Work, Suspend, Release, Set, Again, Finish}
 use Rattle.trace.specs.declared.Input.{Input}
@@ -32,7 +32,7 @@ pub record Outcome : Type 0 where
 
 -- "with every script at its start", from the fresh state
 unfoldable pub startOf : Roster → Config
-startOf r = record { model = freshModel (r .bases) (r .ceilings); positions = replicate (length (r .bases)) 0 }
+startOf r = record { model = freshModel (setupOf r); positions = replicate (length (r .bases)) 0 }
 
 -- what one step of a script does; Again: "the state stays"; at the script's end: Finish
 unfoldable pub perform : Model → Step → Moved

@@ -16,7 +16,7 @@ join-all-requires c κs =
     let at-lay-out = c .before .before .before .before .before .before .before .before .before .before .before .before .before in
     let entry = at-lay-out .before .before .before .before .before .before .before .before .before .before .before .before in
     let x = at-lay-out .lay-out .ensures in
-    (x .laid, rw (x .same) (fresh-joins _ _ (entry .pre .0)))
+    (x .laid, rw (x .same) (fresh-joins _ (entry .pre .0)))
 
 dispatch-requires : tie.Need-dispatch-requires
 dispatch-requires c κs =
@@ -27,7 +27,7 @@ dispatch-requires c κs =
     let entry = at-lay-out .before .before .before .before .before .before .before .before .before .before .before .before in
     let x = at-lay-out .lay-out .ensures in
     let y = joined-law _ x (at-join-all .join-all .ensures) in
-    (y .laid, rw (y .same) (fresh-dispatches _ _ (entry .pre .0)))
+    (y .laid, rw (y .same) (fresh-dispatches _ (entry .pre .0)))
 
 same-length : tie.Need-same-length
 same-length c = search needs

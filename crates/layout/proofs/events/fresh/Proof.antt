@@ -11,7 +11,7 @@ number-requires c κs = search needs
 returns : tie.Need-returns
 returns c =
     let a = c .before .before .before .before .before .args in
-    fresh-short (a .bases .now) (a .ceilings .now) (a .bytes .now) _ (c .number .ensures) (omega arith)
+    fresh-short (record { bases = a .bases .now; ceilings = a .ceilings .now }) (a .bytes .now) _ (c .number .ensures) (omega arith)
 
 fresh-requires : tie.Need-fresh-requires
 fresh-requires c κs = search needs
@@ -30,7 +30,7 @@ returns-2 c =
     let w = c .before .before .before in
     let f = w .before .before .before in
     let a = f .before .before .before .before .before .args in
-    let made = fresh-made (a .bases .now) (a .ceilings .now) (a .bytes .now) _ _ _ in
+    let made = fresh-made (record { bases = a .bases .now; ceilings = a .ceilings .now }) (a .bytes .now) _ _ _ in
     made (f .fresh .ensures) (w .write .ensures) (c .number2 .ensures) (omega arith)
 
 pub fresh-spec : {M : Type 1} → statement M
