@@ -7,7 +7,7 @@ use Rattle.rules.specs.Events.{apply}
 use Rattle.rules.specs.Sound.{sound}
 use Rattle.rules.specs.declared.Event.{Event}
 use Rattle.rules.specs.declared.Answer.{Answer}
-use Rattle.rules.proofs.Kept.{delayFits}
+use Rattle.rules.specs.Histories.{delayFits}
 use Rattle.rules.proofs.Soundness.{sound-kept}
 use Rattle.memory.specs.Memory.{modelOf, Valid, Did, Moves}
 

@@ -5,12 +5,13 @@ use Prim.Native.Nat.{ℕ, zero, suc, _+_, _-_, _*_, _≤_, _<_}
 use native.Mathlib.Omega.{arith}
 use lib.ListN.{length, drop, getD, set, replicate, length-append, length-replicate}
 use lib.Seq.{take-at, drop-at, take-append-seam, drop-append-seam}
+use Rattle.words.proofs.ListLaws.{drop-replicate, map-at}
 use Rattle.rules.specs.Limits.{taskLimit, objectLimit, lastPriority}
 use Rattle.rules.specs.Model.{Model, TaskRecord, blank}
 use Rattle.rules.specs.Moves.{becomeReady}
 use Rattle.rules.specs.Fresh.{Setup, newTask, newTasks, unstarted, joinFrom, Startable}
 use Rattle.rules.proofs.FreshLaws.{Joined, join-core, join-one, joined-none}
-use Rattle.memory.specs.Rows.{rows, queueWidth, heldWidth}
+use Rattle.memory.specs.Rows.{queueWidth, heldWidth}
 use Rattle.memory.specs.Tasks.{taskWidth, blankTask, tasksIn}
 use Rattle.memory.specs.Memory.{nowCell, runningCell, tasksCell, objectsCell, headWidth, runnerOf, waitingIn, together}
 use Rattle.memory.specs.Memory.{taskCountIn, allRecords, modelOf, Means}
@@ -22,9 +23,7 @@ use Rattle.engine.proofs.RoomLaws.{core-joins, core-dispatches}
 
 -- newcomers, in a loop over the bases
 pub newcomer-at : (bs : List ℕ) (t : ℕ) → t < length bs → newcomer (getD bs t 0) ≡ getD (map newcomer bs) t blankTask
-newcomer-at [] t h = absurd (omega arith)
-newcomer-at (b ∷ bs) zero h = refl
-newcomer-at (b ∷ bs) (suc t) h = newcomer-at bs t (omega arith)
+newcomer-at bs t h = sym (map-at newcomer bs t 0 blankTask h)
 
 -- the records of newcomers that hold nothing, and of the blank rows behind them
 new-records : (bs : List ℕ) (n k : ℕ) → k ≡ length bs + n →
@@ -60,17 +59,15 @@ module _ (bs given h ts₀ ts hd cs₀ cs qs : List ℕ) (s : Startable (record 
   all-new =
       let k : taskLimit ≡ length bs + (taskLimit - length bs) = omega (arith, s .count) in
       let rest : drop (length bs) (replicate taskLimit blankTask) ≡ replicate (taskLimit - length bs) blankTask =
-      ap (λ (n : ℕ). drop (length bs) (replicate n blankTask)) k ∙ drop-same (length bs) (taskLimit - length bs) blankTask in
+      drop-replicate (length bs) taskLimit blankTask in
       let tasks : tasksIn ts ≡ map newcomer bs ++ replicate (taskLimit - length bs) blankTask =
       new .same ∙ rw (blank-tasks ts₀ empty, rest) in
       rw (tasks, blank-lists hd heldWidth taskLimit held (omega arith)) (new-records bs (taskLimit - length bs) taskLimit k)
 
   all-ceilings : cs ≡ given ++ replicate (objectLimit - length given) 0
   all-ceilings =
-      let k : objectLimit ≡ length given + (objectLimit - length given) = omega (arith, s .objects) in
-      let rest : drop (length given) (replicate {A = ℕ} objectLimit 0) ≡ replicate (objectLimit - length given) 0 =
-      ap (λ (n : ℕ). drop (length given) (replicate {A = ℕ} n 0)) k ∙ drop-same {A = ℕ} (length given) (objectLimit - length given) 0 in
-      ceilings ∙ rw (none, rest)
+      let zero : ℕ = 0 in
+      ceilings ∙ rw (none, drop-replicate (length given) objectLimit zero)
 
   pub fresh-law : Means h ts hd cs qs (unstarted (record { bases = bs; ceilings = given }))
   unfolding runnerOf

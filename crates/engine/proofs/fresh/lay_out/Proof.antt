@@ -3,7 +3,8 @@ use mathlib.Core.Path.{ap, _∙_}
 use Prim.Native.Nat.{ℕ, _-_}
 use borrow.Author.Needs.{needs}
 use lib.ListN.{replicate}
-use Rattle.engine.proofs.FreshLaws.{blank-rows, fresh-head, fresh-law}
+use Rattle.memory.proofs.BlankLaws.{blank-rows}
+use Rattle.engine.proofs.FreshLaws.{fresh-head, fresh-law}
 use Rattle.engine.proofs.fresh.lay_out.Statement.{statement}
 use Rattle.engine.proofs.fresh.lay_out.Tie as tie
 
