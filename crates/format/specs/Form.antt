@@ -1,5 +1,4 @@
 -- The form of a roster: answers 11 to 16, each rule a definition that says that it is kept.
-use mathlib.Core.Path.{_≡_}
 use mathlib.Core.Bool.{Bool, true, false, cond, not, _&&_}
 use mathlib.Core.List.{List, []}
 use Prim.Native.Nat.{ℕ, zero, suc, _+_, _%_}
@@ -13,7 +12,7 @@ use Rattle.format.specs.Answers.{passed, first}
 use Rattle.words.specs.Words.{byteAt}
 use Rattle.format.specs.Format.{trailer, taskCount, objectCount, taskTable, objectTable}
 use Rattle.format.specs.Format.{taskRow, objectRow, baseAt, ceilingAt, startAt, lengthAt, partAt}
-use Rattle.format.specs.Steps.{aAt, bAt, stepAt, stepCount, stepIn}
+use Rattle.format.specs.Steps.{aAt, bAt, stepAt, stepCount}
 use Rattle.format.specs.declared.Step.{Step}
 use Rattle.format.specs.declared.Step.the-variants.{Enter, Leave, Delay, Work, Suspend, Release, Set, Again, Finish}
 use Rattle.format.specs.declared.Verdict.{Verdict}
@@ -99,10 +98,6 @@ standsRight last (Release t) = true
 standsRight last (Set t p) = true
 standsRight last Again = last
 standsRight last Finish = true
-
--- .. so that every step of a script, and its end, names what is listed
-abbrev pub AllListed : ℕ → ℕ → List Step → Type 0
-AllListed n m steps = (k : ℕ) → namesListed n m (stepIn steps k) ≡ true
 
 unfoldable pub stepGood : ℕ → ℕ → Bool → ℕ → ℕ → Step → Bool
 stepGood n m last a b x = unusedZero a b x && namesListed n m x && standsRight last x

@@ -7,3 +7,4 @@ pub mod Form
 pub mod Check
 pub mod Kept
 pub mod Broken
+pub mod Cases

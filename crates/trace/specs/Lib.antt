@@ -3,3 +3,4 @@ pub mod Config
 pub mod Inputs
 pub mod Answers
 pub mod Run
+pub mod Cases

@@ -1,0 +1,12 @@
+-- What the check's walk asks of a script, which the form has given: every step, and the script's end, names what is listed.
+use mathlib.Core.Path.{_≡_}
+use mathlib.Core.Bool.{true}
+use mathlib.Core.List.{List}
+use Prim.Native.Nat.{ℕ}
+use Rattle.format.specs.Steps.{stepIn}
+use Rattle.format.specs.Form.{namesListed}
+use Rattle.format.specs.declared.Step.{Step}
+
+-- of n tasks and m objects
+abbrev pub AllListed : ℕ → ℕ → List Step → Type 0
+AllListed n m steps = (k : ℕ) → namesListed n m (stepIn steps k) ≡ true
