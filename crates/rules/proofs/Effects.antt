@@ -8,12 +8,10 @@ use borrow.Author.Tests.{ltb-false}
 use lib.ListN.{length}
 use lib.Seq.{set-set}
 use Rattle.rules.specs.Answers.{numberOf}
-use Rattle.rules.specs.Model.{Model, TaskRecord, none, waits, blank, withBase, withWaiting}
-use Rattle.rules.specs.Model.{taskAt, withTask}
-use Rattle.rules.specs.Model.{queue, withTasks, activeOf, active}
+use Rattle.rules.specs.Model.{Model, TaskRecord, none, waits, blank, withBase, withWaiting, taskAt, withTask, queue, withTasks}
+use Rattle.rules.specs.Model.{activeOf, active}
 use Rattle.rules.specs.Moves.{stopped, becomeReady, dispatch}
-use Rattle.rules.specs.Events.{inside, giveUp, settle}
-use Rattle.rules.specs.Events.{rebase, apply}
+use Rattle.rules.specs.Events.{inside, giveUp, settle, rebase, apply}
 use Rattle.rules.specs.Moved.{Moved, accepted}
 use Rattle.rules.specs.declared.Answer.{Answer}
 use Rattle.rules.specs.declared.Answer.the-variants.{Done}

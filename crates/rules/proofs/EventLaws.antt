@@ -4,8 +4,7 @@ use mathlib.Core.Bool.{true, false, cond, not}
 use Prim.Native.Nat.{ℕ, _+_}
 use lib.Dec.{eqb}
 use Rattle.rules.specs.Priorities.{inRange}
-use Rattle.rules.specs.Model.{Model, none, waits, withPlace, withBase, withWaiting, withPermit, taskAt, withTask}
-use Rattle.rules.specs.Model.{active}
+use Rattle.rules.specs.Model.{Model, none, waits, withPlace, withBase, withWaiting, withPermit, taskAt, withTask, active}
 use Rattle.rules.specs.Moves.{stopped, becomeReady}
 use Rattle.rules.specs.Moved.{Moved, refused, accepted, byRunning}
 use Rattle.rules.specs.Events.{noTask, noObject, holds, inside, takeHold, enter, innermost, giveUp, settleWith, settle, leave}

@@ -8,8 +8,7 @@ use borrow.Author.Tests.{leb-true, leb-false, not-false}
 use lib.ListN.{length}
 use Rattle.rules.specs.Limits.{lastDelay}
 use Rattle.rules.specs.Priorities.{inRange}
-use Rattle.rules.specs.Model.{Model, TaskRecord}
-use Rattle.rules.specs.Model.{taskAt, ceilingOf}
+use Rattle.rules.specs.Model.{Model, TaskRecord, taskAt, ceilingOf}
 use Rattle.rules.specs.Moves.{dispatch}
 use Rattle.rules.specs.Moved.{Moved, accepted}
 use Rattle.rules.specs.Events.{apply}

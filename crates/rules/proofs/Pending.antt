@@ -12,9 +12,8 @@ use Rattle.rules.specs.Priorities.{inRange}
 use Rattle.rules.specs.Model.{Model, TaskRecord, NextBase, none, waits, blank, withPlace, withBase, withWaiting, withPermit, withHeld}
 use Rattle.rules.specs.Model.{withNow, taskAt, queue, withTask, withQueue, ceilingOf, activeOf, active, withReady, withRunning}
 use Rattle.rules.specs.Moves.{stopped, becomeReady}
-use Rattle.rules.specs.Events.{noObject, holds, inside, takeHold, giveUp, settleWith, settle}
-use Rattle.rules.specs.Events.{putOff, rest, end, permitOn, releaseFrom}
-use Rattle.rules.specs.Events.{requeue, rebase, overCeiling, takeReading}
+use Rattle.rules.specs.Events.{noObject, holds, inside, takeHold, giveUp, settleWith, settle, putOff, rest, end, permitOn}
+use Rattle.rules.specs.Events.{releaseFrom, requeue, rebase, overCeiling, takeReading}
 use Rattle.rules.specs.Sound.{isReady, isRunning, runs, waitingGood, distinct, rising, dueGood}
 use Rattle.rules.specs.declared.Place.{Place}
 use Rattle.rules.specs.declared.Place.the-variants.{Running, Ready, Delayed, Suspended, Ended}

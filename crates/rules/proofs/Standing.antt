@@ -15,8 +15,7 @@ use Rattle.rules.specs.declared.Runner.the-variants.{Nobody, Task}
 use Rattle.rules.specs.Lists.{timesIn, without}
 use Rattle.rules.proofs.Choices.{split, compare}
 use Rattle.rules.proofs.Counts.{times-same, times-other, times-cons, times-append, times-behind, times-head, times-tail}
-use Rattle.rules.proofs.Counts.{without-less, without-self, without-other, without-behind, queued-set, queued-at, Row}
-use Rattle.rules.proofs.Counts.{row-of}
+use Rattle.rules.proofs.Counts.{without-less, without-self, without-other, without-behind, queued-set, queued-at, Row, row-of}
 use Rattle.rules.proofs.Levels.{base-low, bare, ceiling-low}
 use Rattle.rules.proofs.TaskLaws.{entry, ready, running, depth, baseOf, one-place, runs-self, runs-apart, runs-one}
 use Rattle.rules.proofs.TaskLaws.{put-same, put-other, put-keeps, row-same, row-other, out-of}

@@ -8,8 +8,7 @@ use Rattle.rules.specs.Model.{Model, taskAt}
 use Rattle.rules.specs.Moves.{stopped}
 use Rattle.rules.specs.Moved.{Moved, refused, accepted, byRunning}
 use Rattle.rules.specs.Events.{noTask, noObject, holds, inside, takeHold, overCeiling, enter, innermost, giveUp, settle, leave}
-use Rattle.rules.specs.Events.{putOff, delay, rest, suspend, release, badReading, clock}
-use Rattle.rules.specs.Events.{isEnded, setBase, work, end, finish, apply}
+use Rattle.rules.specs.Events.{putOff, delay, rest, suspend, release, badReading, clock, isEnded, setBase, work, end, finish, apply}
 use Rattle.rules.specs.Effect.{forRunner, effect}
 use Rattle.rules.specs.declared.Event.{Event}
 use Rattle.rules.specs.declared.Event.the-variants.{Enter, Leave, Delay, Suspend, Release, Clock, Set, Work, Finish}

@@ -14,6 +14,7 @@ use Rattle.rules.specs.declared.Event.the-variants.{Enter, Leave, Delay,
 use Rattle.rules.specs.declared.Runner.{Runner}
 use Rattle.rules.specs.declared.Runner.the-variants.{Nobody, Task}
 
+-- the letters of "Marked cases"
 pub data Letter : Type 0 where
   A B C D E F G H I J K L : Letter
 
@@ -37,20 +38,25 @@ pub record Case : Type 0 where
   pub running : Runner
   pub queues : List Queue
 
+-- what events come to from a Model on, behind the answers so far
 unfoldable pub outcomeFrom : Model → List Event → List ℕ → Outcome
 outcomeFrom m [] answers = record { answers = answers; running = m .running; ready = m .ready }
 outcomeFrom m (e ∷ es) answers = outcomeFrom (apply m e .model) es (answers ++ (numberOf (apply m e .answer) ∷ []))
 
+-- what a case comes to, started fresh
 unfoldable pub outcome : Case → Outcome
 outcome c = outcomeFrom (freshModel (c .setup)) (c .events) []
 
+-- the 32 queues, those named and the empty ones
 unfoldable pub queuesOf : List Queue → List (List ℕ)
 queuesOf [] = replicate lastPriority []
 queuesOf (q ∷ qs) = set (queuesOf qs) (q .priority - 1) (q .tasks)
 
+-- what document 01 expects of a case
 unfoldable pub expected : Case → Outcome
 expected c = record { answers = c .answers; running = c .running; ready = queuesOf (c .queues) }
 
+-- a case written in one line; a queue; a priority to set
 unfoldable pub case : Letter → List ℕ → List ℕ → List Event → List ℕ → Runner → List Queue → Case
 case x bs cs es ns w qs =
     record {

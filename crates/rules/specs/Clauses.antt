@@ -50,5 +50,6 @@ pub record Sound (m : Model) : Type 0 where
   -- "a waiting base outside an action"
   pub calm : (t : ℕ) → t < length (m .tasks) → length (taskAt m t .held) ≡ 0 → taskAt m t .waiting ≡ none
 
+-- a Model passes the test exactly when it keeps every clause
 abbrev pub SoundClaim : Type 0
 SoundClaim = (m : Model) → (sound m ≡ true) ↔ Sound m

@@ -13,7 +13,7 @@ use Rattle.rules.specs.Sound.{sound}
 use Rattle.rules.specs.declared.Event.{Event}
 use Rattle.rules.specs.declared.Event.the-variants.{Enter, Leave, Delay, Suspend, Release, Clock, Set, Work, Finish}
 
--- "Delay d (16 bits, 0 to 65,535)"
+-- "Delay d (16 bits, 0 to 65,535)": what other events carry is not bounded
 unfoldable pub delayFits : Event → Bool
 delayFits (Enter o) = true
 delayFits (Leave o) = true
@@ -34,6 +34,7 @@ unfoldable pub afterAll : Model → List Event → Model
 afterAll m [] = m
 afterAll m (e ∷ es) = afterAll (apply m e .model) es
 
+-- every Delay of a list has 16 bits
 unfoldable pub delaysFit : List Event → Bool
 delaysFit [] = true
 delaysFit (e ∷ es) = delayFits e && delaysFit es

@@ -21,6 +21,7 @@ unfoldable pub ofRunner : Runner → (ℕ → Bool) → Bool
 ofRunner Nobody f = false
 ofRunner (Task t) f = f t
 
+-- "nobody runs"
 unfoldable pub isNobody : Runner → Bool
 isNobody Nobody = true
 isNobody (Task t) = false
@@ -177,5 +178,6 @@ pub record Answered (m : Model) (e : Event) : Type 0 where
   -- "Any refusal returns the state unchanged."
   pub unchanged : (apply m e .answer ≡ Done → ⊥) → apply m e .model ≡ m
 
+-- of every Model and every event
 abbrev pub RefusalsClaim : Type 0
 RefusalsClaim = (m : Model) (e : Event) → Answered m e

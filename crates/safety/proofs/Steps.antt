@@ -348,7 +348,8 @@ pub fine-clock : (ps : List ℕ) (b : Reckoning) (m : Model) → Good true m →
     badReading (m .now) r ≡ false → Fine ps (record { now = r; tasks = map (readAt r) (b .tasks) }) (clock m r)
 unfolding awayAfter
 fine-clock ps b m h a r e =
-    fine ps _ (clock m r) n (clock-0 m r e) (pending-clock m r (h .pending) (reading-early (m .now) r e) (reading-low (m .now) r e)) (record {
+    fine ps _ (clock m r) n (clock-0 m r e)
+    (pending-clock m r (h .pending) (reading-early (m .now) r e) (reading-low (m .now) r e)) (record {
       reading = sym (w .now);
       size = length-map (b .tasks) (readAt r) ∙ a .size ∙ sym (w .count);
       spots = a .spots ∙ sym (w .count);
