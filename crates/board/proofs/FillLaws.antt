@@ -1,13 +1,13 @@
 -- Laws of a filled board: what its rows are, what a position says, and whom the board then names.
 use mathlib.Core.Path.{_≡_, refl, sym, ap, _∙_, subst}
 use mathlib.Core.Bool.{Bool, true, false, cond}
-use mathlib.Core.List.{List, [], _∷_, _++_, append-assoc}
+use mathlib.Core.List.{List, [], _∷_, _++_}
 use Prim.Native.Nat.{ℕ, zero, suc, _+_, _-_, _≤_, _<_}
 use native.Mathlib.Nat.{not-suc-le-zero}
 use native.Mathlib.Omega.{arith}
-use borrow.Author.Tests.{eqb-true, eqb-false, eq-eqb}
+use borrow.Author.Tests.{eqb-true, eq-eqb}
 use lib.Dec.{eqb}
-use lib.ListN.{length, getD, drop, length-append, List·getD-append}
+use lib.ListN.{length, getD, length-append, List·getD-append}
 use lib.Seq.{getD-at}
 use Rattle.rules.specs.Limits.{taskLimit, firstPriority, lastPriority}
 use Rattle.rules.specs.Priorities.{inRange}
@@ -18,9 +18,9 @@ use Rattle.rules.specs.declared.Place.{Place}
 use Rattle.rules.specs.declared.Place.the-variants.{Running, Ready, Delayed, Suspended, Ended}
 use Rattle.rules.specs.Lists.{timesIn}
 use Rattle.rules.specs.Clauses.{Sound}
-use Rattle.rules.proofs.Choices.{split, compare, clash, cond-true, cond-false}
-use Rattle.rules.proofs.Counts.{times-same, times-other, times-cons, times-append}
-use Rattle.rules.proofs.Counts.{times-head, times-none, queued-at, Row as Where, row-of}
+use Rattle.rules.proofs.Choices.{split, clash, cond-true, cond-false}
+use Rattle.rules.proofs.Counts.{times-same, times-cons, times-append}
+use Rattle.rules.proofs.Counts.{times-head, queued-at, Row as Where, row-of}
 use Rattle.rules.proofs.Core.{Core, Highest, highest-is, act-low, act-high}
 use Rattle.rules.proofs.PriorityLaws.{bounds-in}
 use Rattle.rules.proofs.SoundLaws.{sound-is, one-less, under-highest}
@@ -28,48 +28,49 @@ use Rattle.rules.proofs.Soundness.{sound-good}
 use Rattle.board.specs.declared.Row.{Row}
 use Rattle.board.specs.declared.NextAnswer.{NextAnswer}
 use Rattle.board.specs.Rows.{rowLimit, isReadyKind, noRow, rowAt, toldOf}
-use Rattle.board.specs.Next.{priorityAt, positionAt, ReadyRow, Before, NextRow}
+use Rattle.board.specs.Next.{priorityAt, positionAt, ReadyRow, Before}
 use Rattle.board.specs.Next.Before.{higher, earlier, lower}
 use Rattle.board.specs.Next.Answers.{named, none}
 use Rattle.board.specs.Scan.{nextOf}
-use Rattle.board.specs.Fill.{kindOf, standBefore, queuePosition, rowOf, rowsTo, rowsOf}
+use Rattle.memory.specs.Rows.{placeIn}
+use Rattle.board.specs.Fill.{kindOf, queuePosition, rowOf, rowsTo, rowsOf}
 use Rattle.board.proofs.NextLaws.{next-only}
 
 -- ---- how many stand before a task in a queue
-pub before-is : (t : ℕ) (front back : List ℕ) → timesIn t front ≡ 0 → standBefore t (front ++ (t ∷ back)) ≡ length front
-unfolding standBefore
+pub before-is : (t : ℕ) (front back : List ℕ) → timesIn t front ≡ 0 → placeIn t (front ++ (t ∷ back)) ≡ length front
+unfolding placeIn
 before-is t [] back e = cond-true (eqb t t) 0 _ (eq-eqb t t refl)
 before-is t (u ∷ front) back e = go (eqb u t) refl (before-is t front back)
   where
-    go : (b : Bool) → eqb u t ≡ b → (timesIn t front ≡ 0 → standBefore t (front ++ (t ∷ back)) ≡ length front) →
-        cond b 0 (suc (standBefore t (front ++ (t ∷ back)))) ≡ suc (length front)
+    go : (b : Bool) → eqb u t ≡ b → (timesIn t front ≡ 0 → placeIn t (front ++ (t ∷ back)) ≡ length front) →
+        cond b 0 (suc (placeIn t (front ++ (t ∷ back)))) ≡ suc (length front)
     go true f k = absurd (omega (arith, e, times-cons t u front, times-same u t (eqb-true u t f)))
     go false f k = ap suc (k (omega (arith, e, times-cons t u front)))
 
 -- the task is found there
-pub before-low : (t : ℕ) (q : List ℕ) → 0 < timesIn t q → standBefore t q < length q
-unfolding standBefore timesIn
+pub before-low : (t : ℕ) (q : List ℕ) → 0 < timesIn t q → placeIn t q < length q
+unfolding placeIn timesIn
 before-low t [] h = absurd (not-suc-le-zero h)
 before-low t (u ∷ q) h = go (eqb u t) refl h (before-low t q)
   where
-    go : (b : Bool) → eqb u t ≡ b → 0 < cond b (suc (timesIn t q)) (timesIn t q) → (0 < timesIn t q → standBefore t q < length q) →
-        cond b 0 (suc (standBefore t q)) < suc (length q)
+    go : (b : Bool) → eqb u t ≡ b → 0 < cond b (suc (timesIn t q)) (timesIn t q) → (0 < timesIn t q → placeIn t q < length q) →
+        cond b 0 (suc (placeIn t q)) < suc (length q)
     go true f g k = omega arith
     go false f g k = omega (arith, k g)
 
-pub before-at : (t : ℕ) (q : List ℕ) → 0 < timesIn t q → getD q (standBefore t q) 0 ≡ t
-unfolding standBefore timesIn
+pub before-at : (t : ℕ) (q : List ℕ) → 0 < timesIn t q → getD q (placeIn t q) 0 ≡ t
+unfolding placeIn timesIn
 before-at t [] h = absurd (not-suc-le-zero h)
 before-at t (u ∷ q) h = go (eqb u t) refl h (before-at t q)
   where
     go : (b : Bool) → eqb u t ≡ b → 0 < cond b (suc (timesIn t q)) (timesIn t q) →
-        (0 < timesIn t q → getD q (standBefore t q) 0 ≡ t) → getD (u ∷ q) (cond b 0 (suc (standBefore t q))) 0 ≡ t
+        (0 < timesIn t q → getD q (placeIn t q) 0 ≡ t) → getD (u ∷ q) (cond b 0 (suc (placeIn t q))) 0 ≡ t
     go true f g k = eqb-true u t f
     go false f g k = k g
 
 -- nobody stands before the head
-pub before-head : (q : List ℕ) → 0 < length q → standBefore (getD q 0 0) q ≡ 0
-unfolding standBefore
+pub before-head : (q : List ℕ) → 0 < length q → placeIn (getD q 0 0) q ≡ 0
+unfolding placeIn
 before-head [] h = absurd (not-suc-le-zero h)
 before-head (u ∷ q) h = cond-true (eqb u u) 0 _ (eq-eqb u u refl)
 
@@ -113,7 +114,7 @@ module _ (m : Model) (t : ℕ) where
   unfolding rowOf
   row-priority = refl
 
-  pub row-ready : isReadyKind (kindOf (taskAt m t .place)) ≡ true → rowOf m t .position ≡ standBefore t (queue m (active m t))
+  pub row-ready : isReadyKind (kindOf (taskAt m t .place)) ≡ true → rowOf m t .position ≡ placeIn t (queue m (active m t))
   unfolding rowOf queuePosition
   row-ready e = cond-true (isReadyKind (kindOf (taskAt m t .place))) _ 0 e
 
@@ -151,7 +152,7 @@ module _ (m : Model) (good : sound m ≡ true) where
   pub position-is : (t : ℕ) (front back : List ℕ) → t < length (m .tasks) → isReadyKind (kindOf (taskAt m t .place)) ≡ true →
       queue m (active m t) ≡ front ++ (t ∷ back) → rowOf m t .position ≡ length front
   position-is t front back h e f =
-      row-ready m t e ∙ ap (standBefore t) f ∙
+      row-ready m t e ∙ ap (placeIn t) f ∙
       before-is t front back
       (omega (
         arith,
@@ -201,7 +202,7 @@ module _ (m : Model) (good : sound m ≡ true) where
   row-priority-at : (t : ℕ) → t < length rows → priorityAt rows t ≡ active m t
   row-priority-at t h = ap (λ (r : Row). r .priority .0) (at-row t h .1) ∙ row-priority m t
 
-  row-position-at : (t : ℕ) → ReadyRow rows t → positionAt rows t ≡ standBefore t (queue m (active m t))
+  row-position-at : (t : ℕ) → ReadyRow rows t → positionAt rows t ≡ placeIn t (queue m (active m t))
   row-position-at t r = ap (λ (x : Row). x .position) (at-row t (r .there) .1) ∙ row-ready m t (row-is-ready t r)
 
   under : (t : ℕ) → ReadyRow rows t → active m t ≤ highest m
@@ -242,7 +243,7 @@ module _ (m : Model) (good : sound m ≡ true) where
 
     head-first : positionAt rows head ≡ 0
     head-first =
-        row-position-at head head-row ∙ ap (λ (p : ℕ). standBefore head (queue m p)) head-active ∙
+        row-position-at head head-row ∙ ap (λ (p : ℕ). placeIn head (queue m p)) head-active ∙
         before-head (queue m (highest m)) (h .full)
 
     head-best : (j : ℕ) → ReadyRow rows j → Before rows j head → ⊥

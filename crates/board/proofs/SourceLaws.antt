@@ -2,34 +2,32 @@
 use mathlib.Core.Path.{_≡_, refl, sym, ap, _∙_}
 use mathlib.Core.Bool.{Bool, true, false, cond}
 use mathlib.Core.List.{List, [], _∷_}
-use Prim.Native.Nat.{ℕ, zero, suc, _+_, _-_, _*_, _≤_, _<_}
-use native.Mathlib.Numerals.{add-one}
+use Prim.Native.Nat.{ℕ, suc, _+_, _-_, _*_, _≤_, _<_}
 use native.Mathlib.Omega.{arith}
-use borrow.Author.Tests.{le-ltb, ltb-false, eq-eqb, ne-eqb}
-use lib.Dec.{eqb, ltb}
-use lib.ListN.{length, drop, getD, drop-of-length-le}
-use lib.Seq.{drop-cons}
-use Rattle.rules.specs.Limits.{taskLimit, lastPriority}
+use borrow.Author.Tests.{le-ltb, ltb-false}
+use lib.Dec.{eqb}
+use lib.ListN.{length, getD}
+use Rattle.rules.specs.Limits.{taskLimit}
 use Rattle.rules.specs.Priorities.{inRange}
 use Rattle.rules.specs.Model.{taskAt, queue, active}
 use Rattle.rules.specs.declared.Priority.{Priority}
 use Rattle.rules.specs.declared.Task.{Task}
-use Rattle.rules.proofs.Choices.{compare, cond-true, cond-false}
+use Rattle.rules.proofs.Choices.{compare, cond-true}
 use Rattle.rules.proofs.Core.{Core, act-low, act-high}
 use Rattle.rules.proofs.PriorityLaws.{in-bounds, bounds-in}
 use Rattle.rules.proofs.Soundness.{sound-good}
 use Rattle.dispatch.specs.State.{view}
 use Rattle.dispatch.specs.Sound.{soundOf}
-use Rattle.dispatch.specs.Readers.{listAt, entryOf, queueOf, taskOf, activeOf}
-use Rattle.dispatch.specs.Loading.{Shaped}
+use Rattle.dispatch.specs.Readers.{entryOf, queueOf, taskOf, activeOf}
+use Rattle.dispatch.proofs.Known.{Shaped}
 use Rattle.dispatch.specs.declared.State.{State}
-use Rattle.dispatch.specs.declared.Listed.{Listed}
 use Rattle.dispatch.specs.declared.Listed.the-variants.{Number, Nothing}
 use Rattle.dispatch.proofs.ReaderLaws.{has-none, has-some, there, list-room, entry-there, queue-is, queue-none}
 use Rattle.board.specs.declared.PlaceKind.{PlaceKind}
 use Rattle.board.specs.declared.Row.{Row}
 use Rattle.board.specs.Rows.{isReadyKind}
-use Rattle.board.specs.Fill.{kindOf, standBefore, queuePosition, rowOf}
+use Rattle.memory.specs.Rows.{placeIn}
+use Rattle.board.specs.Fill.{kindOf, queuePosition, rowOf}
 use Rattle.board.proofs.StateLaws.{view-sound}
 
 -- ---- how many tasks a state has: as many as it says, cut to the limit
@@ -60,37 +58,13 @@ entry-is q i t u h e = let same : u ≡ getD q i 0 = cc (entry-there q i h) in a
 pub entry-some : {C : Type 0} (q : List ℕ) (i : ℕ) → i < length q → entryOf q i ≡ Nothing → C
 entry-some q i h e = absurd (let z : _≡_ {A = ℕ} 0 1 = cc (entry-there q i h) in omega arith)
 
--- ---- how many stand before t in a queue, of which the first i were passed
-module _ (t : ℕ) (q : List ℕ) (i : ℕ) where
-  abbrev rest : ℕ
-  rest = standBefore t (drop i q)
-
-  pub pass-here : i < length q → eqb (getD q i 0) t ≡ true → standBefore t q ≡ i + rest → i ≡ standBefore t q
-  unfolding standBefore
-  pass-here h e f = omega (arith, f, ap (standBefore t) (drop-cons q i 0 h) ∙ cond-true (eqb (getD q i 0) t) 0 _ e)
-
-  pub pass-more : i < length q → eqb (getD q i 0) t ≡ false → standBefore t q ≡ i + rest →
-      standBefore t q ≡ (i + 1) + standBefore t (drop (i + 1) q)
-  unfolding standBefore
-  pass-more h e f =
-      let step : rest ≡ suc (standBefore t (drop (suc i) q)) = ap (standBefore t) (drop-cons q i 0 h) ∙
-      cond-false (eqb (getD q i 0) t) 0 _ e in
-      rw (add-one i) (omega (arith, f, step))
-
-  pub pass-end : length q ≤ i → standBefore t q ≡ i + rest → i ≡ standBefore t q
-  unfolding standBefore
-  pass-end h f = omega (arith, f, ap (standBefore t) (drop-of-length-le q {i = i} h))
-
-pub pass-none : (t : ℕ) (q : List ℕ) → standBefore t q ≡ 0 + standBefore t (drop 0 q)
-pass-none t q = omega arith
-
--- no more than there are, which are no more than tasks
-before-most : (t : ℕ) (q : List ℕ) → standBefore t q ≤ length q
-unfolding standBefore
+-- ---- where t stands in a queue: no more than there are, which are no more than tasks
+before-most : (t : ℕ) (q : List ℕ) → placeIn t q ≤ length q
+unfolding placeIn
 before-most t [] = omega arith
 before-most t (u ∷ q) = go (eqb u t) (before-most t q)
   where
-    go : (b : Bool) → standBefore t q ≤ length q → cond b 0 (suc (standBefore t q)) ≤ suc (length q)
+    go : (b : Bool) → placeIn t q ≤ length q → cond b 0 (suc (placeIn t q)) ≤ suc (length q)
     go true h = omega arith
     go false h = omega arith
 
@@ -104,7 +78,7 @@ queue-most s p known = go (inRange (p .0)) refl
         omega (arith, ap length (queue-is s p e), list-room (suc taskLimit) (p .0 - 1) (s .queues) (omega arith) fits)
     go false e = omega (arith, ap length (queue-none s p e))
 
-pub position-fits : (s : State) (p : Priority) (t : ℕ) → Shaped s → standBefore t (queueOf s p) ≤ taskLimit
+pub position-fits : (s : State) (p : Priority) (t : ℕ) → Shaped s → placeIn t (queueOf s p) ≤ taskLimit
 position-fits s p t known = omega (arith, before-most t (queueOf s p), queue-most s p known)
 
 -- ---- the row of a task of a sound state, made of what is read of it
@@ -113,7 +87,7 @@ module _ (s : State) (t : ℕ) where
   rowWith x p a = record { kind = x; priority = p; position = a }
 
   abbrev rowFrom : PlaceKind → Priority → Row
-  rowFrom x p = rowWith x p (cond (isReadyKind x) (standBefore t (queueOf s p)) 0)
+  rowFrom x p = rowWith x p (cond (isReadyKind x) (placeIn t (queueOf s p)) 0)
 
   in-level : soundOf s ≡ true → t < length (view s .tasks) → inRange (active (view s) t) ≡ true
   in-level good h =
@@ -123,14 +97,14 @@ module _ (s : State) (t : ℕ) where
   row-is : soundOf s ≡ true → t < length (view s .tasks) → rowFrom (kindOf (taskOf s t .place)) (activeOf s t) ≡ rowOf (view s) t
   unfolding rowOf queuePosition taskOf activeOf queueOf
   row-is good h =
-      ap (λ (q : List ℕ). rowWith kind (activeOf s t) (cond (isReadyKind kind) (standBefore t q) 0))
+      ap (λ (q : List ℕ). rowWith kind (activeOf s t) (cond (isReadyKind kind) (placeIn t q) 0))
       (cond-true (inRange (active (view s) t)) _ [] (in-level good h))
     where
       kind : PlaceKind
       kind = kindOf (taskAt (view s) t .place)
 
   pub row-made : (k : Task) (x : PlaceKind) (p : Priority) (a : ℕ) → (soundOf s ≡ true) × (t < length (view s .tasks)) →
-      k ≡ taskOf s t → x ≡ kindOf (k .place) → p ≡ activeOf s t → a ≡ cond (isReadyKind x) (standBefore t (queueOf s p)) 0 →
+      k ≡ taskOf s t → x ≡ kindOf (k .place) → p ≡ activeOf s t → a ≡ cond (isReadyKind x) (placeIn t (queueOf s p)) 0 →
       rowWith x p a ≡ rowOf (view s) t
   row-made k x p a asked e f g h =
       ap (rowWith x p) h ∙ ap (rowFrom x) g ∙

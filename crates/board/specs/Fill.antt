@@ -2,11 +2,12 @@
 use mathlib.Core.Bool.{cond}
 use mathlib.Core.List.{List, [], _∷_, _++_}
 use Prim.Native.Nat.{ℕ, zero, suc}
-use lib.Dec.{eqb, ltb}
+use lib.Dec.{ltb}
 use lib.ListN.{length, take, drop}
 use Rattle.rules.specs.Model.{Model, taskAt, queue, active}
 use Rattle.rules.specs.declared.Place.{Place}
 use Rattle.rules.specs.declared.Place.the-variants.{Running, Ready, Delayed, Suspended, Ended}
+use Rattle.memory.specs.Rows.{placeIn}
 use Rattle.dispatch.specs.State.{view}
 use Rattle.dispatch.specs.Sound.{soundOf}
 use Rattle.dispatch.specs.declared.State.{State}
@@ -23,14 +24,9 @@ kindOf (Delayed d) = PlaceKind.Delayed
 kindOf Suspended = PlaceKind.Suspended
 kindOf Ended = PlaceKind.Ended
 
--- how many stand before t in a queue
-unfoldable pub standBefore : ℕ → List ℕ → ℕ
-standBefore t [] = 0
-standBefore t (u ∷ us) = cond (eqb u t) 0 (suc (standBefore t us))
-
 -- "position in its queue (0 at the head, 0 if not ready)"
 unfoldable pub queuePosition : Model → ℕ → ℕ
-queuePosition m t = cond (isReadyKind (kindOf (taskAt m t .place))) (standBefore t (queue m (active m t))) 0
+queuePosition m t = cond (isReadyKind (kindOf (taskAt m t .place))) (placeIn t (queue m (active m t))) 0
 
 -- the row of task t: "place kind, active priority, position in its queue"
 unfoldable pub rowOf : Model → ℕ → Row

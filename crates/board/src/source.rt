@@ -8,7 +8,8 @@ ghost use Rattle.dispatch.specs.State.{view};
 ghost use Rattle.dispatch.specs.Sound.{soundOf};
 ghost use Rattle.dispatch.specs.Readers.{queueOf};
 ghost use Rattle.board.specs.Rows.{isReadyKind};
-ghost use Rattle.board.specs.Fill.{kindOf, standBefore, rowOf, fillAnswerOf, rowsWritten};
+ghost use Rattle.memory.specs.Rows.{placeIn};
+ghost use Rattle.board.specs.Fill.{kindOf, rowOf, fillAnswerOf, rowsWritten};
 use crate::FillAnswer;
 use crate::PlaceKind;
 use crate::ROW_LIMIT;
@@ -77,7 +78,7 @@ fn stands_at(state: State, p: Priority, i: usize, t: usize) -> bool
 
 // How many stand before t in the queue for p.
 fn stand_before(state: State, p: Priority, t: usize) -> usize
-    ensures { λ r. ⌜ r ≡ standBefore t (queueOf state p) ⌝ }
+    ensures { λ r. ⌜ r ≡ placeIn t (queueOf state p) ⌝ }
 {
     let n = state.queue_length(p);
     let mut i: usize = 0;
@@ -92,7 +93,7 @@ fn stand_before(state: State, p: Priority, t: usize) -> usize
 
 // The position of t in the queue for p; 0 if it is not ready.
 fn position(state: State, kind: PlaceKind, p: Priority, t: usize) -> u8
-    ensures { λ r. ⌜ r ≡ cond (isReadyKind kind) (standBefore t (queueOf state p)) 0 ⌝ }
+    ensures { λ r. ⌜ r ≡ cond (isReadyKind kind) (placeIn t (queueOf state p)) 0 ⌝ }
 {
     if is_ready(kind) {
         return stand_before(state, p, t) as u8;

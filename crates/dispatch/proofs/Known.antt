@@ -13,8 +13,14 @@ use Rattle.memory.specs.Rows.{heldWidth, queueWidth}
 use Rattle.rules.proofs.Task.{the-type as task-type}
 use Rattle.rules.proofs.Priority.{the-type as priority-type}
 use Rattle.dispatch.specs.declared.State.{State}
-use Rattle.dispatch.specs.Loading.{Shaped}
 use Rattle.dispatch.proofs.State.{the-type}
+
+-- the lengths of a state's arrays
+pub record Shaped (s : State) : Type 0 where
+  pub tasks : length (s .tasks) ≡ taskLimit
+  pub held : length (s .held) ≡ taskLimit * heldWidth
+  pub ceilings : length (s .ceilings) ≡ objectLimit
+  pub queues : length (s .queues) ≡ lastPriority * queueWidth
 
 mapped : {A B : Type 0} (f : A → B) (l : List A) (n : ℕ) → length (map f l) ≡ n → length l ≡ n
 mapped f l n e = sym (length-map l f) ∙ e

@@ -46,7 +46,7 @@ module _ {A : Type 0} where
 module _ {A B : Type 0} (f : A → B) where
   pub map-padded : (n : ℕ) (l : List A) (x : A) → map f (padded n l x) ≡ padded n (map f l) (f x)
   unfolding padded
-  map-padded n l x = map-append f l (replicate (n - length l) x) ∙ rw (map-replicate (n - length l) x, length-map l f)
+  map-padded n l x = map-append f l (replicate (n - length l) x) ∙ rw (map-replicate f (n - length l) x, length-map l f)
 
   -- a list with blanks behind its first n, cut there and padded again
   pub padded-back : (n m : ℕ) (l : List A) (x : A) → n ≤ length l → drop n l ≡ replicate (m - n) x →
@@ -54,4 +54,4 @@ module _ {A B : Type 0} (f : A → B) where
   unfolding padded
   padded-back n m l x h e =
       let k : length (map f (take n l)) ≡ n = length-map (take n l) f ∙ length-take-le n l h in
-      rw (k, ← map-replicate (m - n) x, ← e, ← map-append f (take n l) (drop n l), take-append-drop n l)
+      rw (k, ← map-replicate f (m - n) x, ← e, ← map-append f (take n l) (drop n l), take-append-drop n l)

@@ -25,7 +25,8 @@ use Rattle.memory.proofs.GridLaws.{part, withPart, row-fits, row-at, list-count
 use Rattle.dispatch.specs.declared.State.{State}
 use Rattle.dispatch.specs.State.{level, view, padded}
 use Rattle.dispatch.specs.Sound.{lengthsGood, sizesFit}
-use Rattle.dispatch.specs.Loading.{codeOf, Shaped, TasksLoaded}
+use Rattle.dispatch.specs.Loading.{codeOf, TasksLoaded}
+use Rattle.dispatch.proofs.Known.{Shaped}
 use Rattle.words.proofs.ListLaws.{drop-replicate, take-replicate}
 use Rattle.words.proofs.CopyLaws.{over, over-step}
 use Rattle.dispatch.proofs.ListLaws.{padded-length, padded-front, padded-rest}

@@ -25,7 +25,7 @@ use Rattle.dispatch.specs.declared.State.{State}
 use Rattle.dispatch.specs.declared.Listed.the-variants.{Number, Nothing}
 use Rattle.dispatch.specs.State.{level, priority, view, waitingFor, taskFor, holding}
 use Rattle.dispatch.specs.Readers.{listAt, entryOf, queueOf, taskOf, heldOf, activeOf}
-use Rattle.dispatch.specs.Loading.{Shaped}
+use Rattle.dispatch.proofs.Known.{Shaped}
 use Rattle.dispatch.proofs.EncodeLaws.{together-tasks, together-held, together-length}
 
 -- the list in a row

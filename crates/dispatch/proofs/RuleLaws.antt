@@ -17,7 +17,8 @@ use Rattle.rules.specs.declared.Answer.{Answer}
 use Rattle.rules.specs.declared.Answer.the-variants.{Unsound}
 use Rattle.rules.proofs.Choices.{clash}
 use Rattle.rules.proofs.SoundLaws.{sound-is, below-make}
-use Rattle.rules.proofs.Refusals.{table, appliesAt, exactly-when, refused-same}
+use Rattle.rules.specs.Refusals.{table, appliesAt}
+use Rattle.rules.proofs.Refusals.{exactly-when, refused-same}
 use Rattle.memory.specs.Rows.{rowFor, heldWidth, queueWidth, Lists}
 use Rattle.memory.proofs.GridLaws.{list-room, count-at}
 use Rattle.dispatch.specs.declared.Stepped.{Stepped}

@@ -20,7 +20,7 @@ use Rattle.rules.specs.declared.Task.{Task}
 use Rattle.memory.specs.Rows.{heldWidth, queueWidth}
 use Rattle.memory.specs.Tasks.{dueOf, bit, blankTask}
 use Rattle.dispatch.specs.State.{level, priority}
-use Rattle.dispatch.specs.Loading.{Shaped}
+use Rattle.dispatch.proofs.Known.{Shaped}
 use Rattle.dispatch.specs.declared.State.{State}
 use Rattle.words.proofs.ListLaws.{map-at}
 use Rattle.layout.specs.Sizes.{nobodyCode, taskSize, kindOffset, baseOffset, waitsOffset, waitingOffset, permitOffset}

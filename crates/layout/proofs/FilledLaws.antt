@@ -15,7 +15,7 @@ use Rattle.rules.specs.declared.Answer.the-variants.{Unsound}
 use Rattle.rules.proofs.Choices.{cond-true, cond-false, compare, both-ways, and-left}
 use Rattle.dispatch.specs.State.{priority, view}
 use Rattle.dispatch.specs.Sound.{sizesFit, soundOf}
-use Rattle.dispatch.specs.Loading.{Shaped}
+use Rattle.dispatch.proofs.Known.{Shaped}
 use Rattle.dispatch.specs.declared.State.{State}
 use Rattle.dispatch.proofs.LoadLaws.{fitting}
 use Rattle.board.specs.Rows.{rowLimit, fillNumber, Filling, fillingOf, behind}

@@ -27,7 +27,7 @@ use Rattle.memory.specs.Rows.{heldWidth, queueWidth}
 use Rattle.memory.specs.Tasks.{dueOf, blankTask}
 use Rattle.dispatch.specs.State.{priority, view, waitingFor, taskFor, holding, padded, encode}
 use Rattle.dispatch.specs.Sound.{sizesFit, soundOf}
-use Rattle.dispatch.specs.Loading.{Shaped}
+use Rattle.dispatch.proofs.Known.{Shaped}
 use Rattle.dispatch.specs.Methods.{answered, unsound, appliedOf, freshOf}
 use Rattle.dispatch.specs.declared.State.{State}
 use Rattle.dispatch.specs.declared.Stepped.{Stepped}

@@ -10,7 +10,7 @@ use lib.Seq.{sets}
 use Rattle.rules.proofs.Choices.{cond-true, cond-false}
 use Rattle.rules.specs.Limits.{taskLimit, objectLimit}
 use Rattle.dispatch.specs.State.{level}
-use Rattle.dispatch.specs.Loading.{Shaped}
+use Rattle.dispatch.proofs.Known.{Shaped}
 use Rattle.dispatch.specs.declared.State.{State}
 use Rattle.layout.specs.Sizes.{taskSize, tasksStart, ceilingsStart, heldStart, queuesStart, stateSize}
 use Rattle.layout.specs.Encode.{lowBytes, headTail, headBytes, taskBytes, bytesOfState, withState}

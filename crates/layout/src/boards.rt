@@ -8,7 +8,6 @@ ghost use Rattle.board.specs.Rows.{rowLimit, toldOf};
 ghost use Rattle.layout.specs.Boards.{rowSize, kindFrom, kindNumber, rowFrom, rowsFrom, rowBytes, fillAnswer, filledBytes};
 ghost use Rattle.layout.specs.Boards.{lentOf, rowByte, nextNumber};
 use crate::decode::read;
-use crate::encode::put;
 use crate::sizes::DELAYED;
 use crate::sizes::ENDED;
 use crate::sizes::NOBODY;
@@ -23,6 +22,7 @@ use board::Row;
 use rules::Answer;
 use rules::Priority;
 use words::byte_at;
+use words::put;
 
 const ROW_SIZE: usize = 3;
 

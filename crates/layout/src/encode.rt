@@ -31,19 +31,7 @@ use rules::Priority;
 use rules::Runner;
 use rules::Task;
 use rules::WaitingBase;
-
-// Bytes put into others, from `at` on.
-pub fn put(out: &mut [u8], at: usize, bytes: &[u8])
-    requires { ⌜ at + length (now bytes) ≤ length (now out) ⌝ }
-    ensures { λ u. ⌜ now (out .exit) ≡ sets (now (out .entry)) at (now (bytes .entry)) ⌝ }
-{
-    let n = bytes.len();
-    let mut i: usize = 0;
-    while i < n {
-        out[at + i] = bytes[i];
-        i += 1;
-    }
-}
+use words::put;
 
 // A number as eight bytes, the lowest first.
 fn put_number(out: &mut [u8], at: usize, n: u64)

@@ -33,13 +33,8 @@ fn put(out: &mut [u8], at: usize, text: &[u8]) -> usize
     requires { ⌜ at + length (now text) ≤ length (now out) ⌝ }
     ensures { λ r. ⌜ Copied (now (out .entry)) at (now (text .entry)) (now (out .exit)) r ⌝ }
 {
-    let n = text.len();
-    let mut i: usize = 0;
-    while i < n {
-        out[at + i] = text[i];
-        i += 1;
-    }
-    at + n
+    words::put(out, at, text);
+    at + text.len()
 }
 
 fn put_byte(out: &mut [u8], at: usize, byte: u8) -> usize

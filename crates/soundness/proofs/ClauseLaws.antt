@@ -21,7 +21,8 @@ use Rattle.rules.specs.Lists.{allOf, below}
 use Rattle.memory.specs.Rows.{queueWidth, queuesIn, queueIn, heldBy}
 use Rattle.memory.specs.Tasks.{taskIn}
 use Rattle.memory.specs.Memory.{nowCell, runningCell, taskCountIn, objectCountIn, runnerOf, waitingIn, modelOf, LaidOut}
-use Rattle.soundness.specs.Tested.{onePlaceAt, heldGoodAt, holderHere, waitsInside, taskSound, queueSound, tested}
+use Rattle.soundness.proofs.TestedLaws.{tested}
+use Rattle.soundness.specs.Tested.{onePlaceAt, heldGoodAt, holderHere, waitsInside, taskSound, queueSound}
 use Rattle.memory.proofs.GridLaws.{list-count}
 use Rattle.memory.proofs.MemoryLaws.{count-is, objects-is, task-is, held-is, place-is, waiting-is}
 use Rattle.memory.proofs.TestLaws.{same-test, fails-first, holds-first}

@@ -24,8 +24,14 @@ use Rattle.rules.proofs.Choices.{and-left, and-right, and-make}
 use Rattle.rules.proofs.TaskLaws.{runs-self, runs-apart}
 use Rattle.rules.proofs.SoundLaws.{below-at, below-make}
 use Rattle.memory.specs.Memory.{runnerOf}
-use Rattle.soundness.specs.Tested.{onePlaceAt, heldGoodAt, holderHere, waitsInside, taskSound, queueSound, tested}
+use Rattle.soundness.specs.Tested.{onePlaceAt, heldGoodAt, holderHere, waitsInside, taskSound, queueSound}
 use Rattle.memory.proofs.TestLaws.{same-test, fails-first, holds-first}
+
+-- all clauses
+unfoldable pub tested : Model → Bool
+tested m =
+    sizesGood m && runnerGood m (m .running) && highestRuns m (m .running) && below (length (m .tasks)) (taskSound m) &&
+    eachPriority (queueSound m)
 
 -- ceilings that do not fall, in a loop from the front
 module _ (cs : List ℕ) (b low i : ℕ) (l : List ℕ) (e : rising cs b l ≡ rising cs low (drop i l)) where

@@ -2,11 +2,9 @@
 use mathlib.Core.Bool.{Bool, not, _&&_, _||_}
 use Prim.Native.Nat.{ℕ, _+_}
 use lib.Dec.{eqb}
-use lib.ListN.{length}
 use Rattle.rules.specs.Model.{Model, TaskRecord, taskAt, queue, active}
 use Rattle.rules.specs.Events.{noTask, inside}
 use Rattle.rules.specs.Sound.{recordGood, runs, isRunning, queued, isReady, dueGood, distinct, rising, isNone}
-use Rattle.rules.specs.Sound.{sizesGood, runnerGood, highestRuns, eachPriority}
 use Rattle.rules.specs.Lists.{allOf, below}
 
 -- "a task in two places, or in none"
@@ -34,9 +32,3 @@ taskSound m t =
 -- all clauses about the queue for p
 unfoldable pub queueSound : Model → ℕ → Bool
 queueSound m p = allOf (λ t. not (noTask m t)) (queue m p) && allOf (λ t. eqb (active m t) p) (queue m p)
-
--- all clauses
-unfoldable pub tested : Model → Bool
-tested m =
-    sizesGood m && runnerGood m (m .running) && highestRuns m (m .running) && below (length (m .tasks)) (taskSound m) &&
-    eachPriority (queueSound m)

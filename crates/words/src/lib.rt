@@ -1,7 +1,8 @@
-// Internal: pub only for our own crates. Bytes and little-endian numbers of a slice.
+// Internal: pub only for our own crates. Bytes and little-endian numbers of a slice, and bytes put into one.
 ghost use mathlib.Core.Path.{_≡_};
-ghost use Prim.Native.Nat.{_+_, _<_};
+ghost use Prim.Native.Nat.{_+_, _≤_, _<_};
 ghost use lib.ListN.{length};
+ghost use lib.Seq.{sets};
 ghost use Rattle.words.specs.Words.{byteAt, wordAt, numberAt};
 
 // The byte at i, or 0 past the end.
@@ -55,4 +56,17 @@ pub fn number_at(s: &[u8], i: usize) -> u64
     let third = word_at(rest, 4) as u64;
     let last = word_at(rest, 6) as u64;
     first + 65536 * (second + 65536 * (third + 65536 * last))
+}
+
+// Bytes put into others, from `at` on.
+pub fn put(out: &mut [u8], at: usize, bytes: &[u8])
+    requires { ⌜ at + length (now bytes) ≤ length (now out) ⌝ }
+    ensures { λ u. ⌜ now (out .exit) ≡ sets (now (out .entry)) at (now (bytes .entry)) ⌝ }
+{
+    let n = bytes.len();
+    let mut i: usize = 0;
+    while i < n {
+        out[at + i] = bytes[i];
+        i += 1;
+    }
 }

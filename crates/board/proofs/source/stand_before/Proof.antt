@@ -4,16 +4,17 @@ use mathlib.Core.Path.{_≡_, sym, _∙_}
 use Prim.Native.Nat.{_+_, _-_, _≤_}
 use native.Mathlib.Omega.{arith}
 use borrow.Author.Needs.{needs}
-use lib.ListN.{length, drop}
+use borrow.Author.Tests.{eqb-true, eqb-false}
+use lib.ListN.{drop}
 use Rattle.dispatch.specs.Readers.{queueOf}
-use Rattle.board.specs.Fill.{standBefore}
-use Rattle.board.proofs.SourceLaws.{pass-none, pass-here, pass-more, pass-end}
+use Rattle.memory.specs.Rows.{placeIn}
+use Rattle.memory.proofs.RowLaws.{find-hit, find-miss, find-end}
 use Rattle.board.proofs.source.stand_before.Statement.{statement}
 use Rattle.board.proofs.source.stand_before.Tie as tie
 
 abbrev Inv-loop : tie.InvT-loop
 Inv-loop state p t n i₀ i =
-    (i ≤ n) × (standBefore t (queueOf state p) ≡ i + standBefore t (drop i (queueOf state p)))
+    (i ≤ n) × (placeIn t (queueOf state p) ≡ i + placeIn t (drop i (queueOf state p)))
 
 abbrev μ-loop : tie.MeasureT-loop
 μ-loop state p t n i₀ i = n - i
@@ -23,8 +24,7 @@ queue-length-requires c κs = search needs
 
 loop-holds : tie.Need-loop-holds Inv-loop μ-loop
 loop-holds c =
-    let a = c .before .args in
-    (omega arith, pass-none (a .t) (queueOf (a .state) (a .p)))
+    (omega arith, omega arith)
 
 stands-at-requires : tie.Need-stands-at-requires Inv-loop μ-loop
 stands-at-requires c κs = omega (arith, c .before .before .queue-length .ensures)
@@ -33,8 +33,8 @@ returns : tie.Need-returns Inv-loop μ-loop
 returns c =
     let l = c .before .before .before in
     let a = l .before .before .args in
-    pass-here (a .t) (queueOf (a .state) (a .p)) (l .loop .i) (omega (arith, l .before .queue-length .ensures))
-    (sym (c .before .stands-at .ensures) ∙ c .if1 .taken) (l .loop .inv .1)
+    find-hit (a .t) (l .loop .i) (queueOf (a .state) (a .p)) (l .loop .inv .1) (omega (arith, l .before .queue-length .ensures))
+    (eqb-true _ _ (sym (c .before .stands-at .ensures) ∙ c .if1 .taken))
 
 add-i : tie.Need-add-i Inv-loop μ-loop
 add-i c = search needs
@@ -47,15 +47,15 @@ loop-again c =
     let l = c .before .before .before in
     let a = l .before .before .args in (
       omega arith,
-      pass-more (a .t) (queueOf (a .state) (a .p)) (l .loop .i) (omega (arith, l .before .queue-length .ensures))
-          (sym (c .before .stands-at .ensures) ∙ c .if1 .left) (l .loop .inv .1),
+      find-miss (a .t) (l .loop .i) (queueOf (a .state) (a .p)) (l .loop .inv .1) (omega (arith, l .before .queue-length .ensures))
+          (eqb-false _ _ (sym (c .before .stands-at .ensures) ∙ c .if1 .left)),
     )
 
 returns-2 : tie.Need-returns-2 Inv-loop μ-loop
 returns-2 c =
     let l = c .before in
     let a = l .before .before .args in
-    pass-end (a .t) (queueOf (a .state) (a .p)) (l .loop .i) (omega (arith, l .before .queue-length .ensures)) (l .loop .inv .1)
+    find-end (a .t) (l .loop .i) (queueOf (a .state) (a .p)) (l .loop .inv .1) (omega (arith, l .before .queue-length .ensures))
 
 pub stand-before-spec : {M : Type 1} → statement M
 stand-before-spec =

@@ -1,14 +1,14 @@
--- `layout::encode::put` meets its contract.
+-- `words::put` meets its contract.
 use mathlib.Core.Path.{_≡_, refl, ap, sym}
 use Prim.Native.Nat.{ℕ, _+_, _≤_, _-_}
 use native.Mathlib.Nat.{add-zero}
 use native.Mathlib.Omega.{arith}
 use lib.ListN.{length, drop, length-set}
 use lib.Seq.{sets}
 use Rattle.words.proofs.CopyLaws.{copy-turn, copy-end}
 use borrow.Author.Needs.{needs}
-use Rattle.layout.proofs.encode.put.Statement.{statement}
-use Rattle.layout.proofs.encode.put.Tie as tie
+use Rattle.words.proofs.put.Statement.{statement}
+use Rattle.words.proofs.put.Tie as tie
 
 abbrev Inv-loop : tie.InvT-loop
 Inv-loop out₀ at bytes n i₀ out i =
