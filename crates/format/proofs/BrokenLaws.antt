@@ -1,17 +1,19 @@
 -- The form answers 16 exactly where 11 to 15 are kept and a step is broken, and names the first; it passes exactly where all are kept.
-use mathlib.Core.Path.{_≡_, ap, sym, _∙_}
+use mathlib.Core.Path.{_≡_, ap, sym, _∙_, subst}
 use mathlib.Core.Bool.{Bool, true, false, cond}
 use mathlib.Core.List.{List}
 use Prim.Native.Nat.{ℕ, _<_}
-use Rattle.format.specs.Answers.{passed}
+use native.Mathlib.Omega.{arith}
+use Rattle.format.specs.Answers.{numberOf, taskOf, positionOf, passed}
 use Rattle.format.specs.Format.{taskCount, objectCount, partAt}
 use Rattle.format.specs.Steps.{stepCount}
+use Rattle.format.specs.Form.{lengthGood, markGood, countsKept, layoutGood, valuesGood}
 use Rattle.format.specs.Form.{stepForm, stepsForm, scriptForm, scriptsForm, formOf}
-use Rattle.format.specs.Broken.{stepUnbroken, Laid, FirstBroken, AllUnbroken}
+use Rattle.format.specs.Broken.{stepUnbroken, Laid, FirstBroken, AllUnbroken, FormSays}
 use Rattle.format.specs.declared.Verdict.{Verdict}
-use Rattle.format.specs.declared.Verdict.the-variants.{Passed, BadStep}
+use Rattle.format.specs.declared.Verdict.the-variants.{Passed, BadLength, BadMark, BadCounts, BadLayout, BadValues, BadStep}
 use Rattle.format.proofs.TestLaws.{truth, by-test, first-at, first-all, first-found, first-names}
-use Rattle.format.proofs.FormLaws.{form-6}
+use Rattle.format.proofs.FormLaws.{form-1, form-2, form-3, form-4, form-5, form-6}
 use Rattle.format.proofs.FormedLaws.{formed, formed-passes}
 
 module _ (s : List ℕ) where
@@ -41,7 +43,7 @@ module _ (s : List ℕ) where
   unbroken-script t h = first-all (formAt t) (stepCount (partAt s t)) (λ k g. of-unbroken t k (h k g))
 
   -- 0
-  pub form-passes : formOf s ≡ Passed → Laid s × AllUnbroken s
+  form-passes : formOf s ≡ Passed → Laid s × AllUnbroken s
   unfolding scriptsForm
   form-passes e =
       let f = formed s e in (
@@ -49,7 +51,7 @@ module _ (s : List ℕ) where
         record { at = λ t k h g. script-unbroken t (first-at (scriptForm s) (taskCount s) (f .steps) t h) k g },
       )
 
-  pub passes-form : Laid s → AllUnbroken s → formOf s ≡ Passed
+  passes-form : Laid s → AllUnbroken s → formOf s ≡ Passed
   unfolding scriptsForm
   passes-form l a =
       formed-passes s (record {
@@ -62,18 +64,18 @@ module _ (s : List ℕ) where
       })
 
   -- 16: a roster whose first broken step is the step at k of task t is answered so
-  pub broken-named : (t k : ℕ) → Laid s → FirstBroken s t k → formOf s ≡ BadStep t k
+  broken-named : (t k : ℕ) → Laid s → FirstBroken s t k → formOf s ≡ BadStep t k
   unfolding scriptsForm scriptForm stepsForm formAt
   broken-named t k l b =
       let here : scriptForm s t ≡ BadStep t k =
       first-found (formAt t) (stepCount (partAt s t)) k (b .step) (first-all (formAt t) k (λ j h. of-unbroken t j (b .steps j h)))
       (ap passed (of-broken t k (b .broken))) ∙ of-broken t k (b .broken) in
       sym (form-6 s (l .size) (l .mark) (l .counts) (l .layout) (l .values)) ∙
-      (first-found (scriptForm s) (taskCount s) t (b .task) (first-all (scriptForm s) t (λ u h. unbroken-script u (λ j g. b .tasks u j h g)))
-      (ap passed here) ∙ here)
+      (first-found (scriptForm s) (taskCount s) t (b .task)
+      (first-all (scriptForm s) t (λ u h. unbroken-script u (λ j g. b .tasks u j h g))) (ap passed here) ∙ here)
 
   -- and what is answered is so
-  pub named-broken : Laid s → passed (formOf s) ≡ false → (t : ℕ) × (k : ℕ) × (formOf s ≡ BadStep t k) × FirstBroken s t k
+  named-broken : Laid s → passed (formOf s) ≡ false → (t : ℕ) × (k : ℕ) × (formOf s ≡ BadStep t k) × FirstBroken s t k
   unfolding scriptsForm scriptForm stepsForm formAt
   named-broken l e =
       let f = form-6 s (l .size) (l .mark) (l .counts) (l .layout) (l .values) in
@@ -96,3 +98,30 @@ module _ (s : List ℕ) where
           steps = λ j h. unbroken-of t j (first-at (formAt t) k (b .3) j h);
         },
       )
+
+  -- a roster that is answered 16 keeps 11 to 15
+  laid-of : (t k : ℕ) → formOf s ≡ BadStep t k → Laid s
+  laid-of t k e =
+      by-test (lengthGood s) (λ a. by-test (markGood s) (λ b. by-test (countsKept s) (λ c. by-test (layoutGood s) (λ d.
+      by-test (valuesGood s) (λ f. record { size = a; mark = b; counts = c; layout = d; values = f })
+      (λ x. other BadValues (form-5 s a b c d x) (omega arith))) (λ x. other BadLayout (form-4 s a b c x) (omega arith)))
+      (λ x. other BadCounts (form-3 s a b x) (omega arith))) (λ x. other BadMark (form-2 s a x) (omega arith)))
+      (λ x. other BadLength (form-1 s x) (omega arith))
+    where
+      other : {A : Type 0} (v : Verdict) → v ≡ formOf s → numberOf v < 16 → A
+      other v f h = absurd (omega (arith, h, ap numberOf (f ∙ e)))
+
+  named-first : (t k : ℕ) → formOf s ≡ BadStep t k → Laid s × FirstBroken s t k
+  named-first t k e =
+      let l = laid-of t k e in
+      let b = named-broken l (ap passed e) in
+      let same = sym (b .2) ∙ e in
+      (l, subst (λ (u : ℕ). FirstBroken s u k) (ap taskOf same) (subst (FirstBroken s (b .0)) (ap positionOf same) (b .3)))
+
+-- the form answers exactly what is so
+pub form-says : FormSays
+form-says s =
+    record {
+      passes = (form-passes s, λ a. passes-form s (a .0) (a .1));
+      names = λ t k. (named-first s t k, λ a. broken-named s t k (a .0) (a .1));
+    }

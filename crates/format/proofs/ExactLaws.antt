@@ -8,10 +8,9 @@ use native.Mathlib.Omega.{arith}
 use lib.ListN.{length}
 use Rattle.format.specs.Answers.{passed, first}
 use Rattle.format.specs.Roster.{Roster, rosterOf, scriptOf}
-use Rattle.format.specs.Form.{formOf}
 use Rattle.format.specs.Check.{topAt, whileHeld, lowCeiling, notInnermost, otherTask}
-use Rattle.format.specs.Check.{faultOf, faultIn, stepsFault, scriptFault, rosterFault, checkOf}
-use Rattle.format.specs.Kept.{stepFor, heldAt, Keeps, NoneBefore, Says}
+use Rattle.format.specs.Check.{faultOf, faultIn, stepsFault, scriptFault, rosterFault}
+use Rattle.format.specs.Kept.{stepFor, heldAt, Keeps, NoneBefore, Says, CheckSays}
 use Rattle.format.specs.declared.Step.{Step}
 use Rattle.format.specs.declared.Verdict.{Verdict}
 use Rattle.format.specs.declared.Verdict.the-variants.{Passed, NoSuchTask, BadLength, BadMark, BadCounts, BadLayout, BadValues}
@@ -110,7 +109,7 @@ module _ (r : Roster) where
       (n, unheld-of r t k a, covered-of r t k b, innermost-of r t k d, (λ u. truth (sym g ∙ of-own r t k u)))
 
   -- what the scan answers is so
-  pub scan-says : Says r (rosterFault r)
+  scan-says : Says r (rosterFault r)
   unfolding rosterFault faultIn
   scan-says =
       by-test (passed (rosterFault r))
@@ -153,7 +152,7 @@ module _ (r : Roster) where
   breaks false K f h = absurd (h (f refl))
 
   -- only what is so is answered
-  pub says-scan : (v : Verdict) → Says r v → rosterFault r ≡ v
+  says-scan : (v : Verdict) → Says r v → rosterFault r ≡ v
   unfolding rosterFault
   says-scan Passed a =
       first-all (scriptFault r) (length (r .scripts)) (λ t h. pass-script t (λ k g. a .at t k (record { task = h; step = g })))
@@ -174,9 +173,8 @@ module _ (r : Roster) where
   says-scan (BadStep t k) a = absurd a
 
 -- the check answers exactly what is so
-module _ (s : List ℕ) (ok : formOf s ≡ Passed) where
-  pub check-says : Says (rosterOf s) (checkOf s)
-  check-says = subst (Says (rosterOf s)) (check-rules s (rosterFault (rosterOf s)) ok refl) (scan-says (rosterOf s))
-
-  pub says-check : (v : Verdict) → Says (rosterOf s) v → checkOf s ≡ v
-  says-check v a = sym (check-rules s (rosterFault (rosterOf s)) ok refl) ∙ says-scan (rosterOf s) v a
+pub check-says : CheckSays
+check-says s ok =
+    let r = rosterOf s in
+    let scan = check-rules s (rosterFault r) ok refl in
+    record { so = subst (Says r) scan (scan-says r); only = λ v a. sym scan ∙ says-scan r v a }

@@ -1,11 +1,12 @@
 -- Rosters worked out: document 01's whole case, and rosters with one fault or several, each with what the check answers.
 use mathlib.Core.Path.{_≡_}
 use mathlib.Core.List.{List, [], _∷_, _++_, map}
-use Prim.Native.Nat.{ℕ, _+_}
+use Prim.Native.Nat.{ℕ, _+_, _<_}
 use lib.ListN.{length, set, replicate}
 use Rattle.format.specs.Answers.{numberOf, taskOf, positionOf}
 use Rattle.format.specs.Form.{scriptAnswer, scriptPart}
 use Rattle.format.specs.Check.{checkOf}
+use Rattle.format.specs.declared.Verdict.the-variants.{BadLength}
 
 -- "Whole case, roster of 46 bytes", with a ceiling: two scripts, the task table, the object table, the trailer
 abbrev pub wholeCase : ℕ → List ℕ
@@ -135,6 +136,10 @@ answered s = numberOf (checkOf s) ∷ taskOf (checkOf s) ∷ positionOf (checkOf
 -- the check answers so
 abbrev pub Judged : Type 0
 Judged = map (λ (c : Case). answered (c .roster)) cases ≡ map (λ (c : Case). c .says) cases
+
+-- 11 "roster 14 to 32,768 bytes"
+abbrev pub LongRefused : Type 0
+LongRefused = (s : List ℕ) → 32768 < length s → checkOf s ≡ BadLength
 
 -- a roster, a task, and the number and the part that its script's reader gives
 pub record Lookup : Type 0 where

@@ -8,8 +8,9 @@ use lib.ListN.{length}
 use Rattle.rules.specs.Model.{ceilingOf}
 use Rattle.rules.specs.declared.Priority.{Priority}
 use Rattle.format.specs.Steps.{stepIn}
-use Rattle.format.specs.Roster.{Roster, baseOf, scriptOf}
-use Rattle.format.specs.Check.{heldBefore}
+use Rattle.format.specs.Roster.{Roster, rosterOf, baseOf, scriptOf}
+use Rattle.format.specs.Form.{formOf}
+use Rattle.format.specs.Check.{heldBefore, checkOf}
 use Rattle.format.specs.declared.Step.{Step}
 use Rattle.format.specs.declared.Step.the-variants.{Enter, Leave, Delay, Suspend, Set, Again, Finish}
 use Rattle.format.specs.declared.Verdict.{Verdict}
@@ -81,3 +82,11 @@ Says r BadCounts = ⊥
 Says r BadLayout = ⊥
 Says r BadValues = ⊥
 Says r (BadStep t k) = ⊥
+
+-- of a roster that has its form the check answers exactly what is so
+pub record CheckExact (s : List ℕ) : Type 0 where
+  pub so : Says (rosterOf s) (checkOf s)
+  pub only : (v : Verdict) → Says (rosterOf s) v → checkOf s ≡ v
+
+abbrev pub CheckSays : Type 0
+CheckSays = (s : List ℕ) → formOf s ≡ Passed → CheckExact s

@@ -59,7 +59,8 @@ module _ (r : Roster) (k : Orderly r) (t : ℕ) (low : t < length (r .bases)) (a
   rule : (x : Step) → stepOf r t a ≡ x → Clean (r .ceilings) (topAt r t) (a .inside) t x
   rule x e =
       subst (Clean (r .ceilings) (topAt r t) (a .inside) t) e
-      (subst (λ (h : List ℕ). Clean (r .ceilings) (topAt r t) h t (stepOf r t a)) (sym (f .held)) (k .rules t (a .position) low (f .within)))
+      (subst (λ (h : List ℕ). Clean (r .ceilings) (topAt r t) h t (stepOf r t a)) (sym (f .held))
+      (k .rules t (a .position) low (f .within)))
 
   listed : (x : Step) → stepOf r t a ≡ x → namesListed (length (r .bases)) (length (r .ceilings)) x ≡ true
   listed x e = ap (namesListed (length (r .bases)) (length (r .ceilings))) (sym e) ∙ k .names t (a .position) low

@@ -91,7 +91,8 @@ run-writes s ev buffer es y e f = record { answer = answer; task = task }
     at : (i : ℕ) → i < 2 * length es → getD (bufferOf s ev buffer) i 0 ≡ getD pairs i 0
     at i h =
         ap (λ (l : List ℕ). getD l i 0) whole ∙
-        List·getD-append pairs (drop (length pairs) buffer) 0 i (omega (arith, h, pairs-count r (startOf r) (map inputOf es), length-map es inputOf))
+        List·getD-append pairs (drop (length pairs) buffer) 0 i
+        (omega (arith, h, pairs-count r (startOf r) (map inputOf es), length-map es inputOf))
 
     size : (before behind : List Event) (x : Event) → es ≡ before ++ (x ∷ behind) → length es ≡ length before + suc (length behind)
     size before behind x q = ap length q ∙ length-append before (x ∷ behind)

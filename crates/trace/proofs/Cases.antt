@@ -1,5 +1,11 @@
 -- The worked runs, by computation.
-use mathlib.Core.Path.{refl}
+use mathlib.Core.Path.{_≡_, refl, sym}
+use mathlib.Core.Bool.{Bool, true, false, _&&_}
+use Prim.Native.Nat.{_%_}
+use borrow.Author.Tests.{lt-leb}
+use lib.Dec.{eqb, leb}
+use lib.ListN.{length}
+use Rattle.format.proofs.TestLaws.{and-no}
 use Rattle.rules.specs.Lists
 use Rattle.rules.specs.Model
 use Rattle.rules.specs.Moves
@@ -17,9 +23,9 @@ use Rattle.trace.specs.Config
 use Rattle.trace.specs.Inputs
 use Rattle.trace.specs.Run
 use Rattle.trace.specs.Cases
-use Rattle.trace.specs.Cases.{Ran}
+use Rattle.trace.specs.Cases.{Traced, LongRefused}
 
-pub all-ran : Ran
+pub traced : Traced
 unfolding Lists.timesIn Lists.without Lists.allOf Lists.below Model.highestOf Moves.becomeReady Moves.stopped Moves.preempt Moves.start
     Moves.highestTo Moves.highest Moves.dispatchBy Moves.dispatch Moved.accepted Moved.byRunning Fresh.newTasks Fresh.joinFrom
     Fresh.freshModel Fresh.refusedFresh Fresh.fresh Events.enter Events.settleWith Events.settle Events.leave Events.putOff Events.delay
@@ -35,4 +41,26 @@ unfolding Lists.timesIn Lists.without Lists.allOf Lists.below Model.highestOf Mo
     Check.topAt Check.scriptFault Check.rosterFault Check.checkOf Config.startOf Config.perform Config.positionAfter Config.advance
     Config.stepBy Config.outside Config.happen Inputs.decode Inputs.valueAt Inputs.decodedAt Inputs.recordGood Inputs.eventsGood
     Inputs.inputAt Inputs.inputsOf Run.answerOf Run.runningByte Run.pairOf Run.pairsFrom Run.pairsOf Run.bufferOf Cases.cases
-all-ran = refl
+traced = refl
+
+pub long-refused : LongRefused
+unfolding Lists.timesIn Lists.without Lists.allOf Lists.below Model.highestOf Moves.becomeReady Moves.stopped Moves.preempt Moves.start
+    Moves.highestTo Moves.highest Moves.dispatchBy Moves.dispatch Moved.accepted Moved.byRunning Fresh.newTasks Fresh.joinFrom
+    Fresh.freshModel Fresh.refusedFresh Fresh.fresh Events.enter Events.settleWith Events.settle Events.leave Events.putOff Events.delay
+    Events.rest Events.suspend Events.releaseFrom Events.release Events.dueAt Events.earlier Events.firstDue Events.wake Events.wakeUp
+    Events.badReading Events.clock Events.requeue Events.rebase Events.isEnded Events.setBase Events.work Events.finish Events.apply
+    Words.wordAt Words.numberAt Words.tabulate FormAnswers.first Format.trailer Format.taskCount Format.objectCount Format.objectTable
+    Format.taskTable Format.taskRow Format.baseAt Format.startAt Format.lengthAt Format.objectRow Format.ceilingAt Format.partAt
+    Steps.setStep Steps.stepOf Steps.codeAt Steps.aAt Steps.bAt Steps.stepAt Steps.stepsOf Roster.rosterOf Form.lengthGood Form.markGood
+    Form.countsKept Form.tablesGood Form.scriptsEnd Form.laidFrom Form.scriptLaid Form.scriptsLaid Form.layoutGood Form.taskRowGood
+    Form.objectRowGood Form.valuesGood Form.unusedZero Form.namesListed Form.standsRight Form.stepGood Form.stepForm Form.stepsForm
+    Form.scriptForm Form.scriptsForm Form.formOf Form.scriptAnswer Form.scriptPart Check.heldAfter Check.heldBefore Check.ownSet
+    Check.topOf Check.whileHeld Check.lowCeiling Check.notInnermost Check.otherTask Check.faultOf Check.faultIn Check.stepsFault
+    Check.topAt Check.scriptFault Check.rosterFault Check.checkOf Config.startOf Config.perform Config.positionAfter Config.advance
+    Config.stepBy Config.outside Config.happen Inputs.decode Inputs.valueAt Inputs.decodedAt Inputs.recordGood Inputs.eventsGood
+    Inputs.inputAt Inputs.inputsOf Run.answerOf Run.runningByte Run.pairOf Run.pairsFrom Run.pairsOf Run.bufferOf Cases.cases
+long-refused events h = sym (and-no _ _ (and-none (eqb (length events % 8) 0) (leb (length events) 32768) (lt-leb (length events) 32768 h)))
+  where
+    and-none : (a b : Bool) → b ≡ false → (a && b) ≡ false
+    and-none true b e = e
+    and-none false b e = refl

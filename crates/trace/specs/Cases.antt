@@ -1,9 +1,11 @@
 -- Runs worked out: document 01's whole case, and runs that are refused, wake, release, go back and try a refused step again.
 use mathlib.Core.Path.{_≡_}
+use mathlib.Core.Bool.{false}
 use mathlib.Core.List.{List, [], _∷_, _++_, map}
-use Prim.Native.Nat.{ℕ}
+use Prim.Native.Nat.{ℕ, _<_}
 use lib.ListN.{length, replicate}
 use Rattle.format.specs.Cases.{wholeCase, enter, leave, work, suspend, again, alone, two}
+use Rattle.trace.specs.Inputs.{eventsGood}
 use Rattle.trace.specs.Answers.{numberOf, taskOf, positionOf}
 use Rattle.trace.specs.Run.{answerOf, bufferOf}
 
@@ -99,5 +101,9 @@ answered c =
     positionOf (answerOf (c .roster) (c .events) (length (c .buffer))) ∷ bufferOf (c .roster) (c .events) (c .buffer)
 
 -- every run does so
-abbrev pub Ran : Type 0
-Ran = map answered cases ≡ map (λ (c : Case). c .says ++ c .after) cases
+abbrev pub Traced : Type 0
+Traced = map answered cases ≡ map (λ (c : Case). c .says ++ c .after) cases
+
+-- 21 "over 32,768"
+abbrev pub LongRefused : Type 0
+LongRefused = (events : List ℕ) → 32768 < length events → eventsGood events ≡ false
