@@ -33,9 +33,10 @@ unfolding Lists.timesIn Lists.without Lists.allOf Lists.below Model.highestOf Mo
     Form.objectRowGood Form.valuesGood Form.unusedZero Form.namesListed Form.standsRight Form.stepGood Form.stepForm Form.stepsForm
     Form.scriptForm Form.scriptsForm Form.formOf Form.scriptAnswer Form.scriptPart Check.heldAfter Check.heldBefore Check.ownSet
     Check.topOf Check.whileHeld Check.lowCeiling Check.notInnermost Check.otherTask Check.faultOf Check.faultIn Check.stepsFault
-    Check.topAt Check.scriptFault Check.rosterFault Check.checkOf Config.startOf Config.perform Config.positionAfter Config.advance
-    Config.stepBy Config.outside Config.happen Inputs.decode Inputs.valueAt Inputs.decodedAt Inputs.recordGood Inputs.eventsGood
-    Inputs.inputAt Inputs.inputsOf Run.answerOf Run.runningByte Run.pairOf Run.pairsFrom Run.pairsOf Run.bufferOf Lines.digitsTo
-    Lines.decimal Lines.runningText Lines.pairLine Lines.pairLines Lines.placeText Lines.refusedLine Lines.passedLines Lines.linesOf
-    Lines.roomFor Lines.linesBuffer Lines.linesSize Printed.pairsWritten Printed.printedBuffer Printed.printedSize Printed.printed
+    Check.topAt Check.scriptFault Check.rosterFault Check.checkOf Config.startOf Config.eventOf Config.answerTo Config.perform
+    Config.positionAfter Config.advance Config.stepBy Config.outside Config.happen Inputs.decode Inputs.valueAt Inputs.decodedAt
+    Inputs.recordGood Inputs.eventsGood Inputs.inputAt Inputs.inputsOf Run.answerOf Run.runningByte Run.pairOf Run.pairsFrom Run.pairsOf
+    Run.bufferOf Lines.digitsTo Lines.decimal Lines.runningText Lines.pairLine Lines.pairLines Lines.placeText Lines.refusedLine
+    Lines.passedLines Lines.linesOf Lines.roomFor Lines.linesBuffer Lines.linesSize Printed.pairsWritten Printed.printedBuffer
+    Printed.printedSize Printed.printed
 whole-printed = record { whole = refl; refused = refl }

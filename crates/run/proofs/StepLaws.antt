@@ -11,33 +11,31 @@ use lib.Seq.{getD-take, take-set-lt}
 use Rattle.rules.specs.Answers.{numberOf}
 use Rattle.rules.specs.Model.{Model}
 use Rattle.rules.specs.Moved.{Moved}
-use Rattle.rules.specs.Events.{apply}
 use Rattle.rules.specs.declared.Answer.{Answer}
 use Rattle.rules.specs.declared.Answer.the-variants.{NobodyRuns}
-use Rattle.rules.specs.declared.Runner.the-variants.{Task}
-use Rattle.rules.specs.declared.Event.the-variants as Event
+use Rattle.rules.specs.declared.Runner.{Runner}
+use Rattle.rules.specs.declared.Runner.the-variants.{Nobody, Task}
 use Rattle.rules.proofs.SoundLaws.{sound-is}
 use Rattle.rules.proofs.Unchanged.{count-kept}
 use Rattle.format.specs.Limits.{smallestRoster, largestRoster, taskRowSize}
 use Rattle.format.specs.Format.{taskCount, taskRow, startAt, lengthAt, partAt}
 use Rattle.format.specs.Steps.{stepCount, stepsOf, stepIn}
-use Rattle.format.specs.Roster.{rosterOf}
+use Rattle.format.specs.Roster.{rosterOf, scriptOf}
 use Rattle.format.specs.Form.{lengthGood, formOf}
 use Rattle.format.specs.declared.Step.{Step}
 use Rattle.format.specs.declared.Step.the-variants.{Enter, Leave, Delay, Work, Suspend, Release, Set, Again, Finish}
 use Rattle.format.specs.declared.Verdict.the-variants.{Passed}
-use Rattle.format.proofs.TestLaws.{by-test}
-use Rattle.rules.proofs.Choices.{and-right}
+use Rattle.format.proofs.TestLaws.{by-test, and-right}
 use Rattle.format.proofs.StepLaws.{steps-past}
 use Rattle.format.proofs.FormatLaws.{script-listed}
 use Rattle.format.proofs.FormedLaws.{formed, part-inside, row-inside, tasks-few}
-use Rattle.memory.specs.Memory.{runningCell, modelOf}
+use Rattle.memory.specs.Memory.{runningCell, modelOf, Moves}
 use Rattle.memory.proofs.MemoryLaws.{idle, busy}
 use Rattle.trace.specs.declared.Input.{Input}
 use Rattle.trace.specs.declared.Input.the-variants.{Step as Stepped}
-use Rattle.trace.specs.Config.{Config, Outcome, perform, positionAfter, isDone}
+use Rattle.trace.specs.Config.{Config, Outcome, Asked, event, nothing, eventOf, answerTo, perform, positionAfter, isDone}
 use Rattle.trace.specs.Config.{advance, nextStep, positionOf, stepBy, outside, happen}
-use Rattle.run.specs.Slices.{configOf, Going, Moves, Happened}
+use Rattle.run.specs.Slices.{configOf, Going, Happened}
 
 -- a step moves a position on by one at most
 after-low : (k : ℕ) (x : Step) → positionAfter k x ≤ suc k
@@ -69,17 +67,14 @@ position-fits s part t k x ok p g e =
     (λ f. omega (arith, ap (positionAfter k) (e ∙ steps-past part k (ltb-false k _ f))))
 
 -- what a step of a script keeps
+answer-count : (m : Model) (y : Asked) → length (answerTo m y .model .tasks) ≡ length (m .tasks)
+unfolding answerTo
+answer-count m (event e) = count-kept m e
+answer-count m nothing = refl
+
 pub perform-count : (m : Model) (x : Step) → length (perform m x .model .tasks) ≡ length (m .tasks)
-unfolding perform apply
-perform-count m (Enter o) = count-kept m (Event.Enter o)
-perform-count m (Leave o) = count-kept m (Event.Leave o)
-perform-count m (Delay d) = count-kept m (Event.Delay d)
-perform-count m Work = count-kept m Event.Work
-perform-count m Suspend = count-kept m Event.Suspend
-perform-count m (Release t) = count-kept m (Event.Release t)
-perform-count m (Set t p) = count-kept m (Event.Set t p)
-perform-count m Again = refl
-perform-count m Finish = count-kept m Event.Finish
+unfolding perform
+perform-count m x = answer-count m (eventOf x)
 
 module _ {s h ts hd cs qs ps : List ℕ} (g : Going s h ts hd cs qs ps) where
   -- an event from outside

@@ -4,7 +4,6 @@ use mathlib.Core.List.{List}
 use Prim.Native.Nat.{ℕ}
 use lib.ListN.{length, take}
 use Rattle.rules.specs.Limits.{taskLimit}
-use Rattle.rules.specs.Moved.{Moved}
 use Rattle.rules.specs.declared.Answer.{Answer}
 use Rattle.format.specs.Format.{taskCount}
 use Rattle.format.specs.Form.{formOf}
@@ -22,12 +21,6 @@ pub record Going (s h ts hd cs qs ps : List ℕ) : Type 0 where
   pub valid : Valid h ts hd cs qs
   pub count : length (modelOf h ts hd cs qs .tasks) ≡ taskCount s
   pub places : length ps ≡ taskLimit
-
--- the engine's slices after what r says, sound again
-pub record Moves (h ts hd cs qs : List ℕ) (a : Answer) (r : Moved) : Type 0 where
-  pub same : modelOf h ts hd cs qs ≡ r .model
-  pub valid : Valid h ts hd cs qs
-  pub answer : a ≡ r .answer
 
 -- all slices after an event whose outcome is o
 pub record Happened (s h ts hd cs qs ps : List ℕ) (a : Answer) (o : Outcome) : Type 0 where

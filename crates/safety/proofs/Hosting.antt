@@ -14,12 +14,14 @@ use Rattle.rules.specs.declared.Runner.the-variants.{Nobody, Task}
 use Rattle.rules.specs.declared.Answer.the-variants.{Unsound}
 use Rattle.rules.proofs.Soundness.{good-sound}
 use Rattle.rules.proofs.EventLaws.{work-5}
-use Rattle.format.specs.Roster.{Roster, rosterOf, setupOf}
-use Rattle.format.specs.Check.{checkOf}
+use Rattle.rules.proofs.Refusals.{table, appliesAt, exactly-when, refused-same}
+use Rattle.format.specs.Roster.{Roster, rosterOf}
 use Rattle.format.specs.declared.Step.{Step}
 use Rattle.format.specs.declared.Step.the-variants.{Enter, Leave, Delay, Work, Suspend, Release, Set, Again, Finish}
-use Rattle.format.proofs.PassedLaws.{Orderly, orderly}
-use Rattle.trace.specs.Config.{Config, Outcome, startOf, perform, positionOf, nextStep, advance, outside, stepBy, happen}
+use Rattle.memory.specs.Rows.{rowFor, heldWidth, queueWidth, Lists}
+use Rattle.memory.proofs.GridLaws.{list-room, count-at}
+use Rattle.trace.specs.Config.{Config, Outcome, Asked, event as asks, nothing, startOf, eventOf, answerTo, perform}
+use Rattle.trace.specs.Config.{positionOf, nextStep, advance, outside, stepBy, happen}
 use Rattle.dispatch.specs.declared.Stepped.{Stepped}
 use Rattle.dispatch.specs.State.{view, encode}
 use Rattle.dispatch.proofs.EncodeLaws.{view-encode}
@@ -44,7 +46,7 @@ module _ (c : Config) (s : sound (c .model) ≡ true) where
   -- the method that a step calls does what the step does
   called-is : (x : Step) → called (encode (c .model)) x ≡
       record { answer = perform (c .model) x .answer; state = encode (perform (c .model) x .model) }
-  unfolding called perform apply
+  unfolding called perform answerTo eventOf apply
   called-is (Enter o) = applied-encode (c .model) s (event.Enter o)
   called-is (Leave o) = applied-encode (c .model) s (event.Leave o)
   called-is (Delay d) = applied-encode (c .model) s (event.Delay d)
@@ -67,22 +69,15 @@ module _ (c : Config) (s : sound (c .model) ≡ true) where
   call-is r history.step = step-is r (c .model .running) refl
 
   -- and none of it answers 10
-  perform-never : (x : Step) → perform (c .model) x .answer ≡ Unsound → ⊥
-  unfolding perform apply
-  perform-never (Enter o) u = rule-never (c .model) (event.Enter o) u
-  perform-never (Leave o) u = rule-never (c .model) (event.Leave o) u
-  perform-never (Delay d) u = rule-never (c .model) (event.Delay d) u
-  perform-never Work u = rule-never (c .model) event.Work u
-  perform-never Suspend u = rule-never (c .model) event.Suspend u
-  perform-never (Release t) u = rule-never (c .model) (event.Release t) u
-  perform-never (Set t p) u = rule-never (c .model) (event.Set t p) u
-  perform-never Again u = absurd (omega (arith, ap numberOf u))
-  perform-never Finish u = rule-never (c .model) event.Finish u
+  answer-never : (y : Asked) → answerTo (c .model) y .answer ≡ Unsound → ⊥
+  unfolding answerTo
+  answer-never (asks e) u = rule-never (c .model) e u
+  answer-never nothing u = absurd (omega (arith, ap numberOf u))
 
   step-never : (r : Roster) (w : Runner) → stepBy r c w .answer ≡ Unsound → ⊥
-  unfolding stepBy advance
+  unfolding stepBy advance perform
   step-never r Nobody u = absurd (omega (arith, ap numberOf u))
-  step-never r (Task t) u = perform-never (nextStep r t (positionOf c t)) u
+  step-never r (Task t) u = answer-never (eventOf (nextStep r t (positionOf c t))) u
 
   event-never : (r : Roster) (e : history.Event) → happen r c (inputOf e) .answer ≡ Unsound → ⊥
   unfolding happen outside inputOf apply

@@ -27,8 +27,8 @@ use Rattle.format.specs.Roster.{Roster, scriptOf}
 use Rattle.format.specs.Check.{isInnermost, heldAfter, heldBefore}
 use Rattle.format.specs.declared.Step.{Step}
 use Rattle.format.specs.declared.Step.the-variants.{Enter, Leave, Delay, Work, Suspend, Release, Set, Again, Finish}
-use Rattle.format.proofs.PassedLaws.{Orderly}
-use Rattle.trace.specs.Config.{Config, perform, positionAfter, isDone, advance, nextStep, positionOf, stepBy, outside, happen}
+use Rattle.trace.specs.Config.{Config, Asked, event, nothing, eventOf, answerTo, perform, positionAfter, isDone}
+use Rattle.trace.specs.Config.{advance, nextStep, positionOf, stepBy, outside, happen}
 use Rattle.safety.specs.History.{Event, clock as read, release as free, step, inputOf}
 use Rattle.safety.specs.Reckon.{Away, here, until, resting, gone, Status, Reckoning, unknown, statusAt, withStatus, atPosition}
 use Rattle.safety.specs.Reckon.{insideOf}
@@ -131,17 +131,14 @@ module _ (r : Roster) (c : Config) (b : Reckoning) (i : Inv r c b) where
           (ceilings-kept (c .model) (E.Release t)) (length-set (b .tasks) t _) (release-faces b t)
       go true e = refused-way _ NoSuchTask (release (c .model) t) (release-1 (c .model) t e) refl
 
+answer-fixed : (m : Model) (y : Asked) → answerTo m y .model .ceilings ≡ m .ceilings
+unfolding answerTo
+answer-fixed m (event e) = ceilings-kept m e
+answer-fixed m nothing = refl
+
 perform-fixed : (m : Model) (x : Step) → perform m x .model .ceilings ≡ m .ceilings
-unfolding perform apply
-perform-fixed m (Enter o) = ceilings-kept m (E.Enter o)
-perform-fixed m (Leave o) = ceilings-kept m (E.Leave o)
-perform-fixed m (Delay d) = ceilings-kept m (E.Delay d)
-perform-fixed m Work = ceilings-kept m E.Work
-perform-fixed m Suspend = ceilings-kept m E.Suspend
-perform-fixed m (Release t) = ceilings-kept m (E.Release t)
-perform-fixed m (Set t p) = ceilings-kept m (E.Set t p)
-perform-fixed m Again = refl
-perform-fixed m Finish = ceilings-kept m E.Finish
+unfolding perform
+perform-fixed m x = answer-fixed m (eventOf x)
 
 took-size : (b : Reckoning) (t : ℕ) (a : Status) (x : Step) → length (tookBy b t a x .tasks) ≡ length (b .tasks)
 unfolding tookBy
@@ -203,8 +200,8 @@ module _ (r : Roster) (k : Orderly r) (m : Model) (ps : List ℕ) (b : Reckoning
       let once = distinct-once (taskAt m t .held) (h .pending .fair t (t-in m t h e) .once) o in
       without-last o held some last (omega (arith, ap (timesIn o) held-is, once))
 
-  performed : (x : Step) → stepOf r t (statusAt b t) ≡ x → Fine ps (tookBy b t (statusAt b t) x) (perform m x)
-  unfolding perform tookBy low own
+  performed : (x : Step) → stepOf r t (accountAt b t) ≡ x → Fine ps (tookBy b t (accountAt b t) x) (perform m x)
+  unfolding perform answerTo eventOf apply tookBy low own
   performed (Enter o) n =
       fine-enter ps b m h a t e o (listed o (enter-listed r k t low (statusAt b t) own o n))
       (enter-free r k t low (statusAt b t) own o n)

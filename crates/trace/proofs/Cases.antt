@@ -38,9 +38,10 @@ unfolding Lists.timesIn Lists.without Lists.allOf Lists.below Model.highestOf Mo
     Form.objectRowGood Form.valuesGood Form.unusedZero Form.namesListed Form.standsRight Form.stepGood Form.stepForm Form.stepsForm
     Form.scriptForm Form.scriptsForm Form.formOf Form.scriptAnswer Form.scriptPart Check.heldAfter Check.heldBefore Check.ownSet
     Check.topOf Check.whileHeld Check.lowCeiling Check.notInnermost Check.otherTask Check.faultOf Check.faultIn Check.stepsFault
-    Check.topAt Check.scriptFault Check.rosterFault Check.checkOf Config.startOf Config.perform Config.positionAfter Config.advance
-    Config.stepBy Config.outside Config.happen Inputs.decode Inputs.valueAt Inputs.decodedAt Inputs.recordGood Inputs.eventsGood
-    Inputs.inputAt Inputs.inputsOf Run.answerOf Run.runningByte Run.pairOf Run.pairsFrom Run.pairsOf Run.bufferOf Cases.cases
+    Check.topAt Check.scriptFault Check.rosterFault Check.checkOf Config.startOf Config.eventOf Config.answerTo Config.perform
+    Config.positionAfter Config.advance Config.stepBy Config.outside Config.happen Inputs.decode Inputs.valueAt Inputs.decodedAt
+    Inputs.recordGood Inputs.eventsGood Inputs.inputAt Inputs.inputsOf Run.answerOf Run.runningByte Run.pairOf Run.pairsFrom Run.pairsOf
+    Run.bufferOf Cases.cases
 traced = refl
 
 pub long-refused : LongRefused
@@ -56,9 +57,10 @@ unfolding Lists.timesIn Lists.without Lists.allOf Lists.below Model.highestOf Mo
     Form.objectRowGood Form.valuesGood Form.unusedZero Form.namesListed Form.standsRight Form.stepGood Form.stepForm Form.stepsForm
     Form.scriptForm Form.scriptsForm Form.formOf Form.scriptAnswer Form.scriptPart Check.heldAfter Check.heldBefore Check.ownSet
     Check.topOf Check.whileHeld Check.lowCeiling Check.notInnermost Check.otherTask Check.faultOf Check.faultIn Check.stepsFault
-    Check.topAt Check.scriptFault Check.rosterFault Check.checkOf Config.startOf Config.perform Config.positionAfter Config.advance
-    Config.stepBy Config.outside Config.happen Inputs.decode Inputs.valueAt Inputs.decodedAt Inputs.recordGood Inputs.eventsGood
-    Inputs.inputAt Inputs.inputsOf Run.answerOf Run.runningByte Run.pairOf Run.pairsFrom Run.pairsOf Run.bufferOf Cases.cases
+    Check.topAt Check.scriptFault Check.rosterFault Check.checkOf Config.startOf Config.eventOf Config.answerTo Config.perform
+    Config.positionAfter Config.advance Config.stepBy Config.outside Config.happen Inputs.decode Inputs.valueAt Inputs.decodedAt
+    Inputs.recordGood Inputs.eventsGood Inputs.inputAt Inputs.inputsOf Run.answerOf Run.runningByte Run.pairOf Run.pairsFrom Run.pairsOf
+    Run.bufferOf Cases.cases
 long-refused events h = sym (and-no _ _ (and-none (eqb (length events % 8) 0) (leb (length events) 32768) (lt-leb (length events) 32768 h)))
   where
     and-none : (a b : Bool) → b ≡ false → (a && b) ≡ false

@@ -8,7 +8,9 @@ use Rattle.rules.specs.Answers.{numberOf}
 use Rattle.rules.specs.Model.{Model}
 use Rattle.rules.specs.Moved.{Moved, refused}
 use Rattle.rules.specs.Fresh.{freshModel}
-use Rattle.rules.specs.Events.{enter, leave, delay, suspend, release, clock, setBase, work, finish}
+use Rattle.rules.specs.Events.{release, clock, setBase, apply}
+use Rattle.rules.specs.declared.Event.{Event}
+use Rattle.rules.specs.declared.Event.the-variants as E
 use Rattle.rules.specs.declared.Runner.{Runner}
 use Rattle.rules.specs.declared.Runner.the-variants.{Nobody, Task}
 use Rattle.rules.specs.declared.Answer.{Answer}
@@ -34,17 +36,31 @@ pub record Outcome : Type 0 where
 unfoldable pub startOf : Roster → Config
 startOf r = record { model = freshModel (setupOf r); positions = replicate (length (r .bases)) 0 }
 
--- what one step of a script does; Again: "the state stays"; at the script's end: Finish
+-- what a step of a script asks of the rules
+pub data Asked : Type 0 where
+  event : Event → Asked
+  nothing : Asked
+
+-- the event of its name; Again asks for none
+unfoldable pub eventOf : Step → Asked
+eventOf (Enter o) = event (E.Enter o)
+eventOf (Leave o) = event (E.Leave o)
+eventOf (Delay d) = event (E.Delay d)
+eventOf Work = event E.Work
+eventOf Suspend = event E.Suspend
+eventOf (Release t) = event (E.Release t)
+eventOf (Set t p) = event (E.Set t p)
+eventOf Again = nothing
+eventOf Finish = event E.Finish
+
+-- an event by its rule; Again: "the state stays"
+unfoldable pub answerTo : Model → Asked → Moved
+answerTo m (event e) = apply m e
+answerTo m nothing = refused m Done
+
+-- what one step of a script does; "A step asked at the script's end is Finish."
 unfoldable pub perform : Model → Step → Moved
-perform m (Enter o) = enter m o
-perform m (Leave o) = leave m o
-perform m (Delay d) = delay m d
-perform m Work = work m
-perform m Suspend = suspend m
-perform m (Release t) = release m t
-perform m (Set t p) = setBase m t (p .0)
-perform m Again = refused m Done
-perform m Finish = finish m
+perform m x = answerTo m (eventOf x)
 
 -- "One step moves its task's place on"; Again: "the place goes back to the first step"; Finish leaves it at the end
 unfoldable pub positionAfter : ℕ → Step → ℕ

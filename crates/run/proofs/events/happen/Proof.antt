@@ -5,7 +5,7 @@ use Rattle.rules.specs.declared.Event.the-variants.{Clock, Release, Set}
 use Rattle.rules.specs.Histories.{delayFits}
 use Rattle.rules.proofs.Unchanged.{count-kept}
 use Rattle.trace.specs.Config.{happen}
-use Rattle.run.proofs.MoveLaws.{moves-of}
+use Rattle.engine.proofs.ApplyLaws.{moves-of}
 use Rattle.run.proofs.StepLaws.{outside-happened, happened-as}
 use borrow.Author.Needs.{needs}
 use Rattle.run.proofs.events.happen.Statement.{statement}

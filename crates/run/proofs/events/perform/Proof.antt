@@ -8,7 +8,7 @@ use native.Mathlib.Omega.{arith}
 use Rattle.rules.specs.Events.{apply}
 use Rattle.rules.specs.Histories.{delayFits}
 use Rattle.rules.specs.declared.Event as Event
-use Rattle.trace.specs.Config.{perform}
+use Rattle.trace.specs.Config.{eventOf, answerTo, perform}
 use Rattle.run.proofs.MoveLaws.{step-moves}
 use borrow.Author.Needs.{needs}
 use Rattle.run.proofs.events.perform.Statement.{statement}
@@ -87,7 +87,7 @@ same-length-3 : tie.Need-same-length-3
 same-length-3 c = search needs
 
 returns : tie.Need-returns
-unfolding perform apply delayFits
+unfolding perform answerTo eventOf apply delayFits
 returns c =
     let c2 = c .before .before in
     let c8 = c2 .before .before .before .before .before .before in
@@ -104,7 +104,7 @@ same-length-6 : tie.Need-same-length-6
 same-length-6 c = search needs
 
 returns-2 : tie.Need-returns-2
-unfolding perform apply delayFits
+unfolding perform answerTo eventOf apply delayFits
 returns-2 c =
     let c6 = c .before .before .before .before .before .before in
     let c12 = c6 .before .before .before .before .before .before in
@@ -121,7 +121,7 @@ same-length-9 : tie.Need-same-length-9
 same-length-9 c = search needs
 
 returns-3 : tie.Need-returns-3
-unfolding perform apply delayFits
+unfolding perform answerTo eventOf apply delayFits
 returns-3 c =
     let d = c .before .before .before .before .before .before .before .before .before .before .x3 .given .0 .0 in
     let fits : d ≤ lastDelay = omega arith in
@@ -141,7 +141,7 @@ same-length-12 : tie.Need-same-length-12
 same-length-12 c = search needs
 
 returns-4 : tie.Need-returns-4
-unfolding perform apply delayFits
+unfolding perform answerTo eventOf apply delayFits
 returns-4 c =
     let c5 = c .before .before .before .before .before in
     let c11 = c5 .before .before .before .before .before .before in
@@ -157,7 +157,7 @@ same-length-15 : tie.Need-same-length-15
 same-length-15 c = search needs
 
 returns-5 : tie.Need-returns-5
-unfolding perform apply delayFits
+unfolding perform answerTo eventOf apply delayFits
 returns-5 c =
     let c4 = c .before .before .before .before in
     let c9 = c4 .before .before .before .before .before in
@@ -174,7 +174,7 @@ same-length-18 : tie.Need-same-length-18
 same-length-18 c = search needs
 
 returns-6 : tie.Need-returns-6
-unfolding perform apply delayFits
+unfolding perform answerTo eventOf apply delayFits
 returns-6 c =
     let c4 = c .before .before .before .before in
     let c10 = c4 .before .before .before .before .before .before in
@@ -191,7 +191,7 @@ same-length-21 : tie.Need-same-length-21
 same-length-21 c = search needs
 
 returns-7 : tie.Need-returns-7
-unfolding perform apply delayFits
+unfolding perform answerTo eventOf apply delayFits
 returns-7 c =
     let c4 = c .before .before .before .before in
     let c10 = c4 .before .before .before .before .before .before in
@@ -212,7 +212,7 @@ same-length-24 : tie.Need-same-length-24
 same-length-24 c = search needs
 
 returns-9 : tie.Need-returns-9
-unfolding perform apply delayFits
+unfolding perform answerTo eventOf apply delayFits
 returns-9 c =
     let c4 = c .before .before .before .before in
     let c9 = c4 .before .before .before .before .before in
