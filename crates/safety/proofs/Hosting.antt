@@ -14,12 +14,11 @@ use Rattle.rules.specs.declared.Runner.the-variants.{Nobody, Task}
 use Rattle.rules.specs.declared.Answer.the-variants.{Unsound}
 use Rattle.rules.proofs.Soundness.{good-sound}
 use Rattle.rules.proofs.EventLaws.{work-5}
-use Rattle.rules.proofs.Refusals.{table, appliesAt, exactly-when, refused-same}
-use Rattle.format.specs.Roster.{Roster, rosterOf}
+use Rattle.format.specs.Roster.{Roster, rosterOf, setupOf}
+use Rattle.format.specs.Check.{checkOf}
 use Rattle.format.specs.declared.Step.{Step}
 use Rattle.format.specs.declared.Step.the-variants.{Enter, Leave, Delay, Work, Suspend, Release, Set, Again, Finish}
-use Rattle.memory.specs.Rows.{rowFor, heldWidth, queueWidth, Lists}
-use Rattle.memory.proofs.GridLaws.{list-room, count-at}
+use Rattle.format.proofs.PassedLaws.{Orderly, orderly}
 use Rattle.trace.specs.Config.{Config, Outcome, Asked, event as asks, nothing, startOf, eventOf, answerTo, perform}
 use Rattle.trace.specs.Config.{positionOf, nextStep, advance, outside, stepBy, happen}
 use Rattle.dispatch.specs.declared.Stepped.{Stepped}

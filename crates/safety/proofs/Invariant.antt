@@ -27,6 +27,7 @@ use Rattle.format.specs.Roster.{Roster, scriptOf}
 use Rattle.format.specs.Check.{isInnermost, heldAfter, heldBefore}
 use Rattle.format.specs.declared.Step.{Step}
 use Rattle.format.specs.declared.Step.the-variants.{Enter, Leave, Delay, Work, Suspend, Release, Set, Again, Finish}
+use Rattle.format.proofs.PassedLaws.{Orderly}
 use Rattle.trace.specs.Config.{Config, Asked, event, nothing, eventOf, answerTo, perform, positionAfter, isDone}
 use Rattle.trace.specs.Config.{advance, nextStep, positionOf, stepBy, outside, happen}
 use Rattle.safety.specs.History.{Event, clock as read, release as free, step, inputOf}
@@ -200,7 +201,7 @@ module _ (r : Roster) (k : Orderly r) (m : Model) (ps : List ℕ) (b : Reckoning
       let once = distinct-once (taskAt m t .held) (h .pending .fair t (t-in m t h e) .once) o in
       without-last o held some last (omega (arith, ap (timesIn o) held-is, once))
 
-  performed : (x : Step) → stepOf r t (accountAt b t) ≡ x → Fine ps (tookBy b t (accountAt b t) x) (perform m x)
+  performed : (x : Step) → stepOf r t (statusAt b t) ≡ x → Fine ps (tookBy b t (statusAt b t) x) (perform m x)
   unfolding perform answerTo eventOf apply tookBy low own
   performed (Enter o) n =
       fine-enter ps b m h a t e o (listed o (enter-listed r k t low (statusAt b t) own o n))
