@@ -8,7 +8,7 @@ ghost use Rattle.memory.specs.Memory.{modelOf, Valid, Moves};
 ghost use Rattle.trace.specs.declared.Input.the-variants.{Step as Stepped};
 ghost use Rattle.trace.specs.Config.{perform, positionAfter, happen};
 ghost use Rattle.run.specs.Slices.{configOf, Going, Happened};
-use crate::Input;
+use crate::scripts::script_in;
 use engine::events;
 use fields::steps;
 use format::Step;

@@ -11,7 +11,7 @@ use lib.ListN.{length, getD, set, take, length-set, length-map, List·getD-map}
 use Rattle.rules.specs.Model.{Model, NextBase, none, waits, taskAt, ceilingOf, highestOf, activeOf}
 use Rattle.rules.specs.Moved.{Moved, refused}
 use Rattle.rules.specs.Lists.{timesIn, without}
-use Rattle.rules.specs.Events.{noTask, clock, release, apply}
+use Rattle.rules.specs.Events.{noTask, clock, release, apply, badReading}
 use Rattle.rules.specs.declared.Runner.{Runner}
 use Rattle.rules.specs.declared.Runner.the-variants.{Nobody, Task}
 use Rattle.rules.specs.declared.Answer.{Answer}
