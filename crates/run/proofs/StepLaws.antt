@@ -25,7 +25,8 @@ use Rattle.format.specs.Form.{lengthGood, formOf}
 use Rattle.format.specs.declared.Step.{Step}
 use Rattle.format.specs.declared.Step.the-variants.{Enter, Leave, Delay, Work, Suspend, Release, Set, Again, Finish}
 use Rattle.format.specs.declared.Verdict.the-variants.{Passed}
-use Rattle.format.proofs.TestLaws.{by-test, and-right}
+use Rattle.format.proofs.TestLaws.{by-test}
+use Rattle.rules.proofs.Choices.{and-right}
 use Rattle.format.proofs.StepLaws.{steps-past}
 use Rattle.format.proofs.FormatLaws.{script-listed}
 use Rattle.format.proofs.FormedLaws.{formed, part-inside, row-inside, tasks-few}
