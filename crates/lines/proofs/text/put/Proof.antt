@@ -11,8 +11,11 @@ put-requires c κs = search needs
 add-result : tie.Need-add-result
 add-result c = search needs
 
+same-length : tie.Need-same-length
+same-length c = search needs
+
 returns : tie.Need-returns
-returns c = record { bytes = c .put .ensures; end = refl; fits = omega arith }
+returns c = record { bytes = c .before .before .put .ensures; end = refl; fits = omega arith }
 
 pub put-spec : {M : Type 1} → statement M
-put-spec = tie.close (tie.spec put-requires add-result returns)
+put-spec = tie.close (tie.spec put-requires add-result same-length returns)
