@@ -14,7 +14,7 @@ use Rattle.format.specs.Roster
 use Rattle.format.specs.Form
 use Rattle.format.specs.Check
 use Rattle.format.specs.Cases
-use Rattle.format.specs.Cases.{Judged, Looked, LongRefused}
+use Rattle.format.specs.Cases.{Judged, Looked, LongRosterRefused}
 
 pub judged : Judged
 unfolding Model.highestOf Lists.timesIn Lists.without Lists.allOf Lists.below Words.wordAt Words.numberAt Words.tabulate Answers.first
@@ -40,7 +40,7 @@ unfolding Model.highestOf Lists.timesIn Lists.without Lists.allOf Lists.below Wo
     Cases.lookups
 looked = refl
 
-pub long-refused : LongRefused
+pub long-roster-refused : LongRosterRefused
 unfolding Model.highestOf Lists.timesIn Lists.without Lists.allOf Lists.below Words.wordAt Words.numberAt Words.tabulate Answers.first
     Format.trailer Format.taskCount Format.objectCount Format.objectTable Format.taskTable Format.taskRow Format.baseAt Format.startAt
     Format.lengthAt Format.objectRow Format.ceilingAt Format.partAt Steps.setStep Steps.stepOf Steps.codeAt Steps.aAt Steps.bAt
@@ -50,7 +50,7 @@ unfolding Model.highestOf Lists.timesIn Lists.without Lists.allOf Lists.below Wo
     Form.scriptPart Check.heldAfter Check.heldBefore Check.ownSet Check.topOf Check.whileHeld Check.lowCeiling Check.notInnermost
     Check.otherTask Check.faultOf Check.faultIn Check.stepsFault Check.topAt Check.scriptFault Check.rosterFault Check.checkOf Cases.cases
     Cases.lookups
-long-refused s h = simp (lt-leb (length s) 32768 h, and-none (leb 14 (length s)))
+long-roster-refused s h = simp (lt-leb (length s) 32768 h, and-none (leb 14 (length s)))
   where
     and-none : (a : Bool) → (a && false) ≡ false
     and-none true = refl

@@ -138,8 +138,8 @@ abbrev pub Judged : Type 0
 Judged = map (λ (c : Case). answered (c .roster)) cases ≡ map (λ (c : Case). c .says) cases
 
 -- 11 "roster 14 to 32,768 bytes"
-abbrev pub LongRefused : Type 0
-LongRefused = (s : List ℕ) → 32768 < length s → checkOf s ≡ BadLength
+abbrev pub LongRosterRefused : Type 0
+LongRosterRefused = (s : List ℕ) → 32768 < length s → checkOf s ≡ BadLength
 
 -- a roster, a task, and the number and the part that its script's reader gives
 pub record Lookup : Type 0 where

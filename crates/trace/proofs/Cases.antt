@@ -23,7 +23,7 @@ use Rattle.trace.specs.Config
 use Rattle.trace.specs.Inputs
 use Rattle.trace.specs.Run
 use Rattle.trace.specs.Cases
-use Rattle.trace.specs.Cases.{Traced, LongRefused}
+use Rattle.trace.specs.Cases.{Traced, LongEventsRefused}
 
 pub traced : Traced
 unfolding Lists.timesIn Lists.without Lists.allOf Lists.below Model.highestOf Moves.becomeReady Moves.stopped Moves.preempt Moves.start
@@ -44,7 +44,7 @@ unfolding Lists.timesIn Lists.without Lists.allOf Lists.below Model.highestOf Mo
     Run.bufferOf Cases.cases
 traced = refl
 
-pub long-refused : LongRefused
+pub long-events-refused : LongEventsRefused
 unfolding Lists.timesIn Lists.without Lists.allOf Lists.below Model.highestOf Moves.becomeReady Moves.stopped Moves.preempt Moves.start
     Moves.highestTo Moves.highest Moves.dispatchBy Moves.dispatch Moved.accepted Moved.byRunning Fresh.newTasks Fresh.joinFrom
     Fresh.freshModel Fresh.refusedFresh Fresh.fresh Events.enter Events.settleWith Events.settle Events.leave Events.putOff Events.delay
@@ -61,7 +61,7 @@ unfolding Lists.timesIn Lists.without Lists.allOf Lists.below Model.highestOf Mo
     Config.positionAfter Config.advance Config.stepBy Config.outside Config.happen Inputs.decode Inputs.valueAt Inputs.decodedAt
     Inputs.recordGood Inputs.eventsGood Inputs.inputAt Inputs.inputsOf Run.answerOf Run.runningByte Run.pairOf Run.pairsFrom Run.pairsOf
     Run.bufferOf Cases.cases
-long-refused events h = sym (and-no _ _ (and-none (eqb (length events % 8) 0) (leb (length events) 32768) (lt-leb (length events) 32768 h)))
+long-events-refused events h = sym (and-no _ _ (and-none (eqb (length events % 8) 0) (leb (length events) 32768) (lt-leb (length events) 32768 h)))
   where
     and-none : (a b : Bool) → b ≡ false → (a && b) ≡ false
     and-none true b e = e

@@ -105,5 +105,5 @@ abbrev pub Traced : Type 0
 Traced = map answered cases ≡ map (λ (c : Case). c .says ++ c .after) cases
 
 -- 21 "over 32,768"
-abbrev pub LongRefused : Type 0
-LongRefused = (events : List ℕ) → 32768 < length events → eventsGood events ≡ false
+abbrev pub LongEventsRefused : Type 0
+LongEventsRefused = (events : List ℕ) → 32768 < length events → eventsGood events ≡ false
