@@ -16,10 +16,10 @@ use Rattle.memory.specs.Tasks.{taskWidth, blankTask, tasksIn}
 use Rattle.memory.specs.Memory.{nowCell, runningCell, tasksCell, objectsCell, headWidth, runnerOf, waitingIn, together}
 use Rattle.memory.specs.Memory.{taskCountIn, allRecords, modelOf, Means}
 use Rattle.engine.specs.Fresh.{newcomer, Enrolled, JoinAll}
-use Rattle.engine.specs.Room.{Dispatches}
+use Rattle.moves.specs.Room.{Dispatches}
 use Rattle.memory.proofs.BlankLaws.{blank-lists, blank-good, blank-tasks}
 use Rattle.memory.proofs.MemoryLaws.{then-means, means-by, count-is}
-use Rattle.engine.proofs.RoomLaws.{core-joins, core-dispatches}
+use Rattle.moves.proofs.RoomLaws.{core-joins, core-dispatches}
 
 -- newcomers, in a loop over the bases
 pub newcomer-at : (bs : List ℕ) (t : ℕ) → t < length bs → newcomer (getD bs t 0) ≡ getD (map newcomer bs) t blankTask

@@ -18,10 +18,10 @@ use Rattle.rules.proofs.Pending.{Good, Pending, t-in}
 use Rattle.rules.proofs.Soundness.{sound-good}
 use Rattle.memory.specs.Rows.{heldBy, Held}
 use Rattle.memory.specs.Memory.{runningCell, taskCountIn, objectCountIn, modelOf, LaidOut, Means, Valid}
-use Rattle.engine.specs.Room.{Dispatches}
+use Rattle.moves.specs.Room.{Dispatches}
 use Rattle.memory.proofs.MemoryLaws.{count-is, objects-is, held-is, busy}
-use Rattle.engine.proofs.MoveLaws.{counted}
-use Rattle.engine.proofs.RoomLaws.{core-dispatches, enter-room}
+use Rattle.moves.proofs.MoveLaws.{counted}
+use Rattle.moves.proofs.RoomLaws.{core-dispatches, enter-room}
 
 -- a dispatch of the Model n, which keeps what the rules promise up to a dispatch
 pub dispatchable : {h ts hd cs qs : List ℕ} {n : Model} → Means h ts hd cs qs n → Pending false n →

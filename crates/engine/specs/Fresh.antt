@@ -13,7 +13,7 @@ use Rattle.rules.specs.declared.Task.{Task}
 use Rattle.memory.specs.Rows.{queueWidth, heldWidth}
 use Rattle.memory.specs.Tasks.{taskWidth, tasksIn, Tasks}
 use Rattle.memory.specs.Memory.{headWidth}
-use Rattle.engine.specs.Room.{Joins}
+use Rattle.moves.specs.Room.{Joins}
 
 -- the sizes of the slices, whatever they hold
 pub record Sized (h ts hd cs qs : List ℕ) : Type 0 where

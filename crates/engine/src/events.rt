@@ -2,8 +2,6 @@
 ghost use mathlib.Core.Path.{_≡_};
 ghost use Rattle.rules.specs.Events.{enter, leave, delay, suspend, release, badReading, clock, setBase, work, finish};
 ghost use Rattle.memory.specs.Memory.{modelOf, Valid, Did};
-use crate::effects;
-use crate::moves;
 use memory::held;
 use memory::priorities;
 use memory::sizes::HEAD_WIDTH;
@@ -13,6 +11,7 @@ use memory::sizes::OBJECTS_CELL;
 use memory::sizes::RUNNING_CELL;
 use memory::sizes::TASKS_CELL;
 use memory::tasks;
+use moves::effects;
 use rules::Answer;
 use rules::Place;
 use rules::Priority;

@@ -8,7 +8,6 @@ ghost use Rattle.rules.specs.Fresh.{unstarted, joinFrom, freshModel, Startable}
 ghost use Rattle.memory.specs.Tasks.{Tasks};
 ghost use Rattle.memory.specs.Memory.{taskCountIn, modelOf, LaidOut, Means};
 ghost use Rattle.engine.specs.Fresh.{Sized, Enrolled, JoinAll};
-use crate::moves;
 use memory::sizes::HEAD_WIDTH;
 use memory::sizes::NOW_CELL;
 use memory::sizes::OBJECTS_CELL;

@@ -89,15 +89,15 @@ pub cell-at : (w n i j : ℕ) (l : List ℕ) → i < n → j < w → getD l (i *
 cell-at w n i j l h b = rw (row-at w n i l h, getD-take w (drop (i * w) l) j 0 b, getD-drop (i * w) l j 0)
 
 -- after is before with r for its row i: what a store in that row does to it
-pub record Written (w n : ℕ) (before after : List ℕ) (i : ℕ) (r : List ℕ) : Type 0 where
+pub record Stored (w n : ℕ) (before after : List ℕ) (i : ℕ) (r : List ℕ) : Type 0 where
   pub size : length after ≡ length before
   pub same : rows w n after ≡ set (rows w n before) i r
 
-pub unwritten : (w n i : ℕ) (l : List ℕ) → Written w n l l i (getD (rows w n l) i [])
-unwritten w n i l = record { size = refl; same = sym (set-getD (rows w n l) i []) }
+pub unstored : (w n i : ℕ) (l : List ℕ) → Stored w n l l i (getD (rows w n l) i [])
+unstored w n i l = record { size = refl; same = sym (set-getD (rows w n l) i []) }
 
-pub store : (w n i j v : ℕ) {l l' r : List ℕ} → Written w n l l' i r → i < n → length l ≡ n * w → j < w →
-    Written w n l (set l' (i * w + j) v) i (set r j v)
+pub store : (w n i j v : ℕ) {l l' r : List ℕ} → Stored w n l l' i r → i < n → length l ≡ n * w → j < w →
+    Stored w n l (set l' (i * w + j) v) i (set r j v)
 store w n i j v {l} {l'} {r} x h g b =
     let at : getD (set (rows w n l) i r) i [] ≡ r = getD-set-same (rows w n l) i r [] (omega (arith, row-count w n l)) in
     record {

@@ -21,7 +21,7 @@ use Rattle.memory.specs.Tasks.{runningKind, readyKind, delayedKind, susp
 use Rattle.memory.specs.Tasks.{kindCode, dueOf, placeOf, waitingCode, waitingOf, bit, taskInRow, taskCells, blankTask}
 use Rattle.memory.specs.Tasks.{tasksIn, taskIn, Neat, Tasks, TaskBecame, placed, based, waited, granted}
 use Rattle.words.proofs.ListLaws.{getD-any, map-set}
-use Rattle.memory.proofs.GridLaws.{row-count, set-all, cell-at, Written, unwritten, store}
+use Rattle.memory.proofs.GridLaws.{row-count, set-all, cell-at, Stored, unstored, store}
 
 -- what is written is what is read
 place-back : (x : Place) → placeOf (kindCode x) (dueOf x) ≡ x
@@ -121,14 +121,14 @@ module _ (l : List ℕ) (t : ℕ) (g : Tasks l) (h : t < taskLimit) where
       record { base = rw row-is at (g .rows t h .base); waiting = rw row-is at (g .rows t h .waiting) }
 
   -- task t as it is, then after stores
-  pub as-it-is : Written taskWidth taskLimit l l t (taskCells (taskIn l t))
-  as-it-is = rw row-is at (unwritten taskWidth taskLimit t l)
+  pub as-it-is : Stored taskWidth taskLimit l l t (taskCells (taskIn l t))
+  as-it-is = rw row-is at (unstored taskWidth taskLimit t l)
 
-  pub stored : {l' r : List ℕ} (j v : ℕ) → Written taskWidth taskLimit l l' t r → j < taskWidth →
-      Written taskWidth taskLimit l (set l' (t * taskWidth + j) v) t (set r j v)
+  pub stored : {l' r : List ℕ} (j v : ℕ) → Stored taskWidth taskLimit l l' t r → j < taskWidth →
+      Stored taskWidth taskLimit l (set l' (t * taskWidth + j) v) t (set r j v)
   stored j v x b = store taskWidth taskLimit t j v x h (g .size) b
 
-  pub task-became : {l' r : List ℕ} (k : Task) → Written taskWidth taskLimit l l' t r → r ≡ taskCells k → Fit k → TaskBecame l l' t k
+  pub task-became : {l' r : List ℕ} (k : Task) → Stored taskWidth taskLimit l l' t r → r ≡ taskCells k → Fit k → TaskBecame l l' t k
   unfolding tasksIn taskCells
   task-became {l'} {r} k x e f =
       let same : taskInRow r ≡ k = ap taskInRow e ∙ task-back k in

@@ -8,10 +8,10 @@ use Rattle.rules.specs.declared.Answer.the-variants.{BadReading}
 use Rattle.rules.proofs.EventLaws.{clock-4, clock-0}
 use Rattle.rules.proofs.Readings.{reading-early, reading-low}
 use Rattle.rules.proofs.Pending.{pending-clock}
-use Rattle.engine.proofs.EffectLaws.{clock-law, due-now}
-use Rattle.engine.proofs.EventLaws.{did-not, did, quiet-clock}
+use Rattle.moves.proofs.EffectLaws.{clock-law, due-now}
+use Rattle.moves.proofs.EventLaws.{did-not, did, quiet-clock}
 use Rattle.memory.proofs.MemoryLaws.{then-means, means-by, now-law}
-use Rattle.engine.proofs.RoomLaws.{clock-wakes}
+use Rattle.moves.proofs.RoomLaws.{clock-wakes}
 use Rattle.engine.proofs.ValidLaws.{dispatchable, good}
 use Rattle.engine.proofs.events.clock.Statement.{statement}
 use Rattle.engine.proofs.events.clock.Tie as tie

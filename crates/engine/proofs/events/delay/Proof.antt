@@ -10,10 +10,10 @@ use Rattle.rules.specs.declared.Answer.the-variants.{NobodyRuns, InsideAction}
 use Rattle.rules.proofs.EventLaws.{delay-5, delay-7, delay-0}
 use Rattle.rules.proofs.Pending.{pending-delay}
 use Rattle.memory.specs.Memory.{runningCell}
-use Rattle.engine.proofs.EffectLaws.{holdable, stop-law, still-read, inside-is, outside-is}
-use Rattle.engine.proofs.EventLaws.{did-not, did}
+use Rattle.moves.proofs.EffectLaws.{holdable, stop-law, still-read, inside-is, outside-is}
+use Rattle.moves.proofs.EventLaws.{did-not, did}
 use Rattle.memory.proofs.MemoryLaws.{then-means, idle}
-use Rattle.engine.proofs.RoomLaws.{delay-joins}
+use Rattle.moves.proofs.RoomLaws.{delay-joins}
 use Rattle.engine.proofs.ValidLaws.{dispatchable, runner, runner-counted, good}
 use Rattle.engine.proofs.events.delay.Statement.{statement}
 use Rattle.engine.proofs.events.delay.Tie as tie

@@ -5,8 +5,8 @@ use borrow.Author.Needs.{needs}
 use Rattle.rules.specs.declared.Answer.the-variants.{NoSuchObject, NobodyRuns, InsideAction, AboveCeiling}
 use Rattle.rules.proofs.EventLaws.{enter-2, enter-5, enter-7, enter-8, enter-0}
 use Rattle.rules.proofs.StillLaws.{still-enter}
-use Rattle.engine.proofs.EffectLaws.{holdable, hold-law}
-use Rattle.engine.proofs.EventLaws.{did-not, did}
+use Rattle.moves.proofs.EffectLaws.{holdable, hold-law}
+use Rattle.moves.proofs.EventLaws.{did-not, did}
 use Rattle.memory.proofs.MemoryLaws.{means-by, idle}
 use Rattle.engine.proofs.ValidLaws.{runner, runner-counted, holds-is, hold-room, good, known-object}
 use Rattle.engine.proofs.ValidLaws.{unknown-object, above-ceiling, within-ceiling}

@@ -6,8 +6,8 @@ use Rattle.rules.specs.declared.Answer.the-variants.{NobodyRuns, InsideAction}
 use Rattle.rules.specs.declared.Place.the-variants.{Ended}
 use Rattle.rules.proofs.EventLaws.{finish-5, finish-7, finish-0}
 use Rattle.rules.proofs.Pending.{pending-end}
-use Rattle.engine.proofs.EffectLaws.{readable, holdable, away-law, inside-is, outside-is}
-use Rattle.engine.proofs.EventLaws.{did-not, did}
+use Rattle.moves.proofs.EffectLaws.{readable, holdable, away-law, inside-is, outside-is}
+use Rattle.moves.proofs.EventLaws.{did-not, did}
 use Rattle.memory.proofs.MemoryLaws.{then-means, idle}
 use Rattle.engine.proofs.ValidLaws.{dispatchable, runner, runner-counted, good}
 use Rattle.engine.proofs.events.finish.Statement.{statement}

@@ -10,10 +10,10 @@ use Rattle.rules.specs.declared.Answer.the-variants.{NoSuchObject, NobodyRuns, 
 use Rattle.rules.proofs.EventLaws.{leave-2, leave-5, leave-9, leave-0}
 use Rattle.rules.proofs.Pending.{pending-leave}
 use Rattle.memory.specs.Memory.{runningCell}
-use Rattle.engine.proofs.EffectLaws.{holdable, give-up-law, innermost-none, innermost-other, innermost-is}
-use Rattle.engine.proofs.EventLaws.{did-not, did}
+use Rattle.moves.proofs.EffectLaws.{holdable, give-up-law, innermost-none, innermost-other, innermost-is}
+use Rattle.moves.proofs.EventLaws.{did-not, did}
 use Rattle.memory.proofs.MemoryLaws.{then-means, idle}
-use Rattle.engine.proofs.RoomLaws.{leave-settles}
+use Rattle.moves.proofs.RoomLaws.{leave-settles}
 use Rattle.engine.proofs.ValidLaws.{dispatchable, runner, runner-counted, good, known-object, unknown-object}
 use Rattle.engine.proofs.events.leave.Statement.{statement}
 use Rattle.engine.proofs.events.leave.Tie as tie

@@ -7,9 +7,9 @@ use Rattle.rules.specs.Moves.{dispatch}
 use Rattle.rules.specs.declared.Answer.the-variants.{NoSuchTask}
 use Rattle.rules.proofs.EventLaws.{release-1, release-0}
 use Rattle.rules.proofs.Pending.{pending-release}
-use Rattle.engine.proofs.EventLaws.{did-not, did, quiet-release}
+use Rattle.moves.proofs.EventLaws.{did-not, did, quiet-release}
 use Rattle.memory.proofs.MemoryLaws.{then-means, means-by}
-use Rattle.engine.proofs.RoomLaws.{release-needs}
+use Rattle.moves.proofs.RoomLaws.{release-needs}
 use Rattle.engine.proofs.ValidLaws.{dispatchable, there, good, known-task, unknown-task}
 use Rattle.engine.proofs.events.release.Statement.{statement}
 use Rattle.engine.proofs.events.release.Tie as tie

@@ -9,9 +9,9 @@ use Rattle.rules.specs.declared.Answer.the-variants.{NoSuchTask, BadPriority, E
 use Rattle.rules.proofs.EventLaws.{set-1, set-3, set-6, set-0}
 use Rattle.rules.proofs.Pending.{pending-rebase}
 use Rattle.rules.proofs.PriorityLaws.{bounds-in}
-use Rattle.engine.proofs.EventLaws.{did-not, did}
+use Rattle.moves.proofs.EventLaws.{did-not, did}
 use Rattle.memory.proofs.MemoryLaws.{then-means, place-is}
-use Rattle.engine.proofs.RoomLaws.{rebase-needs}
+use Rattle.moves.proofs.RoomLaws.{rebase-needs}
 use Rattle.engine.proofs.ValidLaws.{dispatchable, there, too-low, too-high, good, known-task, unknown-task}
 use Rattle.engine.proofs.events.set.Statement.{statement}
 use Rattle.engine.proofs.events.set.Tie as tie

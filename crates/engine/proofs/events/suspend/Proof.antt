@@ -6,8 +6,8 @@ use Rattle.rules.specs.Moves.{dispatch}
 use Rattle.rules.specs.declared.Answer.the-variants.{NobodyRuns, InsideAction}
 use Rattle.rules.proofs.EventLaws.{suspend-5, suspend-7, suspend-0}
 use Rattle.rules.proofs.Pending.{pending-rest}
-use Rattle.engine.proofs.EffectLaws.{holdable, inside-is, outside-is}
-use Rattle.engine.proofs.EventLaws.{did-not, did, quiet-rest}
+use Rattle.moves.proofs.EffectLaws.{holdable, inside-is, outside-is}
+use Rattle.moves.proofs.EventLaws.{did-not, did, quiet-rest}
 use Rattle.memory.proofs.MemoryLaws.{then-means, means-by, idle}
 use Rattle.engine.proofs.ValidLaws.{dispatchable, runner, runner-counted, good}
 use Rattle.engine.proofs.events.suspend.Statement.{statement}

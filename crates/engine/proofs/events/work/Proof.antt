@@ -5,7 +5,7 @@ use borrow.Author.Needs.{needs}
 use Rattle.rules.specs.declared.Answer.the-variants.{NobodyRuns}
 use Rattle.rules.proofs.EventLaws.{work-5, work-0}
 use Rattle.rules.proofs.StillLaws.{still}
-use Rattle.engine.proofs.EventLaws.{did-not, did}
+use Rattle.moves.proofs.EventLaws.{did-not, did}
 use Rattle.memory.proofs.MemoryLaws.{as-laid, means-by, idle}
 use Rattle.engine.proofs.ValidLaws.{runner, good}
 use Rattle.engine.proofs.events.work.Statement.{statement}

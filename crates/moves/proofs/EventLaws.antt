@@ -1,0 +1,155 @@
+-- What an event has done, and the searches and wakings of a clock reading.
+use mathlib.Core.Path.{_≡_, refl, ap, _∙_, sym}
+use mathlib.Core.Bool.{true, false}
+use mathlib.Core.List.{List, [], _∷_}
+use Prim.Native.Nat.{ℕ, zero, suc, _+_, _-_, _≤_, _<_}
+use native.Mathlib.Omega.{arith}
+use borrow.Author.Tests.{le-leb, lt-leb, lt-ltb}
+use lib.Dec.{ltb}
+use lib.ListN.{length}
+use Rattle.rules.specs.Model.{Model, TaskRecord, withNow, taskAt}
+use Rattle.rules.specs.Moves.{becomeReady, dispatch}
+use Rattle.rules.specs.Moved.{Moved, refused, accepted}
+use Rattle.rules.specs.Events.{Due as RuleDue, rest, permitOn, releaseFrom, nobody, task, dueAt, earlier, firstDue, wake, wakeUp}
+use Rattle.rules.specs.declared.Place.{Place}
+use Rattle.rules.specs.declared.Place.the-variants.{Running, Ready, Delayed, Suspended, Ended}
+use Rattle.rules.specs.declared.Answer.{Answer}
+use Rattle.rules.specs.declared.Answer.the-variants.{Done}
+use Rattle.rules.proofs.Choices.{clash, cond-true, cond-false}
+use Rattle.rules.proofs.EventLaws.{rest-permit}
+use Rattle.rules.proofs.Pending.{Good}
+use Rattle.rules.proofs.StillLaws.{still-now, still-permit}
+use Rattle.moves.specs.declared.effects.Due.{Due}
+use Rattle.moves.specs.Room.{isSuspended, ruleDueOf, someDue}
+use Rattle.memory.specs.Memory.{modelOf, LaidOut, Means, Did}
+
+-- refused; or accepted with the Model n before the dispatch
+pub did-not : {h ts hd cs qs : List ℕ} {r : Moved} (a : Answer) → LaidOut h ts hd cs qs → r ≡ refused (modelOf h ts hd cs qs) a →
+    Did h ts hd cs qs a r
+did-not a d e =
+    record { same = sym (ap (λ (x : Moved). x .model) e); laid = d; answer = sym (ap (λ (x : Moved). x .answer) e) }
+
+pub did : {h ts hd cs qs : List ℕ} {r : Moved} (n : Model) → Means h ts hd cs qs (dispatch n) → r ≡ accepted n →
+    Did h ts hd cs qs Done r
+unfolding accepted
+did n x e =
+    record {
+      same = x .same ∙ sym (ap (λ (y : Moved). y .model) e);
+      laid = x .laid;
+      answer = sym (ap (λ (y : Moved). y .answer) e);
+    }
+
+-- Release
+pub release-ready : (m : Model) (t : ℕ) (x : Place) → isSuspended x ≡ true → releaseFrom m t x ≡ becomeReady m t
+unfolding releaseFrom isSuspended
+release-ready m t Running f = clash (sym f)
+release-ready m t Ready f = clash (sym f)
+release-ready m t (Delayed d) f = clash (sym f)
+release-ready m t Suspended f = refl
+release-ready m t Ended f = clash (sym f)
+
+pub release-permit : (m : Model) (t : ℕ) (x : Place) → isSuspended x ≡ false → releaseFrom m t x ≡ permitOn m t
+unfolding releaseFrom isSuspended
+release-permit m t Running f = refl
+release-permit m t Ready f = refl
+release-permit m t (Delayed d) f = refl
+release-permit m t Suspended f = clash f
+release-permit m t Ended f = refl
+
+-- who is due at a place, and who of two is first
+pub due-come : (r t d : ℕ) (x : Place) → x ≡ Delayed d → d ≤ r → task t d ≡ dueAt r t x
+unfolding dueAt
+due-come r t d x e h = sym (ap (dueAt r t) e ∙ cond-true _ _ _ (le-leb d r h))
+
+pub due-later : (r t d : ℕ) (x : Place) → x ≡ Delayed d → r < d → nobody ≡ dueAt r t x
+unfolding dueAt
+due-later r t d x e h = sym (ap (dueAt r t) e ∙ cond-false _ _ _ (lt-leb d r h))
+
+module _ (t d u e : ℕ) (x y : Due) (f : x ≡ Due.Task t d) (g : y ≡ Due.Task u e) where
+  two-due : earlier (ruleDueOf x) (ruleDueOf y) ≡ earlier (task t d) (task u e)
+  two-due = ap (λ (v : Due). earlier (ruleDueOf v) (ruleDueOf y)) f ∙ ap (λ (v : Due). earlier (task t d) (ruleDueOf v)) g
+
+  pub former-first : d ≤ e → task t d ≡ earlier (ruleDueOf x) (ruleDueOf y)
+  unfolding earlier
+  former-first h = sym (two-due ∙ cond-true _ _ _ (le-leb d e h))
+
+  pub latter-first : e < d → task u e ≡ earlier (ruleDueOf x) (ruleDueOf y)
+  unfolding earlier
+  latter-first h = sym (two-due ∙ cond-false _ _ _ (lt-leb d e h))
+
+-- one waking more; none where nobody is due
+pub wake-next : (r n : ℕ) (m : Model) → wakeUp r (suc n) m ≡ wake (wakeUp r n m) (firstDue r nobody 0 (wakeUp r n m .tasks))
+unfolding wakeUp
+wake-next r zero m = refl
+wake-next r (suc n) m = wake-next r n (wake m (firstDue r nobody 0 (m .tasks)))
+
+pub wake-task : (r n t d : ℕ) (m : Model) → firstDue r nobody 0 (wakeUp r n m .tasks) ≡ task t d →
+    wakeUp r (suc n) m ≡ becomeReady (wakeUp r n m) t
+unfolding wake
+wake-task r n t d m e = wake-next r n m ∙ ap (wake (wakeUp r n m)) e
+
+wake-stays : (r j n k : ℕ) (m : Model) → firstDue r nobody 0 (wakeUp r n m .tasks) ≡ nobody → k ≡ j + n →
+    wakeUp r k m ≡ wakeUp r n m
+unfolding wake
+wake-stays r zero n k m e f = let i : k ≡ n = omega arith in ap (λ (v : ℕ). wakeUp r v m) i
+wake-stays r (suc j) n k m e f =
+    let i : k ≡ suc (j + n) = omega arith in
+    let still : wakeUp r (j + n) m ≡ wakeUp r n m = wake-stays r j n (j + n) m e refl in
+    ap (λ (v : ℕ). wakeUp r v m) i ∙
+    (wake-next r (j + n) m ∙
+    (ap (λ (x : Model). wake x (firstDue r nobody 0 (x .tasks))) still ∙ ap (wake (wakeUp r n m)) e))
+
+pub wake-rest : (r n k : ℕ) (m : Model) → n ≤ k → firstDue r nobody 0 (wakeUp r n m .tasks) ≡ nobody →
+    wakeUp r n m ≡ wakeUp r k m
+wake-rest r n k m h e = sym (wake-stays r (k - n) n k m e (omega arith))
+
+-- once i of the tasks ks have been woken: if any, somebody was due
+abbrev pub Some : ℕ → List TaskRecord → ℕ → Type 0
+Some r ks i = 0 < i → someDue (firstDue r nobody 0 ks) ≡ true
+
+-- was anybody due? Where all tasks have been woken, and where nobody is due any more
+pub some-all : (r : ℕ) (ks : List TaskRecord) (i : ℕ) → Some r ks i → length ks ≡ i → ltb 0 i ≡ someDue (firstDue r nobody 0 ks)
+unfolding firstDue
+some-all r [] zero s e = refl
+some-all r (k ∷ ks) zero s e = absurd (omega arith)
+some-all r ks (suc i) s e = lt-ltb 0 (suc i) (omega arith) ∙ sym (s (omega arith))
+
+pub some-none : (r : ℕ) (m : Model) (i : ℕ) → Some r (m .tasks) i → firstDue r nobody 0 (wakeUp r i m .tasks) ≡ nobody →
+    ltb 0 i ≡ someDue (firstDue r nobody 0 (m .tasks))
+unfolding wakeUp
+some-none r m zero s e = sym (ap someDue e)
+some-none r m (suc i) s e = lt-ltb 0 (suc i) (omega arith) ∙ sym (s (omega arith))
+
+pub some-more : (r : ℕ) (m : Model) (i t d : ℕ) → Some r (m .tasks) i → firstDue r nobody 0 (wakeUp r i m .tasks) ≡ task t d →
+    Some r (m .tasks) (suc i)
+unfolding wakeUp
+some-more r m zero t d s e h = ap someDue e
+some-more r m (suc i) t d s e h = s (omega arith)
+
+-- nobody is due: nobody wakes
+none-wakes : (r n : ℕ) (m : Model) → someDue (firstDue r nobody 0 (m .tasks)) ≡ false → m ≡ wakeUp r n m
+unfolding wakeUp
+none-wakes r n m e = wake-rest r 0 n m (omega arith) (none-is (firstDue r nobody 0 (m .tasks)) e)
+  where
+    none-is : (x : RuleDue) → someDue x ≡ false → x ≡ nobody
+    none-is nobody f = refl
+    none-is (task t d) f = clash f
+
+-- .. and a dispatch moves nobody
+pub quiet-clock : (m : Model) (r n : ℕ) → Good false m → someDue (firstDue r nobody 0 (m .tasks)) ≡ false →
+    wakeUp r n (withNow m r) ≡ dispatch (wakeUp r n (withNow m r))
+quiet-clock m r n h e =
+    let w : withNow m r ≡ wakeUp r n (withNow m r) = none-wakes r n (withNow m r) e in
+    sym w ∙ sym (still-now m r h) ∙ ap dispatch w
+
+-- a Release of a task that is not suspended, and a Suspend with a permit
+pub quiet-release : (m : Model) (t : ℕ) (x : Place) → Good false m → isSuspended x ≡ false →
+    releaseFrom m t x ≡ dispatch (releaseFrom m t x)
+quiet-release m t x h e =
+    let p = release-permit m t x e in
+    p ∙ sym (still-permit m t true h) ∙ ap dispatch (sym p)
+
+pub quiet-rest : (m : Model) (t : ℕ) → Good false m → taskAt m t .permit ≡ true → rest m t ≡ dispatch (rest m t)
+quiet-rest m t h e =
+    let p = rest-permit m t e in
+    p ∙ sym (still-permit m t false h) ∙ ap dispatch (sym p)

@@ -1,0 +1,4 @@
+pub mod MoveLaws
+pub mod RoomLaws
+pub mod EventLaws
+pub mod EffectLaws

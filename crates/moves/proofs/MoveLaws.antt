@@ -1,0 +1,105 @@
+-- Laws of the moves: what they may do to the slices, and what they have done.
+use mathlib.Core.Path.{_≡_, ap, _∙_, sym, subst}
+use mathlib.Core.List.{List, [], _∷_, _++_}
+use Prim.Native.Nat.{ℕ, _+_, _-_, _≤_, _<_}
+use native.Mathlib.Numerals.{add-one}
+use native.Mathlib.Omega.{arith}
+use borrow.Author.Tests.{eq-eqb, ne-eqb, le-leb, lt-leb}
+use lib.ListN.{length, drop, getD, set, length-set}
+use lib.Seq.{getD-set-other}
+use Rattle.rules.specs.Limits.{taskLimit, lastPriority}
+use Rattle.rules.specs.Model.{Model, active, taskAt, queue, withPlace, withTask, withRunning}
+use Rattle.rules.specs.Moves.{highestTo, highest, headOf, becomeReady, stopped, preempt, start, dispatch}
+use Rattle.rules.specs.declared.Place.the-variants.{Running, Ready}
+use Rattle.rules.specs.declared.Runner.the-variants.{Nobody, Task as Runs}
+use Rattle.rules.proofs.Levels.{highest-top, highest-full}
+use Rattle.rules.proofs.MoveLaws.{dispatch-idle, dispatch-start, dispatch-stay, dispatch-switch}
+use Rattle.memory.specs.Rows.{HasQueue, queueIn, Queues, QueueBecame}
+use Rattle.memory.specs.Tasks.{taskIn, Tasks, TaskBecame, placed}
+use Rattle.memory.specs.Memory.{runningCell, taskCountIn, runnerOf, modelOf, LaidOut, Means}
+use Rattle.moves.specs.Room.{Joins, Starts, Dispatches}
+use Rattle.memory.proofs.MemoryLaws.{then-means, means-by, count-is, run-law, queue-law, place-law}
+
+-- the tasks' slice is good for a task that is there
+module _ {h ts hd cs qs : List ℕ} (d : LaidOut h ts hd cs qs) where
+  pub counted : {t : ℕ} → t < length (modelOf h ts hd cs qs .tasks) → t < taskCountIn h
+  counted g = omega (arith, count-is d)
+
+  pub writable : {t : ℕ} → t < length (modelOf h ts hd cs qs .tasks) → (t < taskLimit) × Tasks ts
+  writable g = (omega (arith, count-is d, d .count), d .tasks)
+
+  pub open-queue : {t : ℕ} (p : ℕ) → Joins (modelOf h ts hd cs qs) t → p ≡ active (modelOf h ts hd cs qs) t →
+      HasQueue p × (Queues qs × (length (queueIn qs p) < taskLimit))
+  open-queue p j e =
+      (record { low = omega (arith, j .level .low); high = omega (arith, j .level .high) }, (d .queues, rw e (j .room)))
+
+  pub ready-law : {ts' qs' : List ℕ} (t p : ℕ) → t < length (modelOf h ts hd cs qs .tasks) → p ≡ active (modelOf h ts hd cs qs) t →
+      QueueBecame qs qs' p (queueIn qs p ++ (t ∷ [])) → TaskBecame ts ts' t (placed (taskIn ts t) Ready) →
+      Means h ts' hd cs qs' (becomeReady (modelOf h ts hd cs qs) t)
+  unfolding becomeReady
+  ready-law t p g e b r =
+      let x = queue-law d p (queueIn qs p ++ (t ∷ [])) b in
+      let y = place-law (x .laid) t Ready (counted g) r in
+      means-by (then-means (λ (m : Model). withTask m t (withPlace (taskAt m t) Ready)) x y) (rw e)
+
+  pub preempt-law : {ts' qs' : List ℕ} (t p : ℕ) → t < length (modelOf h ts hd cs qs .tasks) →
+      p ≡ active (modelOf h ts hd cs qs) t →
+      QueueBecame qs qs' p (t ∷ queueIn qs p) → TaskBecame ts ts' t (placed (taskIn ts t) Ready) →
+      Means (set h runningCell 0) ts' hd cs qs' (preempt (modelOf h ts hd cs qs) t)
+  unfolding preempt stopped runnerOf
+  preempt-law t p g e b r =
+      let x = queue-law d p (t ∷ queueIn qs p) b in
+      let y = place-law (x .laid) t Ready (counted g) r in
+      let z = run-law (y .laid) 0 in
+      let xy = then-means (λ (m : Model). withTask m t (withPlace (taskAt m t) Ready)) x y in
+      means-by (then-means (λ (m : Model). withRunning m Nobody) xy z) (rw e)
+
+  pub start-law : {ts' qs' : List ℕ} (p t : ℕ) → Starts (modelOf h ts hd cs qs) p → t ≡ headOf (modelOf h ts hd cs qs) p →
+      QueueBecame qs qs' p (drop 1 (queueIn qs p)) → TaskBecame ts ts' t (placed (taskIn ts t) Running) →
+      Means (set h runningCell (t + 1)) ts' hd cs qs' (start (modelOf h ts hd cs qs) p)
+  unfolding start runnerOf
+  start-law p t s e b r =
+      let x = queue-law d p (drop 1 (queueIn qs p)) b in
+      let y = place-law (x .laid) t Running (counted (omega (arith, s .head))) r in
+      let z = run-law (y .laid) (t + 1) in
+      let xy = then-means (λ (m : Model). withTask m t (withPlace (taskAt m t) Running)) x y in
+      let runs : runnerOf (t + 1) ≡ Runs t = rw add-one in
+      means-by (then-means (λ (m : Model). withRunning m (runnerOf (t + 1))) xy z) (rw (runs, e))
+
+-- what a dispatch needs where it starts a task, and where it preempts one first
+pub highest-starts : (m : Model) (p : ℕ) → Dispatches m → p ≡ highestTo (m .ready) lastPriority → (p ≡ 0 → ⊥) → Starts m p
+highest-starts m p d e n =
+    let level : HasQueue p = record { low = omega (arith, n); high = omega (arith, highest-top (m .ready) lastPriority) } in
+    let full : 0 < length (queue m p) = rw e (highest-full (m .ready) lastPriority (omega (arith, n))) in
+    record { level = level; full = full; head = d .heads p level full }
+
+pub preempted-starts : (m : Model) (t p : ℕ) → Starts m p → active m t < p → 1 ≤ active m t → Starts (preempt m t) p
+unfolding preempt stopped
+preempted-starts m t p s l h =
+    let other : queue (preempt m t) p ≡ queue m p =
+    getD-set-other (m .ready) (active m t - 1) (p - 1) (t ∷ queue m (active m t)) [] (λ e. omega arith) in
+    let count : length (preempt m t .tasks) ≡ length (m .tasks) = length-set (m .tasks) t _ in
+    record {
+      level = s .level;
+      full = rw other (s .full);
+      head = subst (λ (q : List ℕ). getD q 0 0 < length (preempt m t .tasks)) (sym other) (omega (arith, count, s .head));
+    }
+
+-- the four ways of a dispatch, p being the highest queue
+module _ (m : Model) (p : ℕ) (e : p ≡ highestTo (m .ready) lastPriority) where
+  pub idle-way : m .running ≡ Nobody → p ≡ 0 → m ≡ dispatch m
+  unfolding highest
+  idle-way w z = sym (dispatch-idle m w (eq-eqb (highest m) 0 (sym e ∙ z)))
+
+  pub start-way : m .running ≡ Nobody → (p ≡ 0 → ⊥) → start m p ≡ dispatch m
+  unfolding highest
+  start-way w n = ap (start m) e ∙ sym (dispatch-start m w (ne-eqb (highest m) 0 (λ z. n (e ∙ z))))
+
+  pub stay-way : (t a : ℕ) → m .running ≡ Runs t → a ≡ active m t → p ≤ a → m ≡ dispatch m
+  unfolding highest
+  stay-way t a w f l = sym (dispatch-stay m t w (le-leb (highest m) (active m t) (omega (arith, e, f))))
+
+  pub switch-way : (t a : ℕ) → m .running ≡ Runs t → a ≡ active m t → a < p → start (preempt m t) p ≡ dispatch m
+  unfolding highest
+  switch-way t a w f l =
+      ap (start (preempt m t)) e ∙ sym (dispatch-switch m t w (lt-leb (highest m) (active m t) (omega (arith, e, f))))

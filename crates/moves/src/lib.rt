@@ -1,0 +1,117 @@
+// Internal: pub only for our own crates. The moves that events are made of, as in specs/Moves.antt of crate rules, in place on the slices
+// of crate memory.
+ghost use Prim.Native.Nat.{_<_};
+ghost use Rattle.rules.specs.Model.{active};
+ghost use Rattle.rules.specs.Moves.{becomeReady, preempt, start, dispatch};
+ghost use Rattle.memory.specs.Memory.{modelOf, LaidOut, Means};
+ghost use Rattle.moves.specs.Room.{Joins, Starts, Dispatches};
+use memory::priorities;
+use memory::queues;
+use memory::sizes::HEAD_WIDTH;
+use memory::sizes::RUNNING_CELL;
+use memory::tasks;
+use rules::Place;
+use rules::Priority;
+
+pub mod effects;
+
+// The task t becomes ready, at the tail of its queue.
+pub fn become_ready(
+    head: &[u64; HEAD_WIDTH],
+    tasks: &mut [u64],
+    held: &[u8],
+    ceilings: &[u8],
+    queues: &mut [u8],
+    t: usize,
+)
+    requires { ⌜ LaidOut (now head) (now tasks) (now held) (now ceilings) (now queues) ⌝ }
+    requires { ⌜ Joins (modelOf (now head) (now tasks) (now held) (now ceilings) (now queues)) t ⌝ }
+    ensures { λ u.
+        ⌜ Means (now (head .entry)) (now (tasks .exit)) (now (held .entry)) (now (ceilings .entry)) (now (queues .exit))
+        (becomeReady
+        (modelOf (now (head .entry)) (now (tasks .entry)) (now (held .entry)) (now (ceilings .entry)) (now (queues .entry)))
+        t) ⌝ }
+{
+    let p = priorities::active(head, tasks, held, ceilings, queues, t);
+    queues::push_tail(queues, p, t as u8);
+    tasks::set_place(tasks, t, Place::Ready);
+}
+
+// The running task t stops, and goes to the head of its queue.
+pub fn preempt(
+    head: &mut [u64; HEAD_WIDTH],
+    tasks: &mut [u64],
+    held: &[u8],
+    ceilings: &[u8],
+    queues: &mut [u8],
+    t: usize,
+)
+    requires { ⌜ LaidOut (now head) (now tasks) (now held) (now ceilings) (now queues) ⌝ }
+    requires { ⌜ Joins (modelOf (now head) (now tasks) (now held) (now ceilings) (now queues)) t ⌝ }
+    ensures { λ u.
+        ⌜ Means (now (head .exit)) (now (tasks .exit)) (now (held .entry)) (now (ceilings .entry)) (now (queues .exit))
+        (preempt
+        (modelOf (now (head .entry)) (now (tasks .entry)) (now (held .entry)) (now (ceilings .entry)) (now (queues .entry)))
+        t) ⌝ }
+{
+    let p = priorities::active(head, tasks, held, ceilings, queues, t);
+    head[RUNNING_CELL] = 0;
+    queues::push_head(queues, p, t as u8);
+    tasks::set_place(tasks, t, Place::Ready);
+}
+
+// The head of the queue for p runs.
+pub fn start(
+    head: &mut [u64; HEAD_WIDTH],
+    tasks: &mut [u64],
+    held: &[u8],
+    ceilings: &[u8],
+    queues: &mut [u8],
+    p: Priority,
+)
+    requires { ⌜ LaidOut (now head) (now tasks) (now held) (now ceilings) (now queues) ⌝ }
+    requires { ⌜ Starts (modelOf (now head) (now tasks) (now held) (now ceilings) (now queues)) (p .0) ⌝ }
+    ensures { λ u.
+        ⌜ Means (now (head .exit)) (now (tasks .exit)) (now (held .entry)) (now (ceilings .entry)) (now (queues .exit))
+        (start
+        (modelOf (now (head .entry)) (now (tasks .entry)) (now (held .entry)) (now (ceilings .entry)) (now (queues .entry)))
+        (p .0)) ⌝ }
+{
+    let t = queues::head(queues, p);
+    queues::pop(queues, p);
+    tasks::set_place(tasks, t as usize, Place::Running);
+    head[RUNNING_CELL] = t as u64 + 1;
+}
+
+// The head of the highest queue runs, if it is higher than the running task or nobody runs.
+pub fn dispatch(
+    head: &mut [u64; HEAD_WIDTH],
+    tasks: &mut [u64],
+    held: &[u8],
+    ceilings: &[u8],
+    queues: &mut [u8],
+)
+    requires { ⌜ LaidOut (now head) (now tasks) (now held) (now ceilings) (now queues) ⌝ }
+    requires { ⌜ Dispatches (modelOf (now head) (now tasks) (now held) (now ceilings) (now queues)) ⌝ }
+    ensures { λ u.
+        ⌜ Means (now (head .exit)) (now (tasks .exit)) (now (held .entry)) (now (ceilings .entry)) (now (queues .exit))
+        (dispatch
+        (modelOf (now (head .entry)) (now (tasks .entry)) (now (held .entry)) (now (ceilings .entry)) (now (queues .entry)))) ⌝ }
+{
+    let p = priorities::highest(queues);
+    let running = head[RUNNING_CELL];
+    if running == 0 {
+        if p.0 == 0 {
+            return;
+        }
+        start(head, tasks, held, ceilings, queues, p);
+        return;
+    }
+    let t = (running - 1) as usize;
+    let a = priorities::active(head, tasks, held, ceilings, queues, t);
+    if p.0 <= a.0 {
+        return;
+    }
+    preempt(head, tasks, held, ceilings, queues, t);
+    start(head, tasks, held, ceilings, queues, p);
+}
