@@ -6,7 +6,10 @@ ghost use Rattle.io.specs.Counts.{Counts};
 ghost use Rattle.lines.specs.Printed.{linesEnough, printed};
 use libc::STDIN_FILENO;
 use libc::STDOUT_FILENO;
-use lines::printed;
+
+mod printing;
+
+pub use printing::printed;
 
 // Two bytes for each of the 4,096 events that a run takes.
 const PAIRS_ROOM: usize = 8192;

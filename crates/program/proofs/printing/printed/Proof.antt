@@ -1,12 +1,12 @@
--- `lines::printing::printed` meets its contract.
+-- `program::printing::printed` meets its contract.
 use mathlib.Core.Path.{_≡_, sym}
 use native.Mathlib.Omega.{arith}
 use lib.ListN.{length}
 use lib.Seq.{length-take-le}
 use Rattle.lines.proofs.PrintedLaws.{written-fits, printed-is}
 use borrow.Author.Needs.{needs}
-use Rattle.lines.proofs.printing.printed.Statement.{statement}
-use Rattle.lines.proofs.printing.printed.Tie as tie
+use Rattle.program.proofs.printing.printed.Statement.{statement}
+use Rattle.program.proofs.printing.printed.Tie as tie
 
 run-requires : tie.Need-run-requires
 run-requires c κs = search needs

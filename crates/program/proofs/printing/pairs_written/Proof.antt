@@ -1,8 +1,8 @@
--- `lines::printing::pairs_written` meets its contract.
+-- `program::printing::pairs_written` meets its contract.
 use Rattle.lines.proofs.PrintedLaws.{bytes-done, bytes-none}
 use borrow.Author.Needs.{needs}
-use Rattle.lines.proofs.printing.pairs_written.Statement.{statement}
-use Rattle.lines.proofs.printing.pairs_written.Tie as tie
+use Rattle.program.proofs.printing.pairs_written.Statement.{statement}
+use Rattle.program.proofs.printing.pairs_written.Tie as tie
 
 number-requires : tie.Need-number-requires
 number-requires c κs = search needs
