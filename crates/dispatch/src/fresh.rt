@@ -25,7 +25,7 @@ fn started(bases: &[u8], given: &[u8]) -> State
     let mut held = [0u8; HELD_CELLS];
     let mut ceilings = [0u8; OBJECT_LIMIT];
     let mut queues = [0u8; QUEUE_CELLS];
-    engine::fresh::fresh(
+    events::fresh::fresh(
         bases,
         given,
         &mut head,

@@ -20,7 +20,7 @@ use Rattle.format.specs.declared.Step.{Step}
 use Rattle.format.specs.declared.Step.the-variants.{Enter, Leave, Delay, Work, Suspend, Release, Set, Again, Finish}
 use Rattle.format.proofs.TestLaws.{good-in, bad-out}
 use Rattle.memory.specs.Memory.{modelOf, Valid, Did, Moves}
-use Rattle.engine.proofs.ApplyLaws.{moves-of}
+use Rattle.events.proofs.ApplyLaws.{moves-of}
 use Rattle.trace.specs.Config.{eventOf, answerTo, perform}
 
 -- each step does what the rule of its name does

@@ -1,0 +1,113 @@
+-- `events::finish` meets its contract.
+use Prim.Native.Nat.{_-_}
+use borrow.Author.Needs.{needs}
+use Rattle.rules.specs.Moves.{dispatch}
+use Rattle.rules.specs.declared.Answer.the-variants.{NobodyRuns, InsideAction}
+use Rattle.rules.specs.declared.Place.the-variants.{Ended}
+use Rattle.rules.proofs.EventLaws.{finish-5, finish-7, finish-0}
+use Rattle.rules.proofs.Pending.{pending-end}
+use Rattle.moves.proofs.EffectLaws.{readable, holdable, away-law, inside-is, outside-is}
+use Rattle.moves.proofs.EventLaws.{did-not, did}
+use Rattle.memory.proofs.MemoryLaws.{then-means, idle}
+use Rattle.events.proofs.ValidLaws.{dispatchable, runner, runner-counted, good}
+use Rattle.events.proofs.finish.Statement.{statement}
+use Rattle.events.proofs.finish.Tie as tie
+
+element-copy-out-running : tie.Need-element-copy-out-running
+element-copy-out-running c = search needs
+
+returns : tie.Need-returns
+returns c =
+    let entry = c .before .before .before .before .before .before in
+    let v = entry .pre in
+    let d = v .laid in
+    did-not NobodyRuns d (finish-5 _ (idle d (c .if1 .taken)))
+
+sub-t : tie.Need-sub-t
+sub-t c = search needs
+
+depth-requires : tie.Need-depth-requires
+depth-requires c κs =
+    let entry = c .before .before .before .before .before .before in
+    let v = entry .pre in
+    let d = v .laid in
+    let e = runner v (c .if1 .left) in
+    let g = runner-counted v (c .if1 .left) in
+    holdable d _ g
+
+returns-2 : tie.Need-returns-2
+returns-2 c =
+    let at-depth = c .before in
+    let at-if1 = at-depth .before in
+    let entry = at-if1 .before .before .before .before .before .before in
+    let v = entry .pre in
+    let d = v .laid in
+    let e = runner v (at-if1 .if1 .left) in
+    let g = runner-counted v (at-if1 .if1 .left) in
+    let in-action = inside-is d _ _ g (at-depth .depth .ensures) (c .if2 .taken) in
+    did-not InsideAction d (finish-7 _ _ e in-action)
+
+element-write-head : tie.Need-element-write-head
+element-write-head c = search needs
+
+set-place-requires : tie.Need-set-place-requires
+set-place-requires c κs =
+    let at-if1 = c .before .before .before in
+    let entry = at-if1 .before .before .before .before .before .before in
+    let v = entry .pre in
+    let d = v .laid in
+    let e = runner v (at-if1 .if1 .left) in
+    let g = runner-counted v (at-if1 .if1 .left) in
+    readable d _ g
+
+dispatch-requires : tie.Need-dispatch-requires
+dispatch-requires c κs =
+    let at-set-place = c .before .before .before .before .before in
+    let at-if2 = at-set-place .before .before in
+    let at-depth = at-if2 .before in
+    let at-if1 = at-depth .before in
+    let entry = at-if1 .before .before .before .before .before .before in
+    let v = entry .pre in
+    let d = v .laid in
+    let e = runner v (at-if1 .if1 .left) in
+    let g = runner-counted v (at-if1 .if1 .left) in
+    let bare = outside-is d _ _ g (at-depth .depth .ensures) (at-if2 .if2 .left) in
+    dispatchable (away-law d _ Ended g (at-set-place .set-place .ensures)) (pending-end _ _ (good v) e bare)
+
+same-length : tie.Need-same-length
+same-length c = search needs
+
+same-length-2 : tie.Need-same-length-2
+same-length-2 c = search needs
+
+returns-3 : tie.Need-returns-3
+returns-3 c =
+    let at-dispatch = c .before .before .before .before in
+    let at-set-place = at-dispatch .before .before .before .before .before .before in
+    let at-if2 = at-set-place .before .before in
+    let at-depth = at-if2 .before in
+    let at-if1 = at-depth .before in
+    let entry = at-if1 .before .before .before .before .before .before in
+    let v = entry .pre in
+    let d = v .laid in
+    let e = runner v (at-if1 .if1 .left) in
+    let g = runner-counted v (at-if1 .if1 .left) in
+    let bare = outside-is d _ _ g (at-depth .depth .ensures) (at-if2 .if2 .left) in
+    let x = away-law d _ Ended g (at-set-place .set-place .ensures) in
+    did _ (then-means dispatch x (at-dispatch .dispatch .ensures)) (finish-0 _ _ e bare)
+
+pub finish-spec : {M : Type 1} → statement M
+finish-spec =
+    tie.close
+    (tie.spec
+    element-copy-out-running
+    returns
+    sub-t
+    depth-requires
+    returns-2
+    element-write-head
+    set-place-requires
+    dispatch-requires
+    same-length
+    same-length-2
+    returns-3)

@@ -1,0 +1,132 @@
+-- `events::suspend` meets its contract.
+use mathlib.Core.Path.{_∙_, sym}
+use Prim.Native.Nat.{_-_}
+use borrow.Author.Needs.{needs}
+use Rattle.rules.specs.Moves.{dispatch}
+use Rattle.rules.specs.declared.Answer.the-variants.{NobodyRuns, InsideAction}
+use Rattle.rules.proofs.EventLaws.{suspend-5, suspend-7, suspend-0}
+use Rattle.rules.proofs.Pending.{pending-rest}
+use Rattle.moves.proofs.EffectLaws.{holdable, inside-is, outside-is}
+use Rattle.moves.proofs.EventLaws.{did-not, did, quiet-rest}
+use Rattle.memory.proofs.MemoryLaws.{then-means, means-by, idle}
+use Rattle.events.proofs.ValidLaws.{dispatchable, runner, runner-counted, good}
+use Rattle.events.proofs.suspend.Statement.{statement}
+use Rattle.events.proofs.suspend.Tie as tie
+
+element-copy-out-running : tie.Need-element-copy-out-running
+element-copy-out-running c = search needs
+
+returns : tie.Need-returns
+returns c =
+    let entry = c .before .before .before .before .before .before in
+    let v = entry .pre in
+    let d = v .laid in
+    did-not NobodyRuns d (suspend-5 _ (idle d (c .if1 .taken)))
+
+sub-t : tie.Need-sub-t
+sub-t c = search needs
+
+depth-requires : tie.Need-depth-requires
+depth-requires c κs =
+    let entry = c .before .before .before .before .before .before in
+    let v = entry .pre in
+    let d = v .laid in
+    let e = runner v (c .if1 .left) in
+    let g = runner-counted v (c .if1 .left) in
+    holdable d _ g
+
+returns-2 : tie.Need-returns-2
+returns-2 c =
+    let at-depth = c .before in
+    let at-if1 = at-depth .before in
+    let entry = at-if1 .before .before .before .before .before .before in
+    let v = entry .pre in
+    let d = v .laid in
+    let e = runner v (at-if1 .if1 .left) in
+    let g = runner-counted v (at-if1 .if1 .left) in
+    let in-action = inside-is d _ _ g (at-depth .depth .ensures) (c .if2 .taken) in
+    did-not InsideAction d (suspend-7 _ _ e in-action)
+
+rest-requires : tie.Need-rest-requires
+rest-requires c κs =
+    let at-if1 = c .before .before .before .before .before in
+    let entry = at-if1 .before .before .before .before .before .before in
+    let v = entry .pre in
+    let d = v .laid in
+    let e = runner v (at-if1 .if1 .left) in
+    let g = runner-counted v (at-if1 .if1 .left) in
+    (d, g)
+
+same-length : tie.Need-same-length
+same-length c = search needs
+
+same-length-2 : tie.Need-same-length-2
+same-length-2 c = search needs
+
+returns-3 : tie.Need-returns-3
+returns-3 c =
+    let at-rest = c .before .before .before in
+    let at-if2 = at-rest .before .before .before .before in
+    let at-depth = at-if2 .before in
+    let at-if1 = at-depth .before in
+    let entry = at-if1 .before .before .before .before .before .before in
+    let v = entry .pre in
+    let d = v .laid in
+    let e = runner v (at-if1 .if1 .left) in
+    let g = runner-counted v (at-if1 .if1 .left) in
+    let bare = outside-is d _ _ g (at-depth .depth .ensures) (at-if2 .if2 .left) in
+    let on = sym (at-rest .rest .ensures .1) ∙ c .if3 .taken in
+    did _ (means-by (at-rest .rest .ensures .0) (quiet-rest _ _ (good v) on)) (suspend-0 _ _ e bare)
+
+dispatch-requires : tie.Need-dispatch-requires
+dispatch-requires c κs =
+    let at-rest = c .before .before .before .before .before .before in
+    let at-if2 = at-rest .before .before .before .before in
+    let at-depth = at-if2 .before in
+    let at-if1 = at-depth .before in
+    let entry = at-if1 .before .before .before .before .before .before in
+    let v = entry .pre in
+    let d = v .laid in
+    let e = runner v (at-if1 .if1 .left) in
+    let g = runner-counted v (at-if1 .if1 .left) in
+    let bare = outside-is d _ _ g (at-depth .depth .ensures) (at-if2 .if2 .left) in
+    dispatchable (at-rest .rest .ensures .0) (pending-rest _ _ (good v) e bare)
+
+same-length-3 : tie.Need-same-length-3
+same-length-3 c = search needs
+
+same-length-4 : tie.Need-same-length-4
+same-length-4 c = search needs
+
+returns-4 : tie.Need-returns-4
+returns-4 c =
+    let at-dispatch = c .before .before .before .before in
+    let at-rest = at-dispatch .before .before .before .before .before .before .before in
+    let at-if2 = at-rest .before .before .before .before in
+    let at-depth = at-if2 .before in
+    let at-if1 = at-depth .before in
+    let entry = at-if1 .before .before .before .before .before .before in
+    let v = entry .pre in
+    let d = v .laid in
+    let e = runner v (at-if1 .if1 .left) in
+    let g = runner-counted v (at-if1 .if1 .left) in
+    let bare = outside-is d _ _ g (at-depth .depth .ensures) (at-if2 .if2 .left) in
+    did _ (then-means dispatch (at-rest .rest .ensures .0) (at-dispatch .dispatch .ensures)) (suspend-0 _ _ e bare)
+
+pub suspend-spec : {M : Type 1} → statement M
+suspend-spec =
+    tie.close
+    (tie.spec
+    element-copy-out-running
+    returns
+    sub-t
+    depth-requires
+    returns-2
+    rest-requires
+    same-length
+    same-length-2
+    returns-3
+    dispatch-requires
+    same-length-3
+    same-length-4
+    returns-4)

@@ -1,0 +1,173 @@
+// One event of a run, in place on the engine's slices and the script positions.
+ghost use mathlib.Core.Path.{_≡_};
+ghost use Prim.Native.Nat.{_<_};
+ghost use Rattle.rules.specs.Events.{setBase};
+ghost use Rattle.format.specs.Format.{taskTable};
+ghost use Rattle.format.specs.Roster.{rosterOf};
+ghost use Rattle.memory.specs.Memory.{modelOf, Valid, Moves};
+ghost use Rattle.trace.specs.declared.Input.the-variants.{Step as Stepped};
+ghost use Rattle.trace.specs.Config.{perform, positionAfter, happen};
+ghost use Rattle.run.specs.Slices.{configOf, Going, Happened};
+use crate::scripts::script_in;
+use fields::steps;
+use format::Step;
+use memory::sizes::HEAD_WIDTH;
+use memory::sizes::RUNNING_CELL;
+use rules::Answer;
+use rules::Checked;
+use rules::Priority;
+use trace::Input;
+
+// What one step of a script does.
+fn perform(
+    head: &mut [u64; HEAD_WIDTH],
+    tasks: &mut [u64],
+    held: &mut [u8],
+    ceilings: &[u8],
+    queues: &mut [u8],
+    x: Step,
+) -> Answer
+    requires { ⌜ Valid (now head) (now tasks) (now held) (now ceilings) (now queues) ⌝ }
+    ensures { λ a.
+        ⌜ Moves (now (head .exit)) (now (tasks .exit)) (now (held .exit)) (now (ceilings .entry)) (now (queues .exit)) a
+        (perform
+        (modelOf (now (head .entry)) (now (tasks .entry)) (now (held .entry)) (now (ceilings .entry)) (now (queues .entry)))
+        x) ⌝ }
+{
+    match x {
+        Step::Enter(o) => events::enter(head, tasks, held, ceilings, queues, o as u64),
+        Step::Leave(o) => events::leave(head, tasks, held, ceilings, queues, o as u64),
+        Step::Delay(d) => events::delay(head, tasks, held, ceilings, queues, d),
+        Step::Work => events::work(head, tasks, held, ceilings, queues),
+        Step::Suspend => events::suspend(head, tasks, held, ceilings, queues),
+        Step::Release(t) => events::release(head, tasks, held, ceilings, queues, t as u64),
+        Step::Set(t, p) => events::set(head, tasks, held, ceilings, queues, t as u64, p),
+        Step::Again => Answer::Done,
+        Step::Finish => events::finish(head, tasks, held, ceilings, queues),
+    }
+}
+
+// Where a step leaves its task's position.
+fn position_after(k: u16, x: Step) -> u16
+    requires { ⌜ positionAfter k x < 65536 ⌝ }
+    ensures { λ r. ⌜ r ≡ positionAfter k x ⌝ }
+{
+    match x {
+        Step::Enter(_) => k + 1,
+        Step::Leave(_) => k + 1,
+        Step::Delay(_) => k + 1,
+        Step::Work => k + 1,
+        Step::Suspend => k + 1,
+        Step::Release(_) => k + 1,
+        Step::Set(_, _) => k + 1,
+        Step::Again => 0,
+        Step::Finish => k,
+    }
+}
+
+// The running task takes its next step; a refused one leaves the position. The roster's task table starts at `table`.
+fn step(
+    roster: &[u8],
+    table: u16,
+    head: &mut [u64; HEAD_WIDTH],
+    tasks: &mut [u64],
+    held: &mut [u8],
+    ceilings: &[u8],
+    queues: &mut [u8],
+    positions: &mut [u16],
+) -> Answer
+    requires { ⌜ Going (now roster) (now head) (now tasks) (now held) (now ceilings) (now queues) (now positions) ⌝ }
+    requires { ⌜ table ≡ taskTable (now roster) ⌝ }
+    ensures { λ a.
+        ⌜ Happened (now (roster .entry)) (now (head .exit)) (now (tasks .exit)) (now (held .exit)) (now (ceilings .entry))
+        (now (queues .exit)) (now (positions .exit)) a
+        (happen (rosterOf (now (roster .entry)))
+        (configOf (now (roster .entry)) (now (head .entry)) (now (tasks .entry)) (now (held .entry)) (now (ceilings .entry))
+        (now (queues .entry)) (now (positions .entry)))
+        Stepped) ⌝ }
+{
+    let running = head[RUNNING_CELL];
+    if running == 0 {
+        return Answer::NobodyRuns;
+    }
+    let t = (running - 1) as usize;
+    let part = script_in(roster, table, t as u8);
+    let k = positions[t];
+    let x = steps::step_at(part, k as usize);
+    let answer = perform(head, tasks, held, ceilings, queues, x);
+    if answer.number() != 0 {
+        return answer;
+    }
+    positions[t] = position_after(k, x);
+    answer
+}
+
+// A Set from outside. A value that is no priority gets the rule's answer, which is the same for all of them.
+fn set_from(
+    head: &mut [u64; HEAD_WIDTH],
+    tasks: &mut [u64],
+    held: &[u8],
+    ceilings: &[u8],
+    queues: &mut [u8],
+    t: u8,
+    value: u64,
+) -> Answer
+    requires { ⌜ Valid (now head) (now tasks) (now held) (now ceilings) (now queues) ⌝ }
+    ensures { λ a.
+        ⌜ Moves (now (head .exit)) (now (tasks .exit)) (now (held .entry)) (now (ceilings .entry)) (now (queues .exit)) a
+        (setBase
+        (modelOf (now (head .entry)) (now (tasks .entry)) (now (held .entry)) (now (ceilings .entry)) (now (queues .entry)))
+        t value) ⌝ }
+{
+    match Priority::checked(value) {
+        Checked::Good(p) => events::set(head, tasks, held, ceilings, queues, t as u64, p),
+        Checked::OutOfRange => events::set(
+            head,
+            tasks,
+            held,
+            ceilings,
+            queues,
+            t as u64,
+            Priority(0),
+        ),
+    }
+}
+
+// One event.
+pub fn happen(
+    roster: &[u8],
+    table: u16,
+    head: &mut [u64; HEAD_WIDTH],
+    tasks: &mut [u64],
+    held: &mut [u8],
+    ceilings: &[u8],
+    queues: &mut [u8],
+    positions: &mut [u16],
+    x: Input,
+) -> Answer
+    requires { ⌜ Going (now roster) (now head) (now tasks) (now held) (now ceilings) (now queues) (now positions) ⌝ }
+    requires { ⌜ table ≡ taskTable (now roster) ⌝ }
+    ensures { λ a.
+        ⌜ Happened (now (roster .entry)) (now (head .exit)) (now (tasks .exit)) (now (held .exit)) (now (ceilings .entry))
+        (now (queues .exit)) (now (positions .exit)) a
+        (happen (rosterOf (now (roster .entry)))
+        (configOf (now (roster .entry)) (now (head .entry)) (now (tasks .entry)) (now (held .entry)) (now (ceilings .entry))
+        (now (queues .entry)) (now (positions .entry)))
+        x) ⌝ }
+{
+    match x {
+        Input::Clock(r) => events::clock(head, tasks, held, ceilings, queues, r),
+        Input::Release(t) => events::release(head, tasks, held, ceilings, queues, t as u64),
+        Input::Step => step(
+            roster,
+            table,
+            head,
+            tasks,
+            held,
+            ceilings,
+            queues,
+            positions,
+        ),
+        Input::Set(t, value) => set_from(head, tasks, held, ceilings, queues, t, value),
+    }
+}
