@@ -27,12 +27,12 @@ unfoldable pub queueOf : State → Priority → List ℕ
 queueOf s p = cond (inRange (p .0)) (queue (view s) (p .0)) []
 
 -- the record of task t, and the objects that it holds, outermost first; past the last task it is blank
-unfoldable pub taskOf : State → ℕ → Task
-taskOf s t = taskFor (taskAt (view s) t)
+unfoldable pub recordOf : State → ℕ → Task
+recordOf s t = taskFor (taskAt (view s) t)
 
 unfoldable pub heldOf : State → ℕ → List ℕ
 heldOf s t = taskAt (view s) t .held
 
 -- "Its active priority is the highest of its base and the ceilings of objects it holds."
-unfoldable pub activeOf : State → ℕ → Priority
-activeOf s t = priority (active (view s) t)
+unfoldable pub activePriorityOf : State → ℕ → Priority
+activePriorityOf s t = priority (active (view s) t)

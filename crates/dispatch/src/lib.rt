@@ -1,8 +1,8 @@
 // The dispatcher: a state by value, and every event a method that hands it back beside its answer.
-mod fresh;
 mod load;
 mod methods;
 mod readers;
+mod start;
 mod store;
 mod test;
 

@@ -8,7 +8,7 @@ ghost use Rattle.rules.specs.Model.{ceilingOf, highestOf};
 ghost use Rattle.memory.specs.Rows.{heldWidth};
 ghost use Rattle.memory.specs.Tasks.{blankTask};
 ghost use Rattle.dispatch.specs.State.{level, view};
-ghost use Rattle.dispatch.specs.Readers.{listAt, entryOf, queueOf, taskOf, heldOf, activeOf};
+ghost use Rattle.dispatch.specs.Readers.{listAt, entryOf, queueOf, recordOf, heldOf, activePriorityOf};
 use crate::Listed;
 use crate::State;
 use crate::test::in_range;
@@ -128,7 +128,7 @@ impl State {
 
     // The record of the task t, a blank one past the last.
     pub fn task(self, t: u64) -> Task
-        ensures { λ r. ⌜ r ≡ taskOf self t ⌝ }
+        ensures { λ r. ⌜ r ≡ recordOf self t ⌝ }
     {
         if self.has_task(t) {
             let i = t as usize;
@@ -160,7 +160,7 @@ impl State {
 
     // The active priority of t.
     pub fn active(self, t: u64) -> Priority
-        ensures { λ r. ⌜ r ≡ activeOf self t ⌝ }
+        ensures { λ r. ⌜ r ≡ activePriorityOf self t ⌝ }
     {
         if self.has_task(t) {
             let k = self.task(t);

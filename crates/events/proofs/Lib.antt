@@ -1,3 +1,2 @@
 pub mod ValidLaws
-pub mod FreshLaws
 pub mod ApplyLaws

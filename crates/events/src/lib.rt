@@ -1,5 +1,5 @@
-// Internal: pub only for our own crates. The nine events, as in specs/Events.antt of crate rules, in place on the slices of crate memory,
-// and the fresh start. Each event may assume that the slices are laid out and mean a sound Model.
+// Internal: pub only for our own crates. The nine events, as in specs/Events.antt of crate rules, in place on the slices of crate memory.
+// Each event may assume that the slices are laid out and mean a sound Model.
 ghost use mathlib.Core.Path.{_≡_};
 ghost use Rattle.rules.specs.Events.{enter, leave, delay, suspend, release, badReading, clock, setBase, work, finish};
 ghost use Rattle.memory.specs.Memory.{modelOf, Valid, Did};
@@ -16,8 +16,6 @@ use moves::effects;
 use rules::Answer;
 use rules::Place;
 use rules::Priority;
-
-pub mod fresh;
 
 // No dispatch follows: who enters stays the highest.
 pub fn enter(

@@ -6,6 +6,7 @@ ghost use Rattle.format.specs.Format.{trailer, taskCount, objectCount, taskTabl
 ghost use Rattle.format.specs.Format.{taskRow, objectRow, baseAt, startAt, lengthAt};
 ghost use Rattle.format.specs.Roster.{rosterOf, baseOf};
 use format::Limits;
+use rules::Priority;
 
 pub mod steps;
 
@@ -62,11 +63,11 @@ pub fn object_row(s: &[u8], o: u8) -> u32
     table + Limits::OBJECT_ROW * (o as u32)
 }
 
-pub fn base_at(s: &[u8], t: u8) -> u8
-    ensures { λ r. ⌜ r ≡ baseAt (now (s .entry)) t ⌝ }
+pub fn base_at(s: &[u8], t: u8) -> Priority
+    ensures { λ r. ⌜ r .0 ≡ baseAt (now (s .entry)) t ⌝ }
 {
     let row = task_row(s, t) as usize;
-    words::byte_at(s, row)
+    Priority(words::byte_at(s, row))
 }
 
 pub fn start_at(s: &[u8], t: u8) -> u16
@@ -84,24 +85,24 @@ pub fn length_at(s: &[u8], t: u8) -> u16
 }
 
 // The base of a task; of one that is not listed, 0.
-pub fn base_of(s: &[u8], t: u8) -> u8
-    ensures { λ r. ⌜ r ≡ baseOf (rosterOf (now (s .entry))) t ⌝ }
+pub fn base_of(s: &[u8], t: u8) -> Priority
+    ensures { λ r. ⌜ r .0 ≡ baseOf (rosterOf (now (s .entry))) t ⌝ }
 {
     let n = task_count(s);
     if t < n {
         return base_at(s, t);
     }
-    0
+    Priority(0)
 }
 
 // The ceiling of an object; of one that is not listed, 0.
-pub fn ceiling_of(s: &[u8], o: u8) -> u8
-    ensures { λ r. ⌜ r ≡ ceilingOf (rosterOf (now (s .entry)) .ceilings) o ⌝ }
+pub fn ceiling_of(s: &[u8], o: u8) -> Priority
+    ensures { λ r. ⌜ r .0 ≡ ceilingOf (rosterOf (now (s .entry)) .ceilings) o ⌝ }
 {
     let n = object_count(s);
     if o < n {
         let row = object_row(s, o) as usize;
-        return words::byte_at(s, row);
+        return Priority(words::byte_at(s, row));
     }
-    0
+    Priority(0)
 }

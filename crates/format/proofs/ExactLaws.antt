@@ -13,7 +13,8 @@ use Rattle.format.specs.Check.{faultOf, faultIn, stepsFault, scriptFault
 use Rattle.format.specs.Kept.{stepFor, heldAt, Keeps, NoneBefore, Says, CheckSays}
 use Rattle.format.specs.declared.Step.{Step}
 use Rattle.format.specs.declared.Verdict.{Verdict}
-use Rattle.format.specs.declared.Verdict.the-variants.{Passed, NoSuchTask, BadLength, BadMark, BadCounts, BadLayout, BadValues}
+use Rattle.format.specs.declared.Verdict.the-variants.{Passed, NoSuchTask, NoSuchObject, BadLength, BadMark, BadCounts}
+use Rattle.format.specs.declared.Verdict.the-variants.{BadLayout, BadValues}
 use Rattle.format.specs.declared.Verdict.the-variants.{BadStep, WhileHeld, LowCeiling, NotInnermost, OtherTask}
 use Rattle.format.proofs.TestLaws.{truth, by-test, passed-is, first-at, first-all, first-found, first-names}
 use Rattle.format.proofs.AnswerLaws.{check-rules}
@@ -165,6 +166,7 @@ module _ (r : Roster) where
       finds t k _ (a .0)
       (fault20 t k (of-unheld r t k (a .1)) (of-covered r t k (a .2)) (of-innermost r t k (a .3)) (breaks _ _ (own-of r t k) (a .4))) refl
   says-scan NoSuchTask a = absurd a
+  says-scan NoSuchObject a = absurd a
   says-scan BadLength a = absurd a
   says-scan BadMark a = absurd a
   says-scan BadCounts a = absurd a

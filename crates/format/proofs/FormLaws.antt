@@ -1,6 +1,6 @@
 -- Laws of the form's tests, by the ways of the code: each rule from what was read.
 use mathlib.Core.Path.{_≡_, ap, sym, _∙_}
-use mathlib.Core.Bool.{Bool, true, false, cond}
+use mathlib.Core.Bool.{Bool, true, false, cond, _&&_}
 use mathlib.Core.List.{List}
 use Prim.Native.Nat.{ℕ, zero, suc, _+_, _%_, _≤_, _<_}
 use native.Mathlib.Omega.{arith}
@@ -19,7 +19,7 @@ use Rattle.format.specs.Format.{taskRow, objectRow, baseAt, ceilingAt, s
 use Rattle.format.specs.Steps.{aAt, bAt, stepAt, stepCount}
 use Rattle.format.specs.Form.{lengthGood, markGood, countsKept, tablesGood, scriptsEnd, laidFrom, scriptLaid, scriptsLaid}
 use Rattle.format.specs.Form.{layoutGood, valuesGood, stepsForm, scriptForm, scriptsForm, formOf}
-use Rattle.format.specs.Form.{taskRowGood, objectRowGood, unusedZero, namesListed, standsRight, stepGood, stepForm}
+use Rattle.format.specs.Form.{taskRowGood, objectRowGood, isStep, unusedZero, namesListed, standsRight, stepGood, stepForm}
 use Rattle.format.specs.declared.Step.{Step}
 use Rattle.format.specs.declared.Verdict.{Verdict}
 use Rattle.format.specs.declared.Verdict.the-variants.{Passed, BadLength, BadMark, BadCounts, BadLayout, BadValues, BadStep}
@@ -107,15 +107,15 @@ module _ (s : List ℕ) where
 
 -- 16
 module _ (n m : ℕ) (last : Bool) (a b : ℕ) (x : Step) where
-  pub good-unused : (u : Bool) → u ≡ unusedZero a b x → u ≡ false → false ≡ stepGood n m last a b x
+  pub good-unused : (u : Bool) → u ≡ (isStep x && unusedZero a b x) → u ≡ false → false ≡ stepGood n m last a b x
   unfolding stepGood
   good-unused u e f = three-first _ _ _ (sym e ∙ f)
 
-  pub good-unlisted : (u v : Bool) → u ≡ unusedZero a b x → u ≡ true → v ≡ namesListed n m x → v ≡ false → false ≡ stepGood n m last a b x
+  pub good-unlisted : (u v : Bool) → u ≡ (isStep x && unusedZero a b x) → u ≡ true → v ≡ namesListed n m x → v ≡ false → false ≡ stepGood n m last a b x
   unfolding stepGood
   good-unlisted u v e f g h = three-second _ _ _ (sym e ∙ f) (sym g ∙ h)
 
-  pub good-rest : (u v w : Bool) → u ≡ unusedZero a b x → u ≡ true → v ≡ namesListed n m x → v ≡ true → w ≡ standsRight last x →
+  pub good-rest : (u v w : Bool) → u ≡ (isStep x && unusedZero a b x) → u ≡ true → v ≡ namesListed n m x → v ≡ true → w ≡ standsRight last x →
       w ≡ stepGood n m last a b x
   unfolding stepGood
   good-rest u v w e f g h i = three-third _ _ _ _ (sym e ∙ f) (sym g ∙ h) i

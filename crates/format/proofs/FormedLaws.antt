@@ -16,7 +16,7 @@ use Rattle.words.specs.Words.{byteAt}
 use Rattle.format.specs.Format.{taskRow, objectRow, taskCount, objectCount, baseAt, ceilingAt, startAt, lengthAt, partAt}
 use Rattle.format.specs.Steps.{aAt, bAt, stepAt, stepCount, stepsOf, stepIn}
 use Rattle.format.specs.Form.{lengthGood, markGood, countsKept, layoutGood, valuesGood, taskRowGood, objectRowGood}
-use Rattle.format.specs.Form.{unusedZero, namesListed, standsRight, stepGood, stepForm, stepsForm, scriptForm, scriptsForm, formOf}
+use Rattle.format.specs.Form.{isStep, unusedZero, namesListed, standsRight, stepGood, stepForm, stepsForm, scriptForm, scriptsForm, formOf}
 use Rattle.format.specs.declared.Verdict.the-variants.{Passed, BadLength, BadMark, BadCounts, BadLayout, BadValues, BadStep}
 use Rattle.format.proofs.TestLaws.{truth, past, by-test, below-at, first-at}
 use Rattle.format.proofs.StepLaws.{steps-at, steps-past}
@@ -113,7 +113,7 @@ module _ (s : List ℕ) (ok : formOf s ≡ Passed) where
   step-listed t h k =
       let part = partAt s t in
       let x = stepAt part k in
-      let a = unusedZero (aAt part k) (bAt part k) x in
+      let a = isStep x && unusedZero (aAt part k) (bAt part k) x in
       let b = namesListed (taskCount s) (objectCount s) x in
       by-test (ltb k (stepCount part))
       (λ e.

@@ -7,6 +7,7 @@ pub mod HeldLaws
 pub mod WalkLaws
 pub mod FormedLaws
 pub mod AnswerLaws
+pub mod ReaderLaws
 pub mod KeptLaws
 pub mod ExactLaws
 pub mod ScriptLaws

@@ -15,7 +15,8 @@ use Rattle.rules.specs.declared.Checked.the-variants.{Good, OutOfRange}
 use Rattle.rules.proofs.Choices.{and-left, and-right}
 use Rattle.format.specs.Answers.{passed, first}
 use Rattle.format.specs.declared.Verdict.{Verdict}
-use Rattle.format.specs.declared.Verdict.the-variants.{Passed, NoSuchTask, BadLength, BadMark, BadCounts, BadLayout, BadValues}
+use Rattle.format.specs.declared.Verdict.the-variants.{Passed, NoSuchTask, NoSuchObject, BadLength, BadMark, BadCounts}
+use Rattle.format.specs.declared.Verdict.the-variants.{BadLayout, BadValues}
 use Rattle.format.specs.declared.Verdict.the-variants.{BadStep, WhileHeld, LowCeiling, NotInnermost, OtherTask}
 
 pub truth : true ≡ false → ⊥
@@ -85,6 +86,7 @@ module _ (f : ℕ → Bool) where
 pub passed-is : (v : Verdict) → passed v ≡ true → v ≡ Passed
 passed-is Passed e = refl
 passed-is NoSuchTask e = absurd (truth (sym e))
+passed-is NoSuchObject e = absurd (truth (sym e))
 passed-is BadLength e = absurd (truth (sym e))
 passed-is BadMark e = absurd (truth (sym e))
 passed-is BadCounts e = absurd (truth (sym e))

@@ -3,13 +3,14 @@ use mathlib.Core.Bool.{Bool, cond}
 use Prim.Native.Nat.{ℕ, zero, suc}
 use lib.Dec.{eqb}
 use Rattle.format.specs.declared.Verdict.{Verdict}
-use Rattle.format.specs.declared.Verdict.the-variants.{Passed, NoSuchTask, BadLength, BadMark, BadCounts, BadLayout, BadValues}
-use Rattle.format.specs.declared.Verdict.the-variants.{BadStep, WhileHeld, LowCeiling, NotInnermost, OtherTask}
+use Rattle.format.specs.declared.Verdict.the-variants.{Passed, NoSuchTask, NoSuchObject, BadLength, BadMark, BadCounts}
+use Rattle.format.specs.declared.Verdict.the-variants.{BadLayout, BadValues, BadStep, WhileHeld, LowCeiling, NotInnermost, OtherTask}
 
--- "Form: 11 length; 12 mark; .."; "Check: 17 Delay, .."; 0 and 1 as an event's
+-- "Form: 11 length; 12 mark; .."; "Check: 17 Delay, .."; 0, 1 and 2 as an event's
 abbrev pub numberOf : Verdict → ℕ
 numberOf Passed = 0
 numberOf NoSuchTask = 1
+numberOf NoSuchObject = 2
 numberOf BadLength = 11
 numberOf BadMark = 12
 numberOf BadCounts = 13
@@ -25,6 +26,7 @@ numberOf (OtherTask t k) = 20
 abbrev pub taskOf : Verdict → ℕ
 taskOf Passed = 0
 taskOf NoSuchTask = 0
+taskOf NoSuchObject = 0
 taskOf BadLength = 0
 taskOf BadMark = 0
 taskOf BadCounts = 0
@@ -39,6 +41,7 @@ taskOf (OtherTask t k) = t
 abbrev pub positionOf : Verdict → ℕ
 positionOf Passed = 0
 positionOf NoSuchTask = 0
+positionOf NoSuchObject = 0
 positionOf BadLength = 0
 positionOf BadMark = 0
 positionOf BadCounts = 0

@@ -5,8 +5,14 @@ use Prim.Native.Nat.{ℕ, _+_, _<_}
 use lib.ListN.{length, set, replicate}
 use Rattle.format.specs.Answers.{numberOf, taskOf, positionOf}
 use Rattle.format.specs.Form.{scriptAnswer, scriptPart}
+use Rattle.format.specs.Readers.{baseFound, ceilingFound, countFound, stepFound}
 use Rattle.format.specs.Check.{checkOf}
-use Rattle.format.specs.declared.Verdict.the-variants.{BadLength}
+use Rattle.rules.specs.declared.Priority.{Priority}
+use Rattle.format.specs.declared.Step.the-variants.{Delay, Finish}
+use Rattle.format.specs.declared.PriorityFound.the-variants as P
+use Rattle.format.specs.declared.CountFound.the-variants as N
+use Rattle.format.specs.declared.StepFound.the-variants as S
+use Rattle.format.specs.declared.Verdict.the-variants.{NoSuchTask, NoSuchObject, BadLength, BadMark}
 
 -- "Whole case, roster of 46 bytes", with a ceiling: two scripts, the task table, the object table, the trailer
 abbrev pub wholeCase : ℕ → List ℕ
@@ -160,6 +166,23 @@ lookups =
     lookup (wholeCase 20) 2 1 [] ∷
     lookup (set plain 18 53) 9 12 [] ∷
     []
+
+-- the other readers, of the whole case and of one that has no form
+abbrev pub found : ℕ → Priority
+found p = record { 0 = p }
+
+pub record Read : Type 0 where
+  pub base : baseFound (wholeCase 20) 1 ≡ P.Found (found 20)
+  pub noTask : baseFound (wholeCase 20) 2 ≡ P.Refused NoSuchTask
+  pub noForm : baseFound (set plain 18 53) 9 ≡ P.Refused BadMark
+  pub ceiling : ceilingFound (wholeCase 19) 0 ≡ P.Found (found 19)
+  pub noObject : ceilingFound (wholeCase 20) 1 ≡ P.Refused NoSuchObject
+  pub formFirst : ceilingFound (set plain 18 53) 9 ≡ P.Refused BadMark
+  pub count : countFound (wholeCase 20) 1 ≡ N.Found 3
+  pub countOfNone : countFound (wholeCase 20) 2 ≡ N.Refused NoSuchTask
+  pub step : stepFound (wholeCase 20) 1 0 ≡ S.Found (Delay 5)
+  pub atTheEnd : stepFound (wholeCase 20) 1 3 ≡ S.Found Finish
+  pub stepOfNone : stepFound (wholeCase 20) 2 0 ≡ S.Refused NoSuchTask
 
 -- the reader gives so
 abbrev pub Looked : Type 0

@@ -63,7 +63,19 @@ objectRowGood s o = inRange (ceilingAt s o) && eqb (byteAt s (objectRow s o + 1)
 unfoldable pub valuesGood : List ℕ → Bool
 valuesGood s = below (taskCount s) (taskRowGood s) && below (objectCount s) (objectRowGood s)
 
--- 16 "a step that breaks the lines above": "Unused operands are 0."
+-- 16 "a step that breaks the lines above": bytes that are none of the eight codes, or "sets a base outside 1 to 32", read as Finish
+unfoldable pub isStep : Step → Bool
+isStep (Enter o) = true
+isStep (Leave o) = true
+isStep (Delay d) = true
+isStep Work = true
+isStep Suspend = true
+isStep (Release t) = true
+isStep (Set t p) = true
+isStep Again = true
+isStep Finish = false
+
+-- .. "Unused operands are 0."
 unfoldable pub unusedZero : ℕ → ℕ → Step → Bool
 unusedZero a b (Enter o) = eqb b 0
 unusedZero a b (Leave o) = eqb b 0
@@ -73,7 +85,7 @@ unusedZero a b Suspend = eqb a 0 && eqb b 0
 unusedZero a b (Release t) = eqb b 0
 unusedZero a b (Set t p) = true
 unusedZero a b Again = eqb a 0 && eqb b 0
-unusedZero a b Finish = false
+unusedZero a b Finish = true
 
 -- .. "names no listed object or task": of n tasks and m objects
 unfoldable pub namesListed : ℕ → ℕ → Step → Bool
@@ -100,7 +112,7 @@ standsRight last Again = last
 standsRight last Finish = true
 
 unfoldable pub stepGood : ℕ → ℕ → Bool → ℕ → ℕ → Step → Bool
-stepGood n m last a b x = unusedZero a b x && namesListed n m x && standsRight last x
+stepGood n m last a b x = isStep x && unusedZero a b x && namesListed n m x && standsRight last x
 
 -- the step at position k of task t's script, of n tasks and m objects
 unfoldable pub stepForm : ℕ → ℕ → ℕ → List ℕ → ℕ → Verdict

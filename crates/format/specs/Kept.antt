@@ -14,7 +14,8 @@ use Rattle.format.specs.Check.{heldBefore, checkOf}
 use Rattle.format.specs.declared.Step.{Step}
 use Rattle.format.specs.declared.Step.the-variants.{Enter, Leave, Delay, Suspend, Set, Again, Finish}
 use Rattle.format.specs.declared.Verdict.{Verdict}
-use Rattle.format.specs.declared.Verdict.the-variants.{Passed, NoSuchTask, BadLength, BadMark, BadCounts, BadLayout, BadValues}
+use Rattle.format.specs.declared.Verdict.the-variants.{Passed, NoSuchTask, NoSuchObject, BadLength, BadMark, BadCounts}
+use Rattle.format.specs.declared.Verdict.the-variants.{BadLayout, BadValues}
 use Rattle.format.specs.declared.Verdict.the-variants.{BadStep, WhileHeld, LowCeiling, NotInnermost, OtherTask}
 
 -- the step at position k of task t, and what is held before it
@@ -76,6 +77,7 @@ Says r (LowCeiling t k) = NoneBefore r t k × Unheld r t k × (Covered r t k →
 Says r (NotInnermost t k) = NoneBefore r t k × Unheld r t k × Covered r t k × (Innermost r t k → ⊥)
 Says r (OtherTask t k) = NoneBefore r t k × Unheld r t k × Covered r t k × Innermost r t k × (OwnSets r t k → ⊥)
 Says r NoSuchTask = ⊥
+Says r NoSuchObject = ⊥
 Says r BadLength = ⊥
 Says r BadMark = ⊥
 Says r BadCounts = ⊥

@@ -4,6 +4,7 @@ pub mod Format
 pub mod Steps
 pub mod Roster
 pub mod Form
+pub mod Readers
 pub mod Check
 pub mod Kept
 pub mod Broken

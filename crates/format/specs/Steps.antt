@@ -19,7 +19,7 @@ setStep a (Good p) = Set a p
 setStep a OutOfRange = Finish
 
 -- "Codes: 1 Enter a; 2 Leave a; 3 Delay b; 4 Work; 5 Suspend; 6 Release a; 7 Set a, b; 8 Again"; what is none of these reads as
--- Finish, and form refuses it
+-- Finish, which is no step of a script: isStep in Form.antt
 unfoldable pub stepOf : ℕ → ℕ → ℕ → Step
 stepOf code a b =
     cond (eqb code enterCode) (Enter a)

@@ -63,6 +63,7 @@ impl Step {
 pub enum Verdict {
     Passed,
     NoSuchTask,
+    NoSuchObject,
     BadLength,
     BadMark,
     BadCounts,
@@ -73,6 +74,22 @@ pub enum Verdict {
     LowCeiling(u8, usize),
     NotInnermost(u8, usize),
     OtherTask(u8, usize),
+}
+
+// What the readers of a roster find, or why they find nothing.
+pub enum PriorityFound {
+    Found(Priority),
+    Refused(Verdict),
+}
+
+pub enum CountFound {
+    Found(usize),
+    Refused(Verdict),
+}
+
+pub enum StepFound {
+    Found(Step),
+    Refused(Verdict),
 }
 
 impl Verdict {
@@ -88,6 +105,7 @@ impl Verdict {
         match self {
             Verdict::Passed => 0,
             Verdict::NoSuchTask => 1,
+            Verdict::NoSuchObject => 2,
             Verdict::BadLength => 11,
             Verdict::BadMark => 12,
             Verdict::BadCounts => 13,
@@ -108,6 +126,7 @@ impl Verdict {
         match self {
             Verdict::Passed => 0,
             Verdict::NoSuchTask => 0,
+            Verdict::NoSuchObject => 0,
             Verdict::BadLength => 0,
             Verdict::BadMark => 0,
             Verdict::BadCounts => 0,
@@ -128,6 +147,7 @@ impl Verdict {
         match self {
             Verdict::Passed => 0,
             Verdict::NoSuchTask => 0,
+            Verdict::NoSuchObject => 0,
             Verdict::BadLength => 0,
             Verdict::BadMark => 0,
             Verdict::BadCounts => 0,

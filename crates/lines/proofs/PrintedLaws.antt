@@ -14,7 +14,7 @@ use Rattle.format.specs.Check.{checkOf}
 use Rattle.rules.proofs.Choices.{and-left, and-right}
 use Rattle.format.proofs.TestLaws.{truth, by-test}
 use Rattle.trace.specs.Limits.{eventSize, largestEvents, pairSize}
-use Rattle.trace.specs.Inputs.{eventCount, recordGood, eventsGood}
+use Rattle.trace.specs.Inputs.{eventCount, eventGood, eventsGood}
 use Rattle.trace.specs.Answers.{numberOf, taskOf, positionOf, ran}
 use Rattle.trace.specs.Run.{answerOf, pairsOf, bufferOf}
 use Rattle.lines.specs.Lines.{refusedLine, passedLines, linesOf, roomFor, linesBuffer, linesSize}
@@ -105,7 +105,7 @@ module _ (roster events : List ℕ) (size : ℕ) (out : List ℕ) (pairs-enough 
   few e =
       let whole = eqb (length events % eventSize) 0 in
       let small = leb (length events) largestEvents in
-      let first : (whole && small) ≡ true = and-left (whole && small) (below (eventCount events) (recordGood events)) e in
+      let first : (whole && small) ≡ true = and-left (whole && small) (below (eventCount events) (eventGood events)) e in
       let short : length events ≤ largestEvents = leb-true _ _ (and-right whole small first) in
       omega arith
 

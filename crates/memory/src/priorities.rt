@@ -1,6 +1,6 @@
 // The highest ready queue, the ceilings of objects and the active priority of a task.
 ghost use mathlib.Core.Path.{_≡_};
-ghost use Prim.Native.Nat.{_≤_, _<_, max};
+ghost use Prim.Native.Nat.{_≤_, _<_};
 ghost use lib.ListN.{length, take};
 ghost use Rattle.rules.specs.Limits.{taskLimit, lastPriority};
 ghost use Rattle.rules.specs.Model.{ceilingOf, highestOf, active};
@@ -31,29 +31,23 @@ pub fn highest(queues: &[u8]) -> Priority
 }
 
 // The ceiling of the object o, of which there are n; 0 for one that is not listed.
-pub fn ceiling(ceilings: &[u8], n: usize, o: u8) -> u8
+pub fn ceiling(ceilings: &[u8], n: usize, o: u8) -> Priority
     requires { ⌜ n ≤ length (now ceilings) ⌝ }
-    ensures { λ r. ⌜ r ≡ ceilingOf (take n (now (ceilings .entry))) o ⌝ }
+    ensures { λ r. ⌜ r .0 ≡ ceilingOf (take n (now (ceilings .entry))) o ⌝ }
 {
     let i = o as usize;
     if i < n {
-        return ceilings[i];
+        return Priority(ceilings[i]);
     }
-    0
-}
-
-fn higher(a: u8, b: u8) -> u8
-    ensures { λ r. ⌜ r ≡ max a b ⌝ }
-{
-    if a < b { b } else { a }
+    Priority(0)
 }
 
 // The highest of p and the ceilings of what the task t holds.
-fn raised(held: &[u8], ceilings: &[u8], n: usize, t: usize, p: u8) -> u8
+fn raised(held: &[u8], ceilings: &[u8], n: usize, t: usize, p: Priority) -> Priority
     requires { ⌜ t < taskLimit ⌝ }
     requires { ⌜ n ≤ length (now ceilings) ⌝ }
     requires { ⌜ Held (now held) ⌝ }
-    ensures { λ r. ⌜ r ≡ highestOf (take n (now (ceilings .entry))) p (heldBy (now (held .entry)) t) ⌝ }
+    ensures { λ r. ⌜ r .0 ≡ highestOf (take n (now (ceilings .entry))) (p .0) (heldBy (now (held .entry)) t) ⌝ }
 {
     let row = t * HELD_WIDTH;
     let size = held[row] as usize;
@@ -61,7 +55,7 @@ fn raised(held: &[u8], ceilings: &[u8], n: usize, t: usize, p: u8) -> u8
     let mut i: usize = 0;
     while i < size {
         let o = held[row + (i + 1)];
-        a = higher(a, ceiling(ceilings, n, o));
+        a = a.higher(ceiling(ceilings, n, o));
         i += 1;
     }
     a
@@ -86,5 +80,5 @@ pub fn active(
 {
     let n = head[OBJECTS_CELL] as usize;
     let base = tasks::base(tasks, t);
-    Priority(raised(held, ceilings, n, t, base.0))
+    raised(held, ceilings, n, t, base)
 }

@@ -1,7 +1,7 @@
 // The check of a roster: answers 17 to 20.
 ghost use mathlib.Core.Path.{_≡_};
 ghost use mathlib.Core.Bool.{cond};
-ghost use Prim.Native.Nat.{_≤_, _<_, max};
+ghost use Prim.Native.Nat.{_≤_, _<_};
 ghost use lib.Dec.{eqb};
 ghost use Rattle.rules.specs.Limits.{objectLimit};
 ghost use Rattle.rules.specs.Model.{highestOf};
@@ -23,16 +23,10 @@ use format::Step;
 use format::Verdict;
 use rules::Priority;
 
-fn higher(a: u8, b: u8) -> u8
-    ensures { λ r. ⌜ r ≡ max a b ⌝ }
-{
-    if a < b { b } else { a }
-}
-
 // The highest of a priority and the ceilings of what is held.
-fn highest(roster: &[u8], held: Held, top: u8) -> u8
+fn highest(roster: &[u8], held: Held, top: Priority) -> Priority
     requires { ⌜ held .depth ≤ objectLimit ⌝ }
-    ensures { λ r. ⌜ r ≡ highestOf (rosterOf (now (roster .entry)) .ceilings) top (listOf held) ⌝ }
+    ensures { λ r. ⌜ r .0 ≡ highestOf (rosterOf (now (roster .entry)) .ceilings) (top .0) (listOf held) ⌝ }
 {
     let objects = held.objects;
     let n = held.depth;
@@ -40,38 +34,38 @@ fn highest(roster: &[u8], held: Held, top: u8) -> u8
     let mut i: usize = 0;
     while i < n {
         let ceiling = fields::ceiling_of(roster, objects[i]);
-        p = higher(p, ceiling);
+        p = p.higher(ceiling);
         i += 1;
     }
     p
 }
 
 // What task t's step sets its own base to, or 0.
-fn own_set(t: u8, x: Step) -> u8
-    ensures { λ r. ⌜ r ≡ ownSet t x ⌝ }
+fn own_set(t: u8, x: Step) -> Priority
+    ensures { λ r. ⌜ r .0 ≡ ownSet t x ⌝ }
 {
     match x {
-        Step::Enter(_) => 0,
-        Step::Leave(_) => 0,
-        Step::Delay(_) => 0,
-        Step::Work => 0,
-        Step::Suspend => 0,
-        Step::Release(_) => 0,
+        Step::Enter(_) => Priority(0),
+        Step::Leave(_) => Priority(0),
+        Step::Delay(_) => Priority(0),
+        Step::Work => Priority(0),
+        Step::Suspend => Priority(0),
+        Step::Release(_) => Priority(0),
         Step::Set(u, p) => own_value(t, u, p),
-        Step::Again => 0,
-        Step::Finish => 0,
+        Step::Again => Priority(0),
+        Step::Finish => Priority(0),
     }
 }
 
-fn own_value(t: u8, u: u8, p: Priority) -> u8
-    ensures { λ r. ⌜ r ≡ ownSet t (Set u p) ⌝ }
+fn own_value(t: u8, u: u8, p: Priority) -> Priority
+    ensures { λ r. ⌜ r .0 ≡ ownSet t (Set u p) ⌝ }
 {
-    if u == t { p.0 } else { 0 }
+    if u == t { p } else { Priority(0) }
 }
 
 // The highest of a base and all own Set values of a script, found once for the whole script.
-fn top_of(part: &[u8], t: u8, base: u8) -> u8
-    ensures { λ r. ⌜ r ≡ topOf t base (stepsOf (now (part .entry))) ⌝ }
+fn top_of(part: &[u8], t: u8, base: Priority) -> Priority
+    ensures { λ r. ⌜ r .0 ≡ topOf t (base .0) (stepsOf (now (part .entry))) ⌝ }
 {
     let n = part.len() / Limits::STEP;
     let mut top = base;
@@ -79,23 +73,23 @@ fn top_of(part: &[u8], t: u8, base: u8) -> u8
     while k < n {
         let x = steps::step_at(part, k);
         let value = own_set(t, x);
-        top = higher(top, value);
+        top = top.higher(value);
         k += 1;
     }
     top
 }
 
 // 17 of Enter, then 18.
-fn enter_fault(roster: &[u8], held: Held, top: u8, t: u8, k: usize, o: u8) -> Verdict
+fn enter_fault(roster: &[u8], held: Held, top: Priority, t: u8, k: usize, o: u8) -> Verdict
     requires { ⌜ held .depth ≤ objectLimit ⌝ }
-    ensures { λ r. ⌜ r ≡ faultOf (rosterOf (now (roster .entry)) .ceilings) top (listOf held) t k (Enter o) ⌝ }
+    ensures { λ r. ⌜ r ≡ faultOf (rosterOf (now (roster .entry)) .ceilings) (top .0) (listOf held) t k (Enter o) ⌝ }
 {
     if held.has(o) {
         return Verdict::WhileHeld(t, k);
     }
     let ceiling = fields::ceiling_of(roster, o);
     let active = highest(roster, held, top);
-    if ceiling < active {
+    if ceiling.0 < active.0 {
         return Verdict::LowCeiling(t, k);
     }
     Verdict::Passed
@@ -134,9 +128,9 @@ fn rest_fault(held: Held, t: u8, k: usize) -> Verdict
 }
 
 // 17 to 20, of the step x at position k of task t.
-fn step_fault(roster: &[u8], held: Held, top: u8, t: u8, k: usize, x: Step) -> Verdict
+fn step_fault(roster: &[u8], held: Held, top: Priority, t: u8, k: usize, x: Step) -> Verdict
     requires { ⌜ held .depth ≤ objectLimit ⌝ }
-    ensures { λ r. ⌜ r ≡ faultOf (rosterOf (now (roster .entry)) .ceilings) top (listOf held) t k x ⌝ }
+    ensures { λ r. ⌜ r ≡ faultOf (rosterOf (now (roster .entry)) .ceilings) (top .0) (listOf held) t k x ⌝ }
 {
     match x {
         Step::Enter(o) => enter_fault(roster, held, top, t, k, o),
@@ -152,10 +146,10 @@ fn step_fault(roster: &[u8], held: Held, top: u8, t: u8, k: usize, x: Step) -> V
 }
 
 // 17 to 20, of one script: the first fault, the script's end counting as a step.
-fn steps_fault(roster: &[u8], part: &[u8], top: u8, t: u8) -> Verdict
+fn steps_fault(roster: &[u8], part: &[u8], top: Priority, t: u8) -> Verdict
     requires { ⌜ objectCount (now roster) ≤ objectLimit ⌝ }
     requires { ⌜ AllListed (taskCount (now roster)) (objectCount (now roster)) (stepsOf (now part)) ⌝ }
-    ensures { λ r. ⌜ r ≡ stepsFault (rosterOf (now (roster .entry)) .ceilings) top t (stepsOf (now (part .entry))) ⌝ }
+    ensures { λ r. ⌜ r ≡ stepsFault (rosterOf (now (roster .entry)) .ceilings) (top .0) t (stepsOf (now (part .entry))) ⌝ }
 {
     let n = part.len() / Limits::STEP;
     let mut held = Held::none();

@@ -3,19 +3,17 @@ ghost use mathlib.Core.Path.{_≡_};
 ghost use mathlib.Core.Bool.{true, _&&_};
 ghost use Prim.Native.Nat.{_<_};
 ghost use lib.Dec.{eqb};
-ghost use Rattle.rules.specs.Priorities.{inRange};
 ghost use Rattle.rules.specs.Lists.{below};
 ghost use Rattle.format.specs.Format.{taskCount, objectCount};
 ghost use Rattle.format.specs.Form.{lengthGood, markGood, countsKept, tablesGood, laidFrom, scriptsLaid};
 ghost use Rattle.format.specs.Form.{layoutGood, taskRowGood, objectRowGood, valuesGood};
-ghost use Rattle.format.specs.Form.{unusedZero, namesListed, standsRight, stepGood, stepForm, stepsForm, scriptsForm, formOf};
+ghost use Rattle.format.specs.Form.{isStep, unusedZero, namesListed, standsRight, stepGood, stepForm, stepsForm, scriptsForm, formOf};
 ghost use Rattle.format.specs.Steps.{stepCount};
 use crate::parts::script_part;
 use fields::steps;
 use format::Limits;
 use format::Step;
 use format::Verdict;
-use rules::Checked;
 use rules::Priority;
 
 // 11
@@ -102,22 +100,13 @@ fn scripts_laid(s: &[u8]) -> bool
     end == table
 }
 
-fn in_range(value: u8) -> bool
-    ensures { λ r. ⌜ r ≡ inRange value ⌝ }
-{
-    match Priority::checked(value as u64) {
-        Checked::Good(_) => true,
-        Checked::OutOfRange => false,
-    }
-}
-
 fn task_row_good(s: &[u8], t: u8) -> bool
     ensures { λ r. ⌜ r ≡ taskRowGood (now (s .entry)) t ⌝ }
 {
     let row = fields::task_row(s, t) as usize;
     let base = fields::base_at(s, t);
     let zero = words::byte_at(s, row + 1);
-    if !in_range(base) {
+    if !base.in_range() {
         return false;
     }
     zero == 0
@@ -127,9 +116,9 @@ fn object_row_good(s: &[u8], o: u8) -> bool
     ensures { λ r. ⌜ r ≡ objectRowGood (now (s .entry)) o ⌝ }
 {
     let row = fields::object_row(s, o) as usize;
-    let ceiling = words::byte_at(s, row);
+    let ceiling = Priority(words::byte_at(s, row));
     let zero = words::byte_at(s, row + 1);
-    if !in_range(ceiling) {
+    if !ceiling.in_range() {
         return false;
     }
     zero == 0
@@ -174,8 +163,9 @@ fn both_zero(a: u8, b: u16) -> bool
     b == 0
 }
 
-fn unused_zero(a: u8, b: u16, x: Step) -> bool
-    ensures { λ r. ⌜ r ≡ unusedZero a b x ⌝ }
+// A step, and zeros in its unused operands.
+fn operands_good(a: u8, b: u16, x: Step) -> bool
+    ensures { λ r. ⌜ r ≡ (isStep x && unusedZero a b x) ⌝ }
 {
     match x {
         Step::Enter(_) => b == 0,
@@ -225,7 +215,7 @@ fn stands_right(last: bool, x: Step) -> bool
 fn step_good(tasks: u8, objects: u8, last: bool, a: u8, b: u16, x: Step) -> bool
     ensures { λ r. ⌜ r ≡ stepGood tasks objects last a b x ⌝ }
 {
-    if !unused_zero(a, b, x) {
+    if !operands_good(a, b, x) {
         return false;
     }
     if !names_listed(tasks, objects, x) {

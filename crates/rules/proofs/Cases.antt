@@ -12,7 +12,7 @@ use Rattle.rules.specs.Cases.{CasesClaim}
 pub marked : CasesClaim
 unfolding Cases.outcomeFrom Cases.outcome Cases.queuesOf Cases.expected Cases.case Cases.markedCases Model.highestOf
     Moves.becomeReady Moves.stopped Moves.preempt Moves.start Moves.highestTo Moves.highest Moves.dispatchBy
-    Moves.dispatch Moved.accepted Moved.byRunning Lists.allOf Fresh.newTasks Fresh.joinFrom Fresh.freshModel
+    Moves.dispatch Moved.accepted Moved.refuseIfNobody Lists.allOf Fresh.newTasks Fresh.joinFrom Fresh.freshModel
     Fresh.refusedFresh Fresh.fresh Lists.timesIn Events.enter Events.settleWith Events.settle Events.leave Events.putOff
     Events.delay Events.rest Events.suspend Events.releaseFrom Events.release Events.dueAt Events.earlier
     Events.firstDue Events.wake Events.wakeUp Events.badReading Events.clock Lists.without Events.requeue Events.rebase

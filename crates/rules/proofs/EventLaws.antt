@@ -6,7 +6,7 @@ use lib.Dec.{eqb}
 use Rattle.rules.specs.Priorities.{inRange}
 use Rattle.rules.specs.Model.{Model, none, waits, withPlace, withBase, withWaiting, withPermit, taskAt, withTask, active}
 use Rattle.rules.specs.Moves.{stopped, becomeReady}
-use Rattle.rules.specs.Moved.{Moved, refused, accepted, byRunning}
+use Rattle.rules.specs.Moved.{Moved, refused, accepted, refuseIfNobody}
 use Rattle.rules.specs.Events.{noTask, noObject, holds, inside, takeHold, enter, innermost, giveUp, settleWith, settle, leave}
 use Rattle.rules.specs.Events.{putOff, delay, rest, suspend, releaseFrom, release, clock}
 use Rattle.rules.specs.Events.{requeue, rebase, isEnded, setBase, work, finish, badReading, overCeiling, takeReading, end}
@@ -18,13 +18,13 @@ use Rattle.rules.specs.declared.Answer.the-variants.{InsideAction, Above
 use Rattle.rules.proofs.Choices.{cond-true, cond-false}
 
 -- nobody runs; the task t runs
-by-nobody : (m : Model) (f : ℕ → Moved) → m .running ≡ Nobody → byRunning m (m .running) f ≡ refused m NobodyRuns
-unfolding byRunning
-by-nobody m f e = ap (λ (w : Runner). byRunning m w f) e
+by-nobody : (m : Model) (f : ℕ → Moved) → m .running ≡ Nobody → refuseIfNobody m (m .running) f ≡ refused m NobodyRuns
+unfolding refuseIfNobody
+by-nobody m f e = ap (λ (w : Runner). refuseIfNobody m w f) e
 
-by-task : (m : Model) (f : ℕ → Moved) (t : ℕ) → m .running ≡ Task t → byRunning m (m .running) f ≡ f t
-unfolding byRunning
-by-task m f t e = ap (λ (w : Runner). byRunning m w f) e
+by-task : (m : Model) (f : ℕ → Moved) (t : ℕ) → m .running ≡ Task t → refuseIfNobody m (m .running) f ≡ f t
+unfolding refuseIfNobody
+by-task m f t e = ap (λ (w : Runner). refuseIfNobody m w f) e
 
 -- Enter
 module _ (m : Model) (o : ℕ) where
@@ -36,11 +36,11 @@ module _ (m : Model) (o : ℕ) where
 
   pub enter-2 : noObject m o ≡ true → enter m o ≡ refused m NoSuchObject
   unfolding enter entering
-  enter-2 e = cond-true (noObject m o) (refused m NoSuchObject) (byRunning m (m .running) entering) e
+  enter-2 e = cond-true (noObject m o) (refused m NoSuchObject) (refuseIfNobody m (m .running) entering) e
 
-  on-enter : noObject m o ≡ false → enter m o ≡ byRunning m (m .running) entering
+  on-enter : noObject m o ≡ false → enter m o ≡ refuseIfNobody m (m .running) entering
   unfolding enter entering
-  on-enter e = cond-false (noObject m o) (refused m NoSuchObject) (byRunning m (m .running) entering) e
+  on-enter e = cond-false (noObject m o) (refused m NoSuchObject) (refuseIfNobody m (m .running) entering) e
 
   pub enter-5 : noObject m o ≡ false → m .running ≡ Nobody → enter m o ≡ refused m NobodyRuns
   enter-5 e w = on-enter e ∙ by-nobody m entering w
@@ -70,11 +70,11 @@ module _ (m : Model) (o : ℕ) where
 
   pub leave-2 : noObject m o ≡ true → leave m o ≡ refused m NoSuchObject
   unfolding leave leaving
-  leave-2 e = cond-true (noObject m o) (refused m NoSuchObject) (byRunning m (m .running) leaving) e
+  leave-2 e = cond-true (noObject m o) (refused m NoSuchObject) (refuseIfNobody m (m .running) leaving) e
 
-  on-leave : noObject m o ≡ false → leave m o ≡ byRunning m (m .running) leaving
+  on-leave : noObject m o ≡ false → leave m o ≡ refuseIfNobody m (m .running) leaving
   unfolding leave leaving
-  on-leave e = cond-false (noObject m o) (refused m NoSuchObject) (byRunning m (m .running) leaving) e
+  on-leave e = cond-false (noObject m o) (refused m NoSuchObject) (refuseIfNobody m (m .running) leaving) e
 
   pub leave-5 : noObject m o ≡ false → m .running ≡ Nobody → leave m o ≡ refused m NobodyRuns
   leave-5 e w = on-leave e ∙ by-nobody m leaving w
@@ -107,7 +107,7 @@ settle-due m t p e w = cond-false (inside (taskAt m t)) m (settleWith m t (taskA
 -- an event of the running task that is refused inside an action, and does x
 module _ (m : Model) (x : ℕ → Model) where
   outside : Moved
-  outside = byRunning m (m .running) (λ t. cond (inside (taskAt m t)) (refused m InsideAction) (accepted (x t)))
+  outside = refuseIfNobody m (m .running) (λ t. cond (inside (taskAt m t)) (refused m InsideAction) (accepted (x t)))
 
   outside-5 : m .running ≡ Nobody → outside ≡ refused m NobodyRuns
   unfolding outside

@@ -9,7 +9,7 @@ use mathlib.Core.Logic.{_↔_, _⊎_, inl, inr}
 use Rattle.rules.specs.Priorities.{inRange}
 use Rattle.rules.specs.Answers.{numberOf}
 use Rattle.rules.specs.Model.{Model, taskAt}
-use Rattle.rules.specs.Moved.{Moved, refused, accepted, byRunning}
+use Rattle.rules.specs.Moved.{Moved, refused, accepted, refuseIfNobody}
 use Rattle.rules.specs.Events.{noTask, noObject, isEnded, apply}
 use Rattle.rules.specs.Events.{enter, leave, delay, suspend, release, clock, setBase, work, finish, badReading}
 use Rattle.rules.specs.declared.Runner.{Runner}
@@ -31,22 +31,22 @@ answer-cond false x y = refl
 
 -- an event of the running task with the tests f and g: refused, or accepted
 one-test : (m : Model) (w : Runner) (a : Answer) (f : ℕ → Bool) (x : ℕ → Model) →
-    byRunning m w (λ t. cond (f t) (refused m a) (accepted (x t))) .answer ≡ cond (isNobody w) NobodyRuns (cond (ofRunner w f) a Done)
-unfolding byRunning ofRunner isNobody accepted
+    refuseIfNobody m w (λ t. cond (f t) (refused m a) (accepted (x t))) .answer ≡ cond (isNobody w) NobodyRuns (cond (ofRunner w f) a Done)
+unfolding refuseIfNobody ofRunner isNobody accepted
 one-test m Nobody a f x = refl
 one-test m (Task t) a f x = answer-cond (f t) (refused m a) (accepted (x t))
 
 two-tests : (m : Model) (w : Runner) (a b : Answer) (f g : ℕ → Bool) (x : ℕ → Model) →
-    byRunning m w (λ t. cond (f t) (refused m a) (cond (g t) (refused m b) (accepted (x t)))) .answer ≡
+    refuseIfNobody m w (λ t. cond (f t) (refused m a) (cond (g t) (refused m b) (accepted (x t)))) .answer ≡
     cond (isNobody w) NobodyRuns (cond (ofRunner w f) a (cond (ofRunner w g) b Done))
-unfolding byRunning ofRunner isNobody accepted
+unfolding refuseIfNobody ofRunner isNobody accepted
 two-tests m Nobody a b f g x = refl
 two-tests m (Task t) a b f g x =
     answer-cond (f t) (refused m a) (cond (g t) (refused m b) (accepted (x t))) ∙
     ap (cond (f t) a) (answer-cond (g t) (refused m b) (accepted (x t)))
 
-no-test : (m : Model) (w : Runner) → byRunning m w (λ t. accepted m) .answer ≡ cond (isNobody w) NobodyRuns Done
-unfolding byRunning isNobody accepted
+no-test : (m : Model) (w : Runner) → refuseIfNobody m w (λ t. accepted m) .answer ≡ cond (isNobody w) NobodyRuns Done
+unfolding refuseIfNobody isNobody accepted
 no-test m Nobody = refl
 no-test m (Task t) = refl
 

@@ -14,7 +14,7 @@ use Rattle.rules.specs.Model.{Model, TaskRecord, NextBase, none, waits, 
 use Rattle.rules.specs.Moves.{highestTo, highest}
 use Rattle.rules.specs.Events.{noTask, inside}
 use Rattle.rules.specs.Sound.{sizesGood, waitingGood, recordGood, runnerGood, numbersGood, isRunning, isReady, runs, queued}
-use Rattle.rules.specs.Sound.{onePlace, ownQueue, dueGood, dueAhead, highestRuns, distinct, rising, heldGood, holdersHere, isNone}
+use Rattle.rules.specs.Sound.{standsIn, inOnePlace, onePlace, ownQueue, dueGood, dueAhead, highestRuns, distinct, rising, heldGood, holdersHere, isNone}
 use Rattle.rules.specs.Sound.{waitingInside, sound}
 use Rattle.rules.specs.declared.Place.{Place}
 use Rattle.rules.specs.declared.Place.the-variants.{Running, Ready, Delayed, Suspended, Ended}
@@ -49,6 +49,15 @@ pub waiting-make : (w : NextBase) → ((p : ℕ) → w ≡ waits p → inRange p
 unfolding waitingGood
 waiting-make none h = refl
 waiting-make (waits p) h = h p refl
+
+-- the test of one place, as two counts
+pub stands-is : (r n : ℕ) (x : Place) → standsIn r n x ≡ (eqb r (isRunning x) && eqb n (isReady x))
+unfolding standsIn isRunning isReady
+stands-is r n Running = refl
+stands-is r n Ready = refl
+stands-is r n (Delayed d) = refl
+stands-is r n Suspended = refl
+stands-is r n Ended = refl
 
 pub due-is : (now : ℕ) (x : Place) → dueGood now x ≡ true → (d : ℕ) → x ≡ Delayed d → (now < d) × (d ≤ now + lastDelay)
 unfolding dueGood
@@ -215,7 +224,7 @@ module _ (m : Model) (e : sound m ≡ true) where
   placed-is t h =
       let a = eqb (runs (m .running) t) (isRunning (taskAt m t .place)) in
       let b = eqb (queued (m .ready) t) (isReady (taskAt m t .place)) in
-      let f = below-at (length (m .tasks)) _ (clauses .1) t h in
+      let f = sym (stands-is _ _ (taskAt m t .place)) ∙ below-at (length (m .tasks)) (inOnePlace m) (clauses .1) t h in
       (eqb-true _ _ (and-left a b f), eqb-true _ _ (and-right a b f))
 
   level-is : (p t : ℕ) → p < lastPriority → 0 < timesIn t (queue m (suc p)) → active m t ≡ suc p
@@ -306,7 +315,10 @@ module _ (m : Model) (s : Sound m) where
 
   make-placed : onePlace m ≡ true
   unfolding onePlace
-  make-placed = below-make (length (m .tasks)) _ (λ t h. let f = s .placed t h in and-make _ _ (eq-eqb _ _ (f .0)) (eq-eqb _ _ (f .1)))
+  make-placed =
+      below-make (length (m .tasks)) (inOnePlace m) (λ t h.
+      let f = s .placed t h in
+      stands-is _ _ (taskAt m t .place) ∙ and-make _ _ (eq-eqb _ _ (f .0)) (eq-eqb _ _ (f .1)))
 
   make-level : ownQueue m ≡ true
   unfolding ownQueue

@@ -6,7 +6,7 @@ use Rattle.rules.specs.Answers.{numberOf}
 use Rattle.rules.specs.Priorities.{inRange}
 use Rattle.rules.specs.Model.{Model, taskAt}
 use Rattle.rules.specs.Moves.{stopped}
-use Rattle.rules.specs.Moved.{Moved, refused, accepted, byRunning}
+use Rattle.rules.specs.Moved.{Moved, refused, accepted, refuseIfNobody}
 use Rattle.rules.specs.Events.{noTask, noObject, holds, inside, takeHold, overCeiling, enter, innermost, giveUp, settle, leave}
 use Rattle.rules.specs.Events.{putOff, delay, rest, suspend, release, badReading, clock, isEnded, setBase, work, end, finish, apply}
 use Rattle.rules.specs.Effect.{forRunner, effect}
@@ -24,8 +24,8 @@ module _ (P : Moved → Type 0) (m : Model) (no : (a : Answer) → 0 < numberOf 
   unless b a r h p = both-ways P b (refused m a) r (λ e. no a h) (λ e. p)
 
   by-runner : (w : Runner) (f : ℕ → Moved) (x : ℕ → Model) → P (accepted (forRunner m w x)) →
-      ((t : ℕ) → P (accepted (x t)) → P (f t)) → P (byRunning m w f)
-  unfolding byRunning forRunner
+      ((t : ℕ) → P (accepted (x t)) → P (f t)) → P (refuseIfNobody m w f)
+  unfolding refuseIfNobody forRunner
   by-runner Nobody f x p g = no NobodyRuns (omega arith)
   by-runner (Task t) f x p g = g t p
 

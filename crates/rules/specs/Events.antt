@@ -9,7 +9,7 @@ use Rattle.rules.specs.Priorities.{inRange}
 use Rattle.rules.specs.Model.{TaskRecord, Model, NextBase, none, waits, withPlace, withBase, withWaiting, withPermit, withHeld}
 use Rattle.rules.specs.Model.{withNow, taskAt, withTask, queue, withQueue, ceilingOf, active}
 use Rattle.rules.specs.Moves.{becomeReady, stopped}
-use Rattle.rules.specs.Moved.{Moved, accepted, refuseIf, byRunning}
+use Rattle.rules.specs.Moved.{Moved, accepted, refuseIf, refuseIfNobody}
 use Rattle.rules.specs.declared.Place.{Place}
 use Rattle.rules.specs.declared.Place.the-variants.{Running, Ready, Delayed, Suspended, Ended}
 use Rattle.rules.specs.declared.Event.{Event}
@@ -45,7 +45,7 @@ overCeiling m o t = ltb (ceilingOf (m .ceilings) o) (active m t)
 unfoldable pub enter : Model → ℕ → Moved
 enter m o =
     refuseIf m (noObject m o) NoSuchObject
-    (byRunning m (m .running) (λ t.
+    (refuseIfNobody m (m .running) (λ t.
     refuseIf m (holds (taskAt m t) o) InsideAction
     (refuseIf m (overCeiling m o t) AboveCeiling
     (accepted (takeHold m o t)))))
@@ -71,7 +71,7 @@ settle m t = cond (inside (taskAt m t)) m (settleWith m t (taskAt m t .waiting))
 unfoldable pub leave : Model → ℕ → Moved
 leave m o =
     refuseIf m (noObject m o) NoSuchObject
-    (byRunning m (m .running) (λ t.
+    (refuseIfNobody m (m .running) (λ t.
     refuseIf m (not (innermost (taskAt m t) o)) NotInnermost
     (accepted (settle (giveUp m t) t))))
 
@@ -82,7 +82,7 @@ putOff m t d = cond (eqb d 0) (becomeReady m t) (withTask m t (withPlace (taskAt
 -- 5; 7, "Delay (also 0) .. inside a protected action"
 unfoldable pub delay : Model → ℕ → Moved
 delay m d =
-    byRunning m (m .running) (λ t. refuseIf m (inside (taskAt m t)) InsideAction (accepted (putOff (stopped m) t d)))
+    refuseIfNobody m (m .running) (λ t. refuseIf m (inside (taskAt m t)) InsideAction (accepted (putOff (stopped m) t d)))
 
 -- "Suspend: with a permit, the permit goes and the task runs on; else it is suspended."
 unfoldable pub rest : Model → ℕ → Model
@@ -94,7 +94,7 @@ rest m t =
 -- 5; 7, "Suspend .. inside a protected action"
 unfoldable pub suspend : Model → Moved
 suspend m =
-    byRunning m (m .running) (λ t. refuseIf m (inside (taskAt m t)) InsideAction (accepted (rest m t)))
+    refuseIfNobody m (m .running) (λ t. refuseIf m (inside (taskAt m t)) InsideAction (accepted (rest m t)))
 
 -- "Release t: a suspended t becomes ready; otherwise t's permit is on (once)."
 abbrev pub permitOn : Model → ℕ → Model
@@ -158,13 +158,13 @@ takeReading m r = wakeUp r (length (m .tasks)) (withNow m r)
 unfoldable pub clock : Model → ℕ → Moved
 clock m r = refuseIf m (badReading (m .now) r) BadReading (accepted (takeReading m r))
 
--- "a ready or running t goes to the tail of the queue for its active priority"; a ready one leaves the queue for p, where it stood
+-- "a ready or running t goes to the tail of the queue for its active priority"; a ready one leaves the queue where it stood
 unfoldable pub requeue : Model → ℕ → ℕ → Place → Model
-requeue m t p Running = becomeReady (stopped m) t
-requeue m t p Ready = becomeReady (withQueue m p (without t (queue m p))) t
-requeue m t p (Delayed d) = m
-requeue m t p Suspended = m
-requeue m t p Ended = m
+requeue m t stood Running = becomeReady (stopped m) t
+requeue m t stood Ready = becomeReady (withQueue m stood (without t (queue m stood))) t
+requeue m t stood (Delayed d) = m
+requeue m t stood Suspended = m
+requeue m t stood Ended = m
 
 -- "Set t, p: outside a protected action the base becomes p"; "Setting a base to the value it already has moves nobody.
 -- Inside an action p waits, a later one replacing it"
@@ -192,7 +192,7 @@ setBase m t p =
 
 -- 5; "Work: no effect."
 unfoldable pub work : Model → Moved
-work m = byRunning m (m .running) (λ t. accepted m)
+work m = refuseIfNobody m (m .running) (λ t. accepted m)
 
 -- "Finish: the running task is ended."
 abbrev pub end : Model → ℕ → Model
@@ -201,7 +201,7 @@ end m t = withTask (stopped m) t (withPlace (taskAt m t) Ended)
 -- 5; 7, "Finish inside a protected action"
 unfoldable pub finish : Model → Moved
 finish m =
-    byRunning m (m .running) (λ t. refuseIf m (inside (taskAt m t)) InsideAction (accepted (end m t)))
+    refuseIfNobody m (m .running) (λ t. refuseIf m (inside (taskAt m t)) InsideAction (accepted (end m t)))
 
 -- any of the nine
 unfoldable pub apply : Model → Event → Moved

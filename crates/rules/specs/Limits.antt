@@ -24,6 +24,9 @@ firstPriority = 1
 abbrev pub lastPriority : ℕ
 lastPriority = 32
 
+abbrev pub defaultPriority : ℕ
+defaultPriority = 15
+
 -- "Values 1 to 30 are Priority, 31 and 32 Interrupt_Priority."
 abbrev pub firstInterrupt : ℕ
 firstInterrupt = 31

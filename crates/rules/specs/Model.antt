@@ -62,7 +62,7 @@ withTasks m ks = record { now = m .now; running = m .running; tasks = ks; ceilin
 abbrev pub withReady : Model → List (List ℕ) → Model
 withReady m qs = record { now = m .now; running = m .running; tasks = m .tasks; ceilings = m .ceilings; ready = qs }
 
--- one task, one ready queue: read and replaced
+-- one task, one ready queue: read and replaced. There is no queue for 0, which is no priority of a sound Model
 abbrev pub taskAt : Model → ℕ → TaskRecord
 taskAt m t = getD (m .tasks) t blank
 

@@ -47,7 +47,7 @@ numbersGood m =
     sizesGood m && eachTask m (recordGood m) && runnerGood m (m .running) &&
     eachPriority (λ p. allOf (λ t. not (noTask m t)) (queue m p))
 
--- 1 where the place is Running, Ready; where the Model names the task as running; how often it stands in the ready queues
+-- 1 where the place is Running, Ready; 1 where the Model names the task as running; how often it stands in the ready queues
 unfoldable pub isRunning : Place → ℕ
 isRunning Running = 1
 isRunning Ready = 0
@@ -70,11 +70,20 @@ unfoldable pub queued : List (List ℕ) → ℕ → ℕ
 queued [] t = 0
 queued (q ∷ qs) t = timesIn t q + queued qs t
 
--- "a task in two places, or in none": it runs if its place is Running, stands once in the queues if Ready, and else does neither
+-- "a task in two places, or in none": a task named r times as running, and n times in the queues, is where its place says, and
+-- nowhere else
+unfoldable pub standsIn : ℕ → ℕ → Place → Bool
+standsIn r n Running = eqb r 1 && eqb n 0
+standsIn r n Ready = eqb r 0 && eqb n 1
+standsIn r n (Delayed d) = eqb r 0 && eqb n 0
+standsIn r n Suspended = eqb r 0 && eqb n 0
+standsIn r n Ended = eqb r 0 && eqb n 0
+
+abbrev pub inOnePlace : Model → ℕ → Bool
+inOnePlace m t = standsIn (runs (m .running) t) (queued (m .ready) t) (taskAt m t .place)
+
 unfoldable pub onePlace : Model → Bool
-onePlace m =
-    below (length (m .tasks)) (λ t.
-    eqb (runs (m .running) t) (isRunning (taskAt m t .place)) && eqb (queued (m .ready) t) (isReady (taskAt m t .place)))
+onePlace m = below (length (m .tasks)) (inOnePlace m)
 
 -- "a ready task in a queue other than its active priority's"
 unfoldable pub ownQueue : Model → Bool

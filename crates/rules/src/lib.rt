@@ -1,6 +1,7 @@
 // The kinds of the dispatcher: priorities, places of tasks, events and answers. Their rules are in specs/.
 ghost use mathlib.Core.Path.{_≡_};
-ghost use Rattle.rules.specs.Priorities.{inRange, checkedOf, subrangeOf};
+ghost use Prim.Native.Nat.{max};
+ghost use Rattle.rules.specs.Priorities.{inRange, defaultOf, checkedOf, subrangeOf};
 ghost use Rattle.rules.specs.Answers.{numberOf};
 
 // A priority is a kind of its own. Its field is public, so one out of range can be handed in: rules refuse it.
@@ -28,6 +29,26 @@ impl Priority {
 
     pub const FIRST_INTERRUPT: Priority = Priority(31);
 
+    // The default under a promise, which a constant does not have; the other three are pinned by `checked` and `subrange`.
+    pub fn default() -> Priority
+        ensures { λ r. ⌜ r ≡ defaultOf ⌝ }
+    {
+        Priority::DEFAULT
+    }
+
+    // Whether a value that was handed in is a priority.
+    pub fn in_range(self) -> bool
+        ensures { λ r. ⌜ r ≡ inRange (self .0) ⌝ }
+    {
+        in_range(self.0 as u64)
+    }
+
+    pub fn higher(self, other: Priority) -> Priority
+        ensures { λ r. ⌜ r .0 ≡ max (self .0) (other .0) ⌝ }
+    {
+        if self.0 < other.0 { other } else { self }
+    }
+
     pub fn checked(value: u64) -> Checked
         ensures { λ r. ⌜ r ≡ checkedOf value ⌝ }
     {
@@ -41,7 +62,7 @@ impl Priority {
         ensures { λ r. ⌜ r ≡ subrangeOf self ⌝ }
     {
         let interrupt = Priority::FIRST_INTERRUPT;
-        if in_range(self.0 as u64) {
+        if self.in_range() {
             if self.0 < interrupt.0 {
                 return Subrange::Priority;
             }

@@ -1,5 +1,4 @@
 // A run of a roster under events.
-mod inputs;
 mod pass;
 mod scripts;
 mod start;

@@ -33,8 +33,8 @@ use Rattle.trace.specs.Config.{advance, nextStep, positionOf, stepBy, outside, 
 use Rattle.safety.specs.History.{Event, clock as read, release as free, step, inputOf}
 use Rattle.safety.specs.Reckon.{Away, here, until, resting, gone, Status, Reckoning, unknown, statusAt, withStatus, atPosition}
 use Rattle.safety.specs.Reckon.{insideOf}
-use Rattle.safety.specs.Reckon.{permitted, goes, awayAfter, readAt, released, releaseOf, becomesBase, tookBy, movedOn}
-use Rattle.safety.specs.Reckon.{stepOf, took, happened, noted}
+use Rattle.safety.specs.Reckon.{permitted, goes, awayAfter, readAt, released, releasedIn, becomesBase, tookBy, movedOn}
+use Rattle.safety.specs.Reckon.{stepDue, took, happened, noted}
 use Rattle.safety.proofs.Agree.{statusOf, Agree, agree-position}
 use Rattle.safety.proofs.Discipline.{Fits, fits-next, held-next, free-delay, free-suspend, free-again, free-finish}
 use Rattle.safety.proofs.Discipline.{enter-listed}
@@ -73,7 +73,7 @@ released-face a (until d) = refl
 released-face a resting = refl
 released-face a gone = refl
 
-release-faces : (b : Reckoning) (t u : ℕ) → face (statusAt (releaseOf b t) u) ≡ face (statusAt b u)
+release-faces : (b : Reckoning) (t u : ℕ) → face (statusAt (releasedIn b t) u) ≡ face (statusAt b u)
 release-faces b t u = at-keeps face unknown (b .tasks) t _ (released-face (statusAt b t) (statusAt b t .away)) u
 
 read-faces : (x : ℕ) (l : List Status) (u : ℕ) → face (getD (map (readAt x) l) u unknown) ≡ face (getD l u unknown)
@@ -120,12 +120,12 @@ module _ (r : Roster) (c : Config) (b : Reckoning) (i : Inv r c b) where
       go true e = refused-way _ BadReading (clock (c .model) x) (clock-4 (c .model) x e) refl
 
   by-release : (t : ℕ) → Inv r (outside c (release (c .model) t) .config)
-      (cond (isDone (outside c (release (c .model) t) .answer)) (releaseOf b t) b)
+      (cond (isDone (outside c (release (c .model) t) .answer)) (releasedIn b t) b)
   unfolding apply
   by-release t = go (noTask (c .model) t) refl
     where
       go : (v : Bool) → noTask (c .model) t ≡ v → Inv r (outside c (release (c .model) t) .config)
-          (cond (isDone (outside c (release (c .model) t) .answer)) (releaseOf b t) b)
+          (cond (isDone (outside c (release (c .model) t) .answer)) (releasedIn b t) b)
       go false e =
           accepted-way _ (release (c .model) t)
           (fine-release (c .positions) b (c .model) (i .good) (i .agree) t (leb-false (length (c .model .tasks)) t e))
@@ -189,7 +189,7 @@ module _ (r : Roster) (k : Orderly r) (m : Model) (ps : List ℕ) (b : Reckoning
       omega (arith, g, same, ap (λ (l : List ℕ). ceilingOf l o) cs)
 
   -- to leave o is to give up the innermost
-  leave-front : (o : ℕ) → stepOf r t (statusAt b t) ≡ Leave o →
+  leave-front : (o : ℕ) → stepDue r t (statusAt b t) ≡ Leave o →
       without o (statusAt b t .inside) ≡ take (length (statusAt b t .inside) - 1) (statusAt b t .inside)
   unfolding low own
   leave-front o n =
@@ -201,7 +201,7 @@ module _ (r : Roster) (k : Orderly r) (m : Model) (ps : List ℕ) (b : Reckoning
       let once = distinct-once (taskAt m t .held) (h .pending .fair t (t-in m t h e) .once) o in
       without-last o held some last (omega (arith, ap (timesIn o) held-is, once))
 
-  performed : (x : Step) → stepOf r t (statusAt b t) ≡ x → Fine ps (tookBy b t (statusAt b t) x) (perform m x)
+  performed : (x : Step) → stepDue r t (statusAt b t) ≡ x → Fine ps (tookBy b t (statusAt b t) x) (perform m x)
   unfolding perform answerTo eventOf apply tookBy low own
   performed (Enter o) n =
       fine-enter ps b m h a t e o (listed o (enter-listed r k t low (statusAt b t) own o n))
@@ -265,7 +265,7 @@ module _ (r : Roster) (k : Orderly r) (m : Model) (ps : List ℕ) (b : Reckoning
   kept-faces x f u = at-keeps face unknown (b .tasks) t x f u
 
   -- a step behind which the same is held
-  on : (x : Step) → stepOf r t (statusAt b t) ≡ x → (x ≡ Finish → ⊥) → heldAfter (statusAt b t .inside) x ≡ statusAt b t .inside →
+  on : (x : Step) → stepDue r t (statusAt b t) ≡ x → (x ≡ Finish → ⊥) → heldAfter (statusAt b t .inside) x ≡ statusAt b t .inside →
       Fits r t (atPosition (statusAt b t) (suc (statusAt b t .position)))
   unfolding low own
   on x n f g = record {
@@ -276,7 +276,7 @@ module _ (r : Roster) (k : Orderly r) (m : Model) (ps : List ℕ) (b : Reckoning
   }
 
   -- behind a Leave, without and with a base that now counts
-  left : (o : ℕ) → stepOf r t (statusAt b t) ≡ Leave o →
+  left : (o : ℕ) → stepDue r t (statusAt b t) ≡ Leave o →
       Fits r t (atPosition (insideOf (statusAt b t) (without o (statusAt b t .inside))) (suc (statusAt b t .position)))
   unfolding low own heldAfter
   left o n = record {
@@ -286,7 +286,7 @@ module _ (r : Roster) (k : Orderly r) (m : Model) (ps : List ℕ) (b : Reckoning
     awaits = own .awaits;
   }
 
-  settled : (o : ℕ) → stepOf r t (statusAt b t) ≡ Leave o → (w : NextBase) → statusAt b t .waiting ≡ w →
+  settled : (o : ℕ) → stepDue r t (statusAt b t) ≡ Leave o → (w : NextBase) → statusAt b t .waiting ≡ w →
       Fits r t (atPosition (becomesBase (insideOf (statusAt b t) (without o (statusAt b t .inside))) w) (suc (statusAt b t .position)))
   unfolding becomesBase own
   settled o n none i = left o n
@@ -300,7 +300,7 @@ module _ (r : Roster) (k : Orderly r) (m : Model) (ps : List ℕ) (b : Reckoning
   abbrev behind : Step → Reckoning
   behind x = movedOn (tookBy b t (statusAt b t) x) t (positionAfter (statusAt b t .position) x)
 
-  disciplined : (x : Step) → stepOf r t (statusAt b t) ≡ x → (u : ℕ) → u < length (r .bases) → Fits r u (statusAt (behind x) u)
+  disciplined : (x : Step) → stepDue r t (statusAt b t) ≡ x → (u : ℕ) → u < length (r .bases) → Fits r u (statusAt (behind x) u)
   unfolding tookBy positionAfter low own heldAfter
   disciplined (Enter o) n = one-moved _ _ (record {
     within = fits-next r k t low (statusAt b t) own (Enter o) n (λ i. let z : _≡_ {A = ℕ} 0 1 = cc in omega arith);
@@ -327,7 +327,7 @@ module _ (r : Roster) (k : Orderly r) (m : Model) (ps : List ℕ) (b : Reckoning
       (goes (statusAt b t) resting) refl refl))
       (on Suspend n (λ i. let z : _≡_ {A = ℕ} 0 1 = cc in omega arith) refl)
   disciplined (Release v) n =
-      moved-faces (releaseOf b v) _ (length-set (b .tasks) v _) (release-faces b v)
+      moved-faces (releasedIn b v) _ (length-set (b .tasks) v _) (release-faces b v)
       (on (Release v) n (λ i. let z : _≡_ {A = ℕ} 0 1 = cc in omega arith) refl)
   disciplined (Set u p) n =
       subst (λ (y : ℕ). (v : ℕ) → v < length (r .bases) →
@@ -380,7 +380,7 @@ module _ (r : Roster) (k : Orderly r) (m : Model) (ps : List ℕ) (b : Reckoning
       }))
     where
       x : Step
-      x = stepOf r t (statusAt b t)
+      x = stepDue r t (statusAt b t)
 
       f : Fine ps (tookBy b t (statusAt b t) x) (perform m x)
       f = performed x refl
@@ -421,4 +421,4 @@ step-done r k c b i t e =
     subst (λ (w : Runner). stepBy r c w .answer ≡ Done) (sym e)
     (subst (λ (v : ℕ). perform (c .model) (nextStep r t v) .answer ≡ Done) (ap (λ (v : Status). v .position) (i .agree .each t))
     (performed r k (c .model) (c .positions) b (i .good) (i .agree) (i .ceilings) (i .size) (i .fits) t e
-    (stepOf r t (statusAt b t)) refl .done))
+    (stepDue r t (statusAt b t)) refl .done))

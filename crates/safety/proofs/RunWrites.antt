@@ -108,8 +108,8 @@ run-writes s ev buffer es y e f = record { answer = answer; task = task }
         (getD (bufferOf s ev buffer) (2 * length before) 0 ≡ 0 → ⊥) ↔ Idle (rosterOf s) before
     answer before behind q =
         let refusal = safe s y (ran-passes s ev (length buffer) e) es .refused before behind q in (
-          λ n. refusal .only (λ d. n (first before behind q ∙ ap numberOf d)),
-          λ i z. refusal .when i (number-done (stepAnswer r before) (sym (first before behind q) ∙ z)),
+          λ n. refusal .0 (record { is = λ d. n (first before behind q ∙ ap numberOf d) }),
+          λ i z. refusal .1 i .is (number-done (stepAnswer r before) (sym (first before behind q) ∙ z)),
         )
 
     task : (before behind : List Event) (x : Event) → es ≡ before ++ (x ∷ behind) →

@@ -1,4 +1,5 @@
 -- Every list of readings, releases and steps from the fresh start of a roster that passes is safe: the theorem.
+use mathlib.Core.Logic.{_↔_}
 use mathlib.Core.Path.{_≡_, refl, ap, _∙_, sym, subst}
 use mathlib.Core.Bool.{true, false}
 use mathlib.Core.List.{List, [], _∷_}
@@ -33,7 +34,7 @@ use Rattle.trace.specs.Config.{Config, startOf, stepBy, happen}
 use Rattle.safety.specs.History.{Event, inputOf, afterFrom, after, happeningsFrom}
 use Rattle.safety.specs.Reckon.{Status, Reckoning, unknown, statusAt, reckonFrom, opened, reckon, activeIn, isHere, readyBy}
 use Rattle.safety.specs.Safe as claim
-use Rattle.safety.specs.Safe.{reckoned, stepAnswer, Idle, Refusal, Once, Safe, Claim}
+use Rattle.safety.specs.Safe.{reckoned, stepAnswer, Idle, Refused, Once, Safe, Claim}
 use Rattle.safety.proofs.Agree.{awayOf, statusOf, status-unplaced}
 use Rattle.safety.proofs.Discipline.{Fits}
 use Rattle.safety.proofs.Steps.{away-is}
@@ -184,9 +185,9 @@ step-refused : (r : Roster) (c : Config) → c .model .running ≡ Nobody → st
 unfolding stepBy
 step-refused r c e = ap (λ (w : Runner). stepBy r c w .answer) e
 
-refusal : (r : Roster) → Orderly r → (es : List Event) → Refusal r es
+refusal : (r : Roster) → Orderly r → (es : List Event) → Refused r es ↔ Idle r es
 unfolding happen inputOf
-refusal r k es = record { only = go (claim.running r es) refl; when = when }
+refusal r k es = (λ n. go (claim.running r es) refl (n .is), λ h. record { is = when h })
   where
     i : Inv r (after r es) (reckoned r es)
     i = invariant r k es

@@ -14,15 +14,16 @@ use Rattle.rules.specs.Moves.{highestTo, highest}
 use Rattle.rules.specs.Fresh.{countsGood}
 use Rattle.rules.specs.Events.{noTask, inside}
 use Rattle.rules.specs.Sound.{sizesGood, recordGood, waitingGood, runnerGood, runs, isRunning, queued, isReady, dueGood, distinct}
-use Rattle.rules.specs.Sound.{rising, highestRuns, isNone, eachPriority}
+use Rattle.rules.specs.Sound.{inOnePlace, rising, highestRuns, isNone, eachPriority}
 use Rattle.rules.specs.declared.Place.{Place}
 use Rattle.rules.specs.declared.WaitingBase.{WaitingBase}
 use Rattle.rules.specs.Lists.{allOf, below}
 use Rattle.memory.specs.Rows.{queueWidth, queuesIn, queueIn, heldBy}
 use Rattle.memory.specs.Tasks.{taskIn}
 use Rattle.memory.specs.Memory.{nowCell, runningCell, taskCountIn, objectCountIn, runnerOf, waitingIn, modelOf, LaidOut}
+use Rattle.rules.proofs.SoundLaws.{stands-is}
 use Rattle.soundness.proofs.TestedLaws.{tested}
-use Rattle.soundness.specs.Tested.{onePlaceAt, heldGoodAt, holderHere, waitsInside, taskSound, queueSound}
+use Rattle.soundness.specs.Tested.{heldGoodAt, holderHere, waitsInside, taskSound, queueSound}
 use Rattle.memory.proofs.GridLaws.{list-count}
 use Rattle.memory.proofs.MemoryLaws.{count-is, objects-is, task-is, held-is, place-is, waiting-is}
 use Rattle.memory.proofs.TestLaws.{same-test, fails-first, holds-first}
@@ -88,10 +89,10 @@ module _ {h ts hd cs qs : List ℕ} (d : LaidOut h ts hd cs qs) where
   record-is t g = rw (task-is d t g, objects-is d)
 
   pub place-one : (t a b n c : ℕ) (x : Place) → t < taskCountIn h → x ≡ taskIn ts t .place → a ≡ runs (runnerOf (getD h runningCell 0)) t →
-      b ≡ isRunning x → n ≡ queued (queuesIn qs) t → c ≡ isReady x → onePlaceAt (modelOf h ts hd cs qs) t ≡ (eqb a b && eqb n c)
+      b ≡ isRunning x → n ≡ queued (queuesIn qs) t → c ≡ isReady x → inOnePlace (modelOf h ts hd cs qs) t ≡ (eqb a b && eqb n c)
   place-one t a b n c x g e p q r s =
       let place : taskAt (modelOf h ts hd cs qs) t .place ≡ x = place-is d t g ∙ sym e in
-      rw (place, p, q, r, s)
+      stands-is _ _ _ ∙ rw (place, p, q, r, s)
 
   pub held-one : (t : ℕ) → t < taskCountIn h → heldGoodAt (modelOf h ts hd cs qs) (taskAt (modelOf h ts hd cs qs) t) ≡
       (distinct (heldBy hd t) && rising (take (objectCountIn h) cs) (taskIn ts t .base .0) (heldBy hd t))
@@ -143,11 +144,11 @@ module _ (m : Model) (t : ℕ) where
   task-1 a = rw a
 
   module _ (a : recordGood m (taskAt m t) ≡ true) where
-    pub task-2 : onePlaceAt m t ≡ false → taskSound m t ≡ false
+    pub task-2 : inOnePlace m t ≡ false → taskSound m t ≡ false
     unfolding taskSound
     task-2 b = rw (a, b)
 
-    module _ (b : onePlaceAt m t ≡ true) where
+    module _ (b : inOnePlace m t ≡ true) where
       pub task-3 : dueGood (m .now) (taskAt m t .place) ≡ false → taskSound m t ≡ false
       unfolding taskSound
       task-3 c = rw (a, b, c)

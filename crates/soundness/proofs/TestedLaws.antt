@@ -14,7 +14,7 @@ use Rattle.rules.specs.Model.{Model, taskAt, queue, ceilingOf, active}
 use Rattle.rules.specs.Events.{noTask}
 use Rattle.rules.specs.Sound.{sizesGood, recordGood, runnerGood, runs, queued}
 use Rattle.rules.specs.Sound.{highestRuns, dueGood, rising, eachTask, eachPriority}
-use Rattle.rules.specs.Sound.{numbersGood, onePlace, ownQueue, dueAhead, heldGood, holdersHere, waitingInside, sound}
+use Rattle.rules.specs.Sound.{numbersGood, inOnePlace, onePlace, ownQueue, dueAhead, heldGood, holdersHere, waitingInside, sound}
 use Rattle.rules.specs.declared.Place.{Place}
 use Rattle.rules.specs.declared.Place.the-variants.{Delayed}
 use Rattle.rules.specs.declared.Runner.{Runner}
@@ -24,7 +24,7 @@ use Rattle.rules.proofs.Choices.{and-left, and-right, and-make}
 use Rattle.rules.proofs.TaskLaws.{runs-self, runs-apart}
 use Rattle.rules.proofs.SoundLaws.{below-at, below-make}
 use Rattle.memory.specs.Memory.{runnerOf}
-use Rattle.soundness.specs.Tested.{onePlaceAt, heldGoodAt, holderHere, waitsInside, taskSound, queueSound}
+use Rattle.soundness.specs.Tested.{heldGoodAt, holderHere, waitsInside, taskSound, queueSound}
 use Rattle.memory.proofs.TestLaws.{same-test, fails-first, holds-first}
 
 -- all clauses
@@ -122,11 +122,11 @@ eight-each a b c d e f g h i =
 -- the clauses of a Model that passes the one test, and the other
 module _ (m : Model) where
   at-task : (below (length (m .tasks)) (taskSound m) ≡ true) → (t : ℕ) → t < length (m .tasks) →
-      (recordGood m (taskAt m t) ≡ true) × (onePlaceAt m t ≡ true) × (dueGood (m .now) (taskAt m t .place) ≡ true) ×
+      (recordGood m (taskAt m t) ≡ true) × (inOnePlace m t ≡ true) × (dueGood (m .now) (taskAt m t .place) ≡ true) ×
       (heldGoodAt m (taskAt m t) ≡ true) × (holderHere (taskAt m t) ≡ true) × (waitsInside (taskAt m t) ≡ true)
   unfolding taskSound
   at-task e t h =
-      six-each (recordGood m (taskAt m t)) (onePlaceAt m t) (dueGood (m .now) (taskAt m t .place)) (heldGoodAt m (taskAt m t))
+      six-each (recordGood m (taskAt m t)) (inOnePlace m t) (dueGood (m .now) (taskAt m t .place)) (heldGoodAt m (taskAt m t))
       (holderHere (taskAt m t)) (waitsInside (taskAt m t)) (below-at (length (m .tasks)) (taskSound m) e t h)
 
   at-queue : (eachPriority (queueSound m) ≡ true) → (p : ℕ) → p < lastPriority →
@@ -149,7 +149,7 @@ module _ (m : Model) where
       let records = below-make count (λ t. recordGood m (taskAt m t)) (λ t h. task t h .0) in
       let known = below-make lastPriority (λ p. allOf (λ t. not (noTask m t)) (queue m (suc p))) (λ p h. line p h .0) in
       let own = below-make lastPriority (λ p. allOf (λ t. eqb (active m t) (suc p)) (queue m (suc p))) (λ p h. line p h .1) in
-      let places = below-make count (onePlaceAt m) (λ t h. task t h .1) in
+      let places = below-make count (inOnePlace m) (λ t h. task t h .1) in
       let dues = below-make count (λ t. dueGood (m .now) (taskAt m t .place)) (λ t h. task t h .2) in
       let lists = below-make count (λ t. heldGoodAt m (taskAt m t)) (λ t h. task t h .3) in
       let holders = below-make count (λ t. holderHere (taskAt m t)) (λ t h. task t h .4) in
@@ -167,7 +167,7 @@ module _ (m : Model) where
       let tasks = below-make count (taskSound m) (λ t h.
       rw (
         below-at count (λ t. recordGood m (taskAt m t)) (y .1) t h,
-        below-at count (onePlaceAt m) (x .1) t h,
+        below-at count (inOnePlace m) (x .1) t h,
         below-at count (λ t. dueGood (m .now) (taskAt m t .place)) (x .3) t h,
         below-at count (λ t. heldGoodAt m (taskAt m t)) (x .5) t h,
         below-at count (λ t. holderHere (taskAt m t)) (x .6) t h,

@@ -4,13 +4,8 @@ use Prim.Native.Nat.{ℕ, _+_}
 use lib.Dec.{eqb}
 use Rattle.rules.specs.Model.{Model, TaskRecord, taskAt, queue, active}
 use Rattle.rules.specs.Events.{noTask, inside}
-use Rattle.rules.specs.Sound.{recordGood, runs, isRunning, queued, isReady, dueGood, distinct, rising, isNone}
+use Rattle.rules.specs.Sound.{recordGood, inOnePlace, isRunning, isReady, dueGood, distinct, rising, isNone}
 use Rattle.rules.specs.Lists.{allOf, below}
-
--- "a task in two places, or in none"
-abbrev pub onePlaceAt : Model → ℕ → Bool
-onePlaceAt m t =
-    eqb (runs (m .running) t) (isRunning (taskAt m t .place)) && eqb (queued (m .ready) t) (isReady (taskAt m t .place))
 
 -- "an object twice in one task's held list, or ceilings in it falling inwards or starting below the base"
 abbrev pub heldGoodAt : Model → TaskRecord → Bool
@@ -26,7 +21,7 @@ waitsInside k = inside k || isNone (k .waiting)
 -- all clauses about the task t; numbers first, then in document 01's order
 unfoldable pub taskSound : Model → ℕ → Bool
 taskSound m t =
-    recordGood m (taskAt m t) && onePlaceAt m t && dueGood (m .now) (taskAt m t .place) && heldGoodAt m (taskAt m t) &&
+    recordGood m (taskAt m t) && inOnePlace m t && dueGood (m .now) (taskAt m t .place) && heldGoodAt m (taskAt m t) &&
     holderHere (taskAt m t) && waitsInside (taskAt m t)
 
 -- all clauses about the queue for p

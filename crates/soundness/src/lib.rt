@@ -9,11 +9,11 @@ ghost use Rattle.rules.specs.Limits.{taskLimit, lastReading};
 ghost use Rattle.rules.specs.Priorities.{inRange};
 ghost use Rattle.rules.specs.Model.{taskAt, queue, active};
 ghost use Rattle.rules.specs.Sound.{eachPriority, waitingGood, recordGood, runs, isRunning, isReady, queued, dueGood, isNone};
-ghost use Rattle.rules.specs.Sound.{rising, sizesGood, runnerGood, highestRuns, sound};
+ghost use Rattle.rules.specs.Sound.{inOnePlace, rising, sizesGood, runnerGood, highestRuns, sound};
 ghost use Rattle.rules.specs.Lists.{allOf, below};
 ghost use Rattle.memory.specs.Rows.{HasQueue, queuesIn, Queues, heldBy, Held};
 ghost use Rattle.memory.specs.Memory.{nowCell, runningCell, taskCountIn, objectCountIn, runnerOf, waitingIn, modelOf, LaidOut};
-ghost use Rattle.soundness.specs.Tested.{onePlaceAt, heldGoodAt, taskSound, queueSound};
+ghost use Rattle.soundness.specs.Tested.{heldGoodAt, taskSound, queueSound};
 use memory::held;
 use memory::priorities;
 use memory::queues;
@@ -31,23 +31,12 @@ use rules::Place;
 use rules::Priority;
 use rules::WaitingBase;
 
-fn in_range(p: u8) -> bool
-    ensures { λ r. ⌜ r ≡ inRange p ⌝ }
-{
-    let first = Priority::FIRST;
-    let last = Priority::LAST;
-    if p < first.0 {
-        return false;
-    }
-    p <= last.0
-}
-
 fn waiting_good(waiting: WaitingBase) -> bool
     ensures { λ r. ⌜ r ≡ waitingGood (waitingIn waiting) ⌝ }
 {
     match waiting {
         WaitingBase::Nothing => true,
-        WaitingBase::Base(p) => in_range(p.0),
+        WaitingBase::Base(p) => p.in_range(),
     }
 }
 
@@ -137,7 +126,7 @@ fn ceilings_good(ceilings: &[u8], n: usize) -> bool
 {
     let mut i: usize = 0;
     while i < n {
-        if !in_range(ceilings[i]) {
+        if !Priority(ceilings[i]).in_range() {
             return false;
         }
         i += 1;
@@ -146,11 +135,11 @@ fn ceilings_good(ceilings: &[u8], n: usize) -> bool
 }
 
 // The ceilings of what t holds do not fall, from p on.
-fn rises(held: &[u8], ceilings: &[u8], n: usize, t: usize, p: u8) -> bool
+fn rises(held: &[u8], ceilings: &[u8], n: usize, t: usize, p: Priority) -> bool
     requires { ⌜ t < taskLimit ⌝ }
     requires { ⌜ n ≤ length (now ceilings) ⌝ }
     requires { ⌜ Held (now held) ⌝ }
-    ensures { λ r. ⌜ r ≡ rising (take n (now (ceilings .entry))) p (heldBy (now (held .entry)) t) ⌝ }
+    ensures { λ r. ⌜ r ≡ rising (take n (now (ceilings .entry))) (p .0) (heldBy (now (held .entry)) t) ⌝ }
 {
     let row = t * HELD_WIDTH;
     let size = held[row] as usize;
@@ -158,7 +147,7 @@ fn rises(held: &[u8], ceilings: &[u8], n: usize, t: usize, p: u8) -> bool
     let mut i: usize = 0;
     while i < size {
         let c = priorities::ceiling(ceilings, n, held[row + (i + 1)]);
-        if c < low {
+        if c.0 < low.0 {
             return false;
         }
         low = c;
@@ -282,7 +271,7 @@ fn record_good(
         t) ⌝ }
 {
     let base = tasks::base(tasks, t);
-    if !in_range(base.0) {
+    if !base.in_range() {
         return false;
     }
     if !waiting_good(tasks::waiting(tasks, t)) {
@@ -304,7 +293,7 @@ fn one_place(
     requires { ⌜ t < taskCountIn (now head) ⌝ }
     ensures { λ r.
         ⌜ r ≡
-        onePlaceAt
+        inOnePlace
         (modelOf (now (head .entry)) (now (tasks .entry)) (now (held .entry)) (now (ceilings .entry)) (now (queues .entry)))
         t ⌝ }
 {
@@ -338,7 +327,7 @@ fn held_good(
         return false;
     }
     let base = tasks::base(tasks, t);
-    rises(held, ceilings, head[OBJECTS_CELL] as usize, t, base.0)
+    rises(held, ceilings, head[OBJECTS_CELL] as usize, t, base)
 }
 
 // All clauses about t.

@@ -6,7 +6,7 @@ use lib.Dec.{eqb}
 use lib.ListN.{length, getD, set, replicate}
 use Rattle.rules.specs.Answers.{numberOf}
 use Rattle.rules.specs.Model.{Model}
-use Rattle.rules.specs.Moved.{Moved, refused}
+use Rattle.rules.specs.Moved.{Moved}
 use Rattle.rules.specs.Fresh.{freshModel}
 use Rattle.rules.specs.Events.{release, clock, setBase, apply}
 use Rattle.rules.specs.declared.Event.{Event}
@@ -53,10 +53,14 @@ eventOf (Set t p) = event (E.Set t p)
 eventOf Again = nothing
 eventOf Finish = event E.Finish
 
--- an event by its rule; Again: "the state stays"
+-- Again: "the state stays", and the answer is 0
+abbrev pub stays : Model → Moved
+stays m = record { answer = Done; model = m }
+
+-- an event by its rule
 unfoldable pub answerTo : Model → Asked → Moved
 answerTo m (event e) = apply m e
-answerTo m nothing = refused m Done
+answerTo m nothing = stays m
 
 -- what one step of a script does; "A step asked at the script's end is Finish."
 unfoldable pub perform : Model → Step → Moved

@@ -30,14 +30,14 @@ decode kind a value =
 abbrev pub kindAt : List ℕ → ℕ → ℕ
 kindAt s i = byteAt s (eventSize * i)
 
-abbrev pub aAt : List ℕ → ℕ → ℕ
-aAt s i = byteAt s (eventSize * i + 1)
+abbrev pub operandAt : List ℕ → ℕ → ℕ
+operandAt s i = byteAt s (eventSize * i + 1)
 
 unfoldable pub valueAt : List ℕ → ℕ → ℕ
 valueAt s i = wordAt s (eventSize * i + 2) + 65536 * (wordAt s (eventSize * i + 4) + 65536 * wordAt s (eventSize * i + 6))
 
 unfoldable pub decodedAt : List ℕ → ℕ → Decoded
-decodedAt s i = decode (kindAt s i) (aAt s i) (valueAt s i)
+decodedAt s i = decode (kindAt s i) (operandAt s i) (valueAt s i)
 
 -- 21 "length no multiple of 8, over 32,768, an unknown kind, an unused field not 0"
 abbrev pub eventCount : List ℕ → ℕ
@@ -47,11 +47,11 @@ abbrev pub isGood : Decoded → Bool
 isGood (Good x) = true
 isGood Bad = false
 
-unfoldable pub recordGood : List ℕ → ℕ → Bool
-recordGood s i = isGood (decodedAt s i)
+unfoldable pub eventGood : List ℕ → ℕ → Bool
+eventGood s i = isGood (decodedAt s i)
 
 unfoldable pub eventsGood : List ℕ → Bool
-eventsGood s = eqb (length s % eventSize) 0 && leb (length s) largestEvents && below (eventCount s) (recordGood s)
+eventsGood s = eqb (length s % eventSize) 0 && leb (length s) largestEvents && below (eventCount s) (eventGood s)
 
 -- the events of good bytes; a bad record, which 21 refuses, reads as a Step
 abbrev pub inputIn : Decoded → Input

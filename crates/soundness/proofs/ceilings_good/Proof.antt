@@ -24,8 +24,8 @@ abbrev μ-loop : tie.MeasureT-loop
 loop-holds : tie.Need-loop-holds Inv-loop μ-loop
 loop-holds c = (search needs, refl, length-take-le _ _ (c .before .pre))
 
-shared-slice-read-in-range : tie.Need-shared-slice-read-in-range Inv-loop μ-loop
-shared-slice-read-in-range c = search needs
+shared-slice-read-t6 : tie.Need-shared-slice-read-t6 Inv-loop μ-loop
+shared-slice-read-t6 c = search needs
 
 in-range-requires : tie.Need-in-range-requires Inv-loop μ-loop
 in-range-requires c κs = search needs
@@ -68,7 +68,7 @@ ceilings-good-spec =
     Inv-loop
     μ-loop
     loop-holds
-    shared-slice-read-in-range
+    shared-slice-read-t6
     in-range-requires
     returns
     add-i

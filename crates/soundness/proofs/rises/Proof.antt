@@ -13,14 +13,14 @@ use Rattle.soundness.proofs.rises.Statement.{statement}
 use Rattle.soundness.proofs.rises.Tie as tie
 
 abbrev Inv-loop : tie.InvT-loop
-Inv-loop held ceilings n t p row size low₀ i₀ low i =
+Inv-loop held ceilings n t row size p i₀ low i =
     (i ≤ size) ×
-    (rising (take n ceilings) p (heldBy held t) ≡ rising (take n ceilings) low (drop i (heldBy held t))) ×
+    (rising (take n ceilings) (p .0) (heldBy held t) ≡ rising (take n ceilings) (low .0) (drop i (heldBy held t))) ×
     (size ≡ length (heldBy held t)) ×
     (size ≤ objectLimit)
 
 abbrev μ-loop : tie.MeasureT-loop
-μ-loop held ceilings n t p row size low₀ i₀ low i = size - i
+μ-loop held ceilings n t row size p i₀ low i = size - i
 
 mul-row : tie.Need-mul-row Inv-loop μ-loop
 mul-row c = search needs
@@ -57,7 +57,7 @@ ceiling-requires c κs = search needs
 
 returns : tie.Need-returns Inv-loop μ-loop
 returns c =
-    let at-ceiling = c .before in
+    let at-ceiling = c .before .before .before in
     let at-loop = at-ceiling .before .before .before in
     let entry = at-loop .before .before .before .before in
     let l = at-loop .loop in
@@ -73,7 +73,7 @@ loop-less c = search needs
 
 loop-again : tie.Need-loop-again Inv-loop μ-loop
 loop-again c =
-    let at-ceiling = c .before in
+    let at-ceiling = c .before .before .before in
     let at-loop = at-ceiling .before .before .before in
     let entry = at-loop .before .before .before .before in
     let l = at-loop .loop in

@@ -7,8 +7,8 @@ use Rattle.memory.proofs.PriorityLaws.{ceiling-none, ceiling-at}
 use Rattle.memory.proofs.priorities.ceiling.Statement.{statement}
 use Rattle.memory.proofs.priorities.ceiling.Tie as tie
 
-shared-slice-read-result : tie.Need-shared-slice-read-result
-shared-slice-read-result c = search needs
+shared-slice-read-t7 : tie.Need-shared-slice-read-t7
+shared-slice-read-t7 c = search needs
 
 returns : tie.Need-returns
 returns c =
@@ -21,4 +21,4 @@ returns-2 c =
     sym (ceiling-none (entry .args .ceilings .now) (entry .args .n) (entry .args .o) (omega arith))
 
 pub ceiling-spec : {M : Type 1} → statement M
-ceiling-spec = tie.close (tie.spec shared-slice-read-result returns returns-2)
+ceiling-spec = tie.close (tie.spec shared-slice-read-t7 returns returns-2)

@@ -13,14 +13,14 @@ use Rattle.memory.proofs.priorities.raised.Statement.{statement}
 use Rattle.memory.proofs.priorities.raised.Tie as tie
 
 abbrev Inv-loop : tie.InvT-loop
-Inv-loop held ceilings n t p row size a₀ i₀ a i =
+Inv-loop held ceilings n t row size p i₀ a i =
     (i ≤ size) ×
-    (highestOf (take n ceilings) p (heldBy held t) ≡ highestOf (take n ceilings) a (drop i (heldBy held t))) ×
+    (highestOf (take n ceilings) (p .0) (heldBy held t) ≡ highestOf (take n ceilings) (a .0) (drop i (heldBy held t))) ×
     (size ≡ length (heldBy held t)) ×
     (size ≤ objectLimit)
 
 abbrev μ-loop : tie.MeasureT-loop
-μ-loop held ceilings n t p row size a₀ i₀ a i = size - i
+μ-loop held ceilings n t row size p i₀ a i = size - i
 
 mul-row : tie.Need-mul-row Inv-loop μ-loop
 mul-row c = search needs
@@ -73,7 +73,7 @@ loop-again c =
     let item = held-item _ (entry .pre .0) (entry .pre .1 .1) (l .i) (omega arith) in
     let top = rw item at (at-ceiling .ceiling .ensures) in (
       search needs,
-      raise-more _ _ _ (l .a) _ (l .i) (omega arith) (c .higher .ensures ∙ rw top) (l .inv .1),
+      raise-more _ _ _ (l .a .0) _ (l .i) (omega arith) (c .higher .ensures ∙ rw top) (l .inv .1),
       l .inv .2,
       l .inv .3,
     )

@@ -21,21 +21,23 @@ highest-requires c κs = search needs
 
 returns-2 : tie.Need-returns-2
 returns-2 c =
-    let c2 = c .before .before in
+    let c1 = c .before .before .before in
+    let c2 = c1 .before in
     let c3 = c2 .before in
     let c4 = c3 .before in
     let c6 = c4 .before .before in
     enter-low (rosterOf (c6 .args .roster .now) .ceilings) _ _ _ _ _ _ _ _ (c4 .has .ensures) (c3 .if1 .left)
-    (c2 .ceiling-of .ensures) (c .before .highest .ensures) (c .if2 .taken)
+    (c2 .ceiling-of .ensures) (c1 .highest .ensures) (c .if2 .taken)
 
 returns-3 : tie.Need-returns-3
 returns-3 c =
-    let c2 = c .before .before in
+    let c1 = c .before .before .before in
+    let c2 = c1 .before in
     let c3 = c2 .before in
     let c4 = c3 .before in
     let c6 = c4 .before .before in
     enter-fits (rosterOf (c6 .args .roster .now) .ceilings) _ _ _ _ _ _ _ _ (c4 .has .ensures) (c3 .if1 .left)
-    (c2 .ceiling-of .ensures) (c .before .highest .ensures) (c .if2 .left)
+    (c2 .ceiling-of .ensures) (c1 .highest .ensures) (c .if2 .left)
 
 pub enter-fault-spec : {M : Type 1} → statement M
 enter-fault-spec =

@@ -14,12 +14,12 @@ use Rattle.roster.proofs.checks.highest.Statement.{statement}
 use Rattle.roster.proofs.checks.highest.Tie as tie
 
 abbrev Inv-loop : tie.InvT-loop
-Inv-loop roster top objects n p₀ i₀ p i =
-    (i ≤ n) × (highestOf (rosterOf roster .ceilings) top (take n objects) ≡ highestOf (rosterOf roster .ceilings) p
+Inv-loop roster objects n top i₀ p i =
+    (i ≤ n) × (highestOf (rosterOf roster .ceilings) (top .0) (take n objects) ≡ highestOf (rosterOf roster .ceilings) (p .0)
     (drop i (take n objects)))
 
 abbrev μ-loop : tie.MeasureT-loop
-μ-loop roster top objects n p₀ i₀ p i = n - i
+μ-loop roster objects n top i₀ p i = n - i
 
 loop-holds : tie.Need-loop-holds Inv-loop μ-loop
 loop-holds c = (omega arith, refl)

@@ -19,7 +19,7 @@ use Rattle.roster.proofs.checks.steps_fault.Tie as tie
 
 abbrev Inv-loop : tie.InvT-loop
 Inv-loop roster part top t n held₀ k₀ held k =
-    (k ≤ n) × (Holds held (heldBefore (stepsOf part) k)) × (first k (faultIn (rosterOf roster .ceilings) top t (stepsOf part)) ≡ Passed)
+    (k ≤ n) × (Holds held (heldBefore (stepsOf part) k)) × (first k (faultIn (rosterOf roster .ceilings) (top .0) t (stepsOf part)) ≡ Passed)
 
 abbrev μ-loop : tie.MeasureT-loop
 μ-loop roster part top t n held₀ k₀ held k = n - k
@@ -50,9 +50,9 @@ returns c =
     let a = c9 .args in
     let cs = rosterOf (a .roster .now) .ceilings in
     let steps = stepsOf (a .part .now) in
-    let v = fault-here cs (a .top) (a .t) steps _ _ _ _ (c5 .loop .inv .1) (c3 .step-at .ensures) (c2 .step-fault .ensures) in
+    let v = fault-here cs (a .top .0) (a .t) steps _ _ _ _ (c5 .loop .inv .1) (c3 .step-at .ensures) (c2 .step-fault .ensures) in
     let low : c5 .loop .k < suc (length steps) = omega (arith, steps-length (a .part .now)) in
-    turn-finds (faultIn cs (a .top) (a .t) steps) _ _ _ _ _ refl low (c5 .loop .inv .2) v (c .before .passed .ensures)
+    turn-finds (faultIn cs (a .top .0) (a .t) steps) _ _ _ _ _ refl low (c5 .loop .inv .2) v (c .before .passed .ensures)
     (not-true _ (c .if1 .taken))
 
 after-requires : tie.Need-after-requires Inv-loop μ-loop
@@ -64,11 +64,11 @@ after-requires c κs =
     let a = c9 .args in
     let cs = rosterOf (a .roster .now) .ceilings in
     let steps = stepsOf (a .part .now) in
-    let v = fault-here cs (a .top) (a .t) steps _ _ _ _ (c5 .loop .inv .1) (c3 .step-at .ensures) (c2 .step-fault .ensures) in
-    let p = turn-passes (faultIn cs (a .top) (a .t) steps) _ _ _ (c5 .loop .inv .2) v (c .before .passed .ensures)
+    let v = fault-here cs (a .top .0) (a .t) steps _ _ _ _ (c5 .loop .inv .1) (c3 .step-at .ensures) (c2 .step-fault .ensures) in
+    let p = turn-passes (faultIn cs (a .top .0) (a .t) steps) _ _ _ (c5 .loop .inv .2) v (c .before .passed .ensures)
     (not-false _ (c .if1 .left)) in (
       c5 .loop .inv .1 .room,
-      after-room _ _ cs (a .top) (a .t) steps (c9 .pre .1) _ _ _ (c9 .pre .0) (c5 .loop .inv .1) (c3 .step-at .ensures) p,
+      after-room _ _ cs (a .top .0) (a .t) steps (c9 .pre .1) _ _ _ (c9 .pre .0) (c5 .loop .inv .1) (c3 .step-at .ensures) p,
     )
 
 add-k : tie.Need-add-k Inv-loop μ-loop
@@ -87,10 +87,10 @@ loop-again c =
     let a = c10 .args in
     let cs = rosterOf (a .roster .now) .ceilings in
     let steps = stepsOf (a .part .now) in
-    let v = fault-here cs (a .top) (a .t) steps _ _ _ _ (c6 .loop .inv .1) (c4 .step-at .ensures) (c3 .step-fault .ensures) in (
+    let v = fault-here cs (a .top .0) (a .t) steps _ _ _ _ (c6 .loop .inv .1) (c4 .step-at .ensures) (c3 .step-fault .ensures) in (
       omega arith,
       held-after steps _ _ _ _ (c6 .loop .inv .1) (c4 .step-at .ensures) (c .after .ensures),
-      turn-passes (faultIn cs (a .top) (a .t) steps) _ _ _ (c6 .loop .inv .2) v (c2 .passed .ensures)
+      turn-passes (faultIn cs (a .top .0) (a .t) steps) _ _ _ (c6 .loop .inv .2) v (c2 .passed .ensures)
           (not-false _ (c .before .if1 .left)),
     )
 
@@ -104,7 +104,7 @@ returns-2 c =
     let steps = stepsOf (a .part .now) in
     let n = stepCount (a .part .now) in
     let end : c .before .before .loop .k ≡ n = omega arith in
-    fault-end cs (a .top) (a .t) steps n _ _ _ (sym (steps-length (a .part .now))) end (c .before .before .loop .inv .1)
+    fault-end cs (a .top .0) (a .t) steps n _ _ _ (sym (steps-length (a .part .now))) end (c .before .before .loop .inv .1)
     (steps-past (a .part .now) n (omega arith)) (c .before .before .loop .inv .2) (c .step-fault2 .ensures)
 
 pub steps-fault-spec : {M : Type 1} → statement M

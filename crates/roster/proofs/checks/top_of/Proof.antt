@@ -13,10 +13,10 @@ use Rattle.roster.proofs.checks.top_of.Statement.{statement}
 use Rattle.roster.proofs.checks.top_of.Tie as tie
 
 abbrev Inv-loop : tie.InvT-loop
-Inv-loop part t base n top₀ k₀ top k = (k ≤ n) × (topOf t base (stepsOf part) ≡ topOf t top (drop k (stepsOf part)))
+Inv-loop part t n base k₀ top k = (k ≤ n) × (topOf t (base .0) (stepsOf part) ≡ topOf t (top .0) (drop k (stepsOf part)))
 
 abbrev μ-loop : tie.MeasureT-loop
-μ-loop part t base n top₀ k₀ top k = n - k
+μ-loop part t n base k₀ top k = n - k
 
 loop-holds : tie.Need-loop-holds Inv-loop μ-loop
 loop-holds c = (omega arith, refl)

@@ -5,11 +5,11 @@ use borrow.Author.Needs.{needs}
 use Rattle.roster.proofs.forms.step_good.Statement.{statement}
 use Rattle.roster.proofs.forms.step_good.Tie as tie
 
-unused-zero-requires : tie.Need-unused-zero-requires
-unused-zero-requires c κs = search needs
+operands-good-requires : tie.Need-operands-good-requires
+operands-good-requires c κs = search needs
 
 returns : tie.Need-returns
-returns c = good-unused _ _ _ _ _ _ _ (c .before .unused-zero .ensures) (not-true _ (c .if1 .taken))
+returns c = good-unused _ _ _ _ _ _ _ (c .before .operands-good .ensures) (not-true _ (c .if1 .taken))
 
 names-listed-requires : tie.Need-names-listed-requires
 names-listed-requires c κs = search needs
@@ -18,7 +18,7 @@ returns-2 : tie.Need-returns-2
 returns-2 c =
     let c2 = c .before .before in
     let c3 = c2 .before in
-    good-unlisted _ _ _ _ _ _ _ _ (c3 .unused-zero .ensures) (not-false _ (c2 .if1 .left)) (c .before .names-listed .ensures)
+    good-unlisted _ _ _ _ _ _ _ _ (c3 .operands-good .ensures) (not-false _ (c2 .if1 .left)) (c .before .names-listed .ensures)
     (not-true _ (c .if2 .taken))
 
 stands-right-requires : tie.Need-stands-right-requires
@@ -29,14 +29,14 @@ returns-3 c =
     let c2 = c .before .before in
     let c3 = c2 .before in
     let c4 = c3 .before in
-    good-rest _ _ _ _ _ _ _ _ _ (c4 .unused-zero .ensures) (not-false _ (c3 .if1 .left))
+    good-rest _ _ _ _ _ _ _ _ _ (c4 .operands-good .ensures) (not-false _ (c3 .if1 .left))
     (c2 .names-listed .ensures) (not-false _ (c .before .if2 .left)) (c .stands-right .ensures)
 
 pub step-good-spec : {M : Type 1} → statement M
 step-good-spec =
     tie.close
     (tie.spec
-    unused-zero-requires
+    operands-good-requires
     returns
     names-listed-requires
     returns-2

@@ -1,0 +1,39 @@
+-- `inputs::decoded_at` meets its contract.
+use Rattle.trace.specs.Inputs.{decodedAt}
+use borrow.Author.Needs.{needs}
+use Rattle.inputs.proofs.decoded_at.Statement.{statement}
+use Rattle.inputs.proofs.decoded_at.Tie as tie
+
+mul-at : tie.Need-mul-at
+mul-at c = search needs
+
+shared-slice-read-kind : tie.Need-shared-slice-read-kind
+shared-slice-read-kind c = search needs
+
+add-a : tie.Need-add-a
+add-a c = search needs
+
+shared-slice-read-a : tie.Need-shared-slice-read-a
+shared-slice-read-a c = search needs
+
+value-at-requires : tie.Need-value-at-requires
+value-at-requires c κs = search needs
+
+decode-requires : tie.Need-decode-requires
+decode-requires c κs = search needs
+
+returns : tie.Need-returns
+unfolding decodedAt
+returns c = cc
+
+pub decoded-at-spec : {M : Type 1} → statement M
+decoded-at-spec =
+    tie.close
+    (tie.spec
+    mul-at
+    shared-slice-read-kind
+    add-a
+    shared-slice-read-a
+    value-at-requires
+    decode-requires
+    returns)
