@@ -7,12 +7,9 @@ use native.Mathlib.Omega.{arith}
 use borrow.Author.Tests.{eq-eqb, ne-eqb, lt-ltb, le-ltb}
 use lib.Dec.{eqb, ltb}
 use lib.ListN.{take}
-use Rattle.rules.specs.Priorities.{inRange, checkedOf}
+use Rattle.rules.specs.Priorities.{inRange}
 use Rattle.rules.specs.declared.Checked.{Checked}
-use Rattle.rules.specs.declared.Checked.the-variants.{Good, OutOfRange}
-use Rattle.rules.specs.declared.Priority.{Priority}
 use Rattle.rules.proofs.Choices.{clash, cond-true, cond-false}
-use Rattle.rules.proofs.PriorityLaws.{checked-good, checked-bad}
 use Rattle.board.specs.declared.Row.{Row}
 use Rattle.board.specs.declared.scan.Best.{Best}
 use Rattle.board.specs.declared.NextAnswer.{NextAnswer}
@@ -94,18 +91,3 @@ first-many rows count h = cond-true (ltb rowLimit count) (toldOf NextAnswer.TooM
 
 pub first-few : (rows : List Row) (count : ℕ) → count ≤ rowLimit → nextFirstOf rows count ≡ nextOf (take count rows)
 first-few rows count h = cond-false (ltb rowLimit count) (toldOf NextAnswer.TooManyRows) _ (le-ltb rowLimit count h)
-
--- what the checked constructor says of the range
-pub checked-in : (n : ℕ) (p : Priority) → checkedOf n ≡ Good p → inRange n ≡ true
-checked-in n p e = go (inRange n) refl
-  where
-    go : (b : Bool) → inRange n ≡ b → inRange n ≡ true
-    go true f = f
-    go false f = absurd (let y : _≡_ {A = ℕ} 0 1 = cc (checked-bad n f) in omega arith)
-
-pub checked-out : (n : ℕ) → checkedOf n ≡ OutOfRange → inRange n ≡ false
-checked-out n e = go (inRange n) refl
-  where
-    go : (b : Bool) → inRange n ≡ b → inRange n ≡ false
-    go false f = f
-    go true f = absurd (let y : _≡_ {A = ℕ} 0 1 = cc (checked-good n f) in omega arith)

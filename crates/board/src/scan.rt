@@ -8,7 +8,6 @@ use crate::NextAnswer;
 use crate::PlaceKind;
 use crate::ROW_LIMIT;
 use crate::Row;
-use rules::Checked;
 use rules::Priority;
 
 // The best of the rows seen so far, with its number; a row that is not ready stands for nobody. `bad` says that a
@@ -59,15 +58,6 @@ fn ready(row: Row) -> bool
     is_ready(kind)
 }
 
-fn in_range(p: Priority) -> bool
-    ensures { λ r. ⌜ r ≡ inRange (p .0) ⌝ }
-{
-    match Priority::checked(p.0 as u64) {
-        Checked::Good(_) => true,
-        Checked::OutOfRange => false,
-    }
-}
-
 // Whether a later row a comes before the best so far, b.
 fn ahead(a: Row, b: Row) -> bool
     ensures { λ r. ⌜ r ≡ aheadOf a b ⌝ }
@@ -93,7 +83,7 @@ fn spoiled(bad: bool, p: Priority) -> bool
     if bad {
         return true;
     }
-    !in_range(p)
+    !p.in_range()
 }
 
 // The best of the rows so far and of row i.

@@ -1,7 +1,7 @@
 // What a caller wants to see of a state, whatever state it is.
 ghost use mathlib.Core.Path.{_≡_};
 ghost use mathlib.Core.List.{map};
-ghost use Prim.Native.Nat.{_+_, _*_, _≤_, _<_, max};
+ghost use Prim.Native.Nat.{_+_, _*_, _≤_, _<_};
 ghost use lib.Dec.{ltb};
 ghost use lib.ListN.{length, take};
 ghost use Rattle.rules.specs.Model.{ceilingOf, highestOf};
@@ -11,7 +11,6 @@ ghost use Rattle.dispatch.specs.State.{level, view};
 ghost use Rattle.dispatch.specs.Readers.{listAt, entryOf, queueOf, recordOf, heldOf, activePriorityOf};
 use crate::Listed;
 use crate::State;
-use crate::test::in_range;
 use memory::sizes::HELD_WIDTH;
 use memory::sizes::OBJECT_LIMIT;
 use memory::sizes::QUEUE_WIDTH;
@@ -46,32 +45,37 @@ fn list_entry(cells: &[u8], width: usize, row: usize, i: u64) -> Listed
     Listed::Nothing
 }
 
-// The higher of p and the ceiling of the object o, of which there are n.
-fn higher(ceilings: [Priority; OBJECT_LIMIT], n: usize, p: u8, o: u8) -> u8
-    ensures { λ r. ⌜ r ≡ max p (ceilingOf (take n (map level ceilings)) o) ⌝ }
+// The ceiling of the object o, of which there are n; 0 for one that is not listed.
+fn ceiling(ceilings: [Priority; OBJECT_LIMIT], n: usize, o: u8) -> Priority
+    ensures { λ r. ⌜ r .0 ≡ ceilingOf (take n (map level ceilings)) o ⌝ }
 {
     let i = o as usize;
     if n <= i {
-        return p;
+        return Priority(0);
     }
     if OBJECT_LIMIT <= i {
-        return p;
+        return Priority(0);
     }
-    let c = ceilings[i];
-    if p < c.0 { c.0 } else { p }
+    ceilings[i]
 }
 
 // The highest of p and the ceilings of the objects in a row.
-fn raised(held: &[u8], ceilings: [Priority; OBJECT_LIMIT], n: usize, row: usize, p: u8) -> u8
+fn raised(
+    held: &[u8],
+    ceilings: [Priority; OBJECT_LIMIT],
+    n: usize,
+    row: usize,
+    p: Priority,
+) -> Priority
     requires { ⌜ row * heldWidth + heldWidth ≤ length (now held) ⌝ }
-    ensures { λ r. ⌜ r ≡ highestOf (take n (map level ceilings)) p (listAt heldWidth row (now (held .entry))) ⌝ }
+    ensures { λ r. ⌜ r .0 ≡ highestOf (take n (map level ceilings)) (p .0) (listAt heldWidth row (now (held .entry))) ⌝ }
 {
     let size = list_length(held, HELD_WIDTH, row);
     let mut a = p;
     let mut i: usize = 0;
     while i < size {
         let o = held[row * HELD_WIDTH + (i + 1)];
-        a = higher(ceilings, n, a, o);
+        a = a.higher(ceiling(ceilings, n, o));
         i += 1;
     }
     a
@@ -100,7 +104,7 @@ impl State {
     pub fn queue_length(self, p: Priority) -> usize
         ensures { λ r. ⌜ r ≡ length (queueOf self p) ⌝ }
     {
-        if in_range(p) {
+        if p.in_range() {
             let queues = self.queues;
             return list_length(&queues, QUEUE_WIDTH, p.0 as usize - 1);
         }
@@ -110,7 +114,7 @@ impl State {
     pub fn queue_entry(self, p: Priority, i: u64) -> Listed
         ensures { λ r. ⌜ r ≡ entryOf (queueOf self p) i ⌝ }
     {
-        if in_range(p) {
+        if p.in_range() {
             let queues = self.queues;
             return list_entry(&queues, QUEUE_WIDTH, p.0 as usize - 1, i);
         }
@@ -167,13 +171,13 @@ impl State {
             let base = k.base;
             let held = self.held;
             let ceilings = self.ceilings;
-            return Priority(raised(
+            return raised(
                 &held,
                 ceilings,
                 self.object_count as usize,
                 t as usize,
-                base.0,
-            ));
+                base,
+            );
         }
         Priority(0)
     }

@@ -29,25 +29,13 @@ fn lengths_good(cells: &[u8], width: usize, n: usize) -> bool
     true
 }
 
-// A priority is in range.
-pub fn in_range(p: Priority) -> bool
-    ensures { λ r. ⌜ r ≡ inRange (p .0) ⌝ }
-{
-    let first = Priority::FIRST;
-    let last = Priority::LAST;
-    if p.0 < first.0 {
-        return false;
-    }
-    p.0 <= last.0
-}
-
 // All numbers of a list are priorities in range.
 pub fn all_in_range(values: &[u8]) -> bool
     ensures { λ r. ⌜ r ≡ allOf inRange (now (values .entry)) ⌝ }
 {
     let mut i: usize = 0;
     while i < values.len() {
-        if in_range(Priority(values[i])) {
+        if Priority(values[i]).in_range() {
             i += 1;
         } else {
             return false;

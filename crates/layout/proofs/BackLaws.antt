@@ -134,7 +134,7 @@ module _ (s : State) (r : List ℕ) (d : Shaped s) (g : Fits s) where
   abbrev whole : List ℕ
   whole = bytesOfState s ++ r
 
-  around-tasks : whole ≡ headBytes s ++ (flatMap taskBytes (s .tasks) ++ (map level (s .ceilings) ++ (s .held ++ (s .queues ++ r))))
+  pub around-tasks : whole ≡ headBytes s ++ (flatMap taskBytes (s .tasks) ++ (map level (s .ceilings) ++ (s .held ++ (s .queues ++ r))))
   unfolding bytesOfState
   around-tasks = simp append-assoc
 

@@ -9,6 +9,8 @@ use lib.Dec.{eqb, ltb}
 use lib.ListN.{length}
 use Rattle.rules.specs.Answers.{numberOf}
 use Rattle.rules.specs.declared.Event.{Event}
+use Rattle.rules.specs.declared.Runner.{Runner}
+use Rattle.rules.specs.declared.Runner.the-variants.{Task}
 use Rattle.rules.specs.declared.Answer.the-variants.{Unsound}
 use Rattle.rules.proofs.Choices.{cond-true, cond-false}
 use Rattle.dispatch.specs.Sound.{soundOf}
@@ -18,9 +20,11 @@ use Rattle.dispatch.specs.declared.State.{State}
 use Rattle.dispatch.specs.declared.Stepped.{Stepped}
 use Rattle.layout.specs.Sizes.{nobodyCode, stateSize}
 use Rattle.layout.specs.Decode.{stateOfBytes}
-use Rattle.layout.specs.Encode.{runnerCode, withState}
+use Rattle.layout.specs.InRange.{readable}
+use Rattle.layout.specs.Encode.{withState}
 use Rattle.layout.proofs.WriteLaws.{state-kept}
-use Rattle.layout.specs.Events.{unlessShort, eventNumber, eventBytes, freshNumber, freshBytes, soundNumber, runningNumber}
+use Rattle.layout.specs.Events.{unlessShort, unlessUnreadable, eventNumber, eventBytes, freshNumber, freshBytes}
+use Rattle.layout.specs.Events.{soundNumber, listedCode, runningNumber}
 
 -- too few bytes, or enough
 pub short-answer : (b : List ℕ) (n : ℕ) → length b < stateSize → unlessShort b n ≡ numberOf Unsound
@@ -29,26 +33,33 @@ short-answer b n h = cond-true (ltb (length b) stateSize) (numberOf Unsound) n (
 pub own-answer : (b : List ℕ) (n : ℕ) → stateSize ≤ length b → unlessShort b n ≡ n
 own-answer b n h = cond-false (ltb (length b) stateSize) (numberOf Unsound) n (le-ltb (length b) stateSize h)
 
+-- unreadable bytes, or readable
+pub unread-answer : (b : List ℕ) (n : ℕ) → readable b ≡ false → unlessUnreadable b n ≡ numberOf Unsound
+unread-answer b n h = cond-false (readable b) n (numberOf Unsound) h
+
+pub read-answer : (b : List ℕ) (n : ℕ) → readable b ≡ true → unlessUnreadable b n ≡ n
+read-answer b n h = cond-true (readable b) n (numberOf Unsound) h
+
 module _ (b : List ℕ) (e : Event) where
   -- bytes stay as they are where the answer is not 0
   pub bytes-kept : (eventNumber b e ≡ 0 → ⊥) → b ≡ eventBytes b e
   unfolding eventBytes
   bytes-kept z = sym (cond-false (eqb (eventNumber b e) 0) (withState (appliedOf (stateOfBytes b) e .state) b) b (ne-eqb _ 0 z))
 
-  short-number : length b < stateSize → eventNumber b e ≡ numberOf Unsound
+  unread-number : readable b ≡ false → eventNumber b e ≡ numberOf Unsound
   unfolding eventNumber
-  short-number h = short-answer b (numberOf (appliedOf (stateOfBytes b) e .answer)) h
+  unread-number h = unread-answer b (numberOf (appliedOf (stateOfBytes b) e .answer)) h
 
-  pub event-short : (n : ℕ) → n ≡ numberOf Unsound → length b < stateSize → (n ≡ eventNumber b e) × (b ≡ eventBytes b e)
-  event-short n i h =
-      let same = short-number h in
+  pub event-unread : (n : ℕ) → n ≡ numberOf Unsound → readable b ≡ false → (n ≡ eventNumber b e) × (b ≡ eventBytes b e)
+  event-unread n i h =
+      let same = unread-number h in
       (i ∙ sym same, bytes-kept (λ z. let clash = sym same ∙ z in omega arith))
 
-  module _ (r : Stepped) (step : r ≡ appliedOf (stateOfBytes b) e) (n : ℕ) (i : n ≡ numberOf (r .answer)) (h : stateSize ≤ length b) where
+  module _ (r : Stepped) (step : r ≡ appliedOf (stateOfBytes b) e) (n : ℕ) (i : n ≡ numberOf (r .answer)) (h : readable b ≡ true) where
     event-number : n ≡ eventNumber b e
     unfolding eventNumber
     event-number =
-        i ∙ (ap (λ (x : Stepped). numberOf (x .answer)) step ∙ sym (own-answer b (numberOf (appliedOf (stateOfBytes b) e .answer)) h))
+        i ∙ (ap (λ (x : Stepped). numberOf (x .answer)) step ∙ sym (read-answer b (numberOf (appliedOf (stateOfBytes b) e .answer)) h))
 
     pub event-refused : (n ≡ 0 → ⊥) → (n ≡ eventNumber b e) × (b ≡ eventBytes b e)
     event-refused z = (event-number, bytes-kept (λ x. z (event-number ∙ x)))
@@ -78,33 +89,40 @@ module _ (s : Setup) (b : List ℕ) (n : ℕ) where
 
 -- the test of soundness
 module _ (b : List ℕ) (n : ℕ) where
-  pub sound-short : n ≡ numberOf Unsound → length b < stateSize → n ≡ soundNumber b
+  pub sound-unread : n ≡ numberOf Unsound → readable b ≡ false → n ≡ soundNumber b
   unfolding soundNumber
-  sound-short i h = i ∙ sym (short-answer b (cond (soundOf (stateOfBytes b)) 0 (numberOf Unsound)) h)
+  sound-unread i h = i ∙ sym (unread-answer b (cond (soundOf (stateOfBytes b)) 0 (numberOf Unsound)) h)
 
-  module _ (h : stateSize ≤ length b) (s : State) (e : s ≡ stateOfBytes b) (t : Bool) (f : t ≡ soundOf s) where
+  module _ (h : readable b ≡ true) (s : State) (e : s ≡ stateOfBytes b) (t : Bool) (f : t ≡ soundOf s) where
     tested : soundOf (stateOfBytes b) ≡ t
     tested = sym (f ∙ ap soundOf e)
 
     pub sound-yes : t ≡ true → 0 ≡ soundNumber b
     unfolding soundNumber
     sound-yes g =
-        sym (own-answer b (cond (soundOf (stateOfBytes b)) 0 (numberOf Unsound)) h ∙ cond-true (soundOf (stateOfBytes b)) 0 _ (tested ∙ g))
+        sym (read-answer b (cond (soundOf (stateOfBytes b)) 0 (numberOf Unsound)) h ∙ cond-true (soundOf (stateOfBytes b)) 0 _ (tested ∙ g))
 
     pub sound-no : n ≡ numberOf Unsound → t ≡ false → n ≡ soundNumber b
     unfolding soundNumber
     sound-no i g =
-        let own = own-answer b (cond (soundOf (stateOfBytes b)) 0 (numberOf Unsound)) h in
+        let own = read-answer b (cond (soundOf (stateOfBytes b)) 0 (numberOf Unsound)) h in
         i ∙ sym (own ∙ cond-false (soundOf (stateOfBytes b)) 0 _ (tested ∙ g))
 
 -- who runs
-pub running-short : (b : List ℕ) → length b < stateSize → nobodyCode ≡ runningNumber b
+pub running-unread : (b : List ℕ) → readable b ≡ false → nobodyCode ≡ runningNumber b
 unfolding runningNumber
-running-short b h = sym (cond-true (ltb (length b) stateSize) nobodyCode _ (lt-ltb (length b) stateSize h))
+running-unread b h = sym (cond-false (readable b) _ nobodyCode h)
 
-pub running-told : (b : List ℕ) (s : State) (n : ℕ) → stateSize ≤ length b → s ≡ stateOfBytes b → n ≡ runnerCode (s .running) →
-    n ≡ runningNumber b
+pub running-told : (b : List ℕ) (s : State) (n : ℕ) → readable b ≡ true → s ≡ stateOfBytes b →
+    n ≡ listedCode (s .«task_count») (s .running) → n ≡ runningNumber b
 unfolding runningNumber
 running-told b s n h e f =
-    f ∙ (ap (λ (x : State). runnerCode (x .running)) e ∙
-    sym (cond-false (ltb (length b) stateSize) nobodyCode _ (le-ltb (length b) stateSize h)))
+    f ∙ (ap (λ (x : State). listedCode (x .«task_count») (x .running)) e ∙ sym (cond-true (readable b) _ nobodyCode h))
+
+pub listed-task : (n t : ℕ) (w : Runner) → w ≡ Task t → t < n → t ≡ listedCode n w
+unfolding listedCode
+listed-task n t w e h = sym (ap (listedCode n) e ∙ cond-true (ltb t n) t nobodyCode (lt-ltb t n h))
+
+pub listed-none : (n t : ℕ) (w : Runner) → w ≡ Task t → n ≤ t → nobodyCode ≡ listedCode n w
+unfolding listedCode
+listed-none n t w e h = sym (ap (listedCode n) e ∙ cond-false (ltb t n) t nobodyCode (le-ltb t n h))

@@ -26,12 +26,12 @@ use Rattle.board.specs.declared.FillAnswer.{FillAnswer}
 use Rattle.board.proofs.StateLaws.{answer-few, answer-unsound, fill-few}
 use Rattle.board.proofs.FillLaws.{rows-length}
 use Rattle.board.proofs.SourceLaws.{tasks-cut, tasks-all}
-use Rattle.layout.specs.Sizes.{stateSize}
+use Rattle.layout.specs.InRange.{readable}
 use Rattle.layout.specs.Decode.{tasksFrom, cellsFrom, stateOfBytes}
 use Rattle.layout.specs.Boards.{rowSize, rowCount, rowBytes, lentOf, fillAnswer, filledBytes}
 use Rattle.words.proofs.TableLaws.{length-tabulate}
 use Rattle.words.proofs.CopyLaws.{sets-over}
-use Rattle.layout.proofs.EventLaws.{short-answer, own-answer}
+use Rattle.layout.proofs.EventLaws.{unread-answer, read-answer}
 use Rattle.layout.proofs.BoardLaws.{rows-size}
 
 -- the rows that are lent
@@ -92,7 +92,7 @@ module _ (s : State) (known : Shaped s) where
 abbrev filledWith : List ℕ → State → List ℕ
 filledWith board s = flatMap rowBytes (rowsOf (view s)) ++ drop (rowSize * length (view s .tasks)) board
 
-module _ (b board : List ℕ) (room : stateSize ≤ length b) (s : State) (e : s ≡ stateOfBytes b) (blank : List Row)
+module _ (b board : List ℕ) (room : readable b ≡ true) (s : State) (e : s ≡ stateOfBytes b) (blank : List Row)
     (size : length blank ≡ rowLimit) (k : ℕ) (lent : k ≡ lentOf (rowCount board)) (a : FillAnswer) (rows : List Row)
     (filled : fillingOf a rows ≡ fillFirstOf s blank k) (n : ℕ) (told : n ≡ fillNumber a) where
   shaped : Shaped s
@@ -117,7 +117,7 @@ module _ (b board : List ℕ) (room : stateSize ≤ length b) (s : State) (e : s
   unfolding fillAnswer
   fill-number =
       told ∙ (number ∙ (ap (λ (x : State). fillNumber (fillAnswerOf x (rowCount board))) e ∙
-      sym (own-answer b (fillNumber (fillAnswerOf (stateOfBytes b) (rowCount board))) room)))
+      sym (read-answer b (fillNumber (fillAnswerOf (stateOfBytes b) (rowCount board))) room)))
 
   pub fill-refused : (n ≡ 0 → ⊥) → (n ≡ fillAnswer b board) × (board ≡ filledBytes b board)
   unfolding filledBytes
@@ -161,10 +161,10 @@ module _ (b board : List ℕ) (room : stateSize ≤ length b) (s : State) (e : s
         let put = f ∙ ap (λ (l : List Row). sets board 0 (flatMap rowBytes l)) same in
         (sym zero-is, put ∙ (front ∙ (ap (filledWith board) e ∙ sym written)))
 
--- too few bytes for a state
-pub fill-short : (b board : List ℕ) (n : ℕ) → n ≡ numberOf Unsound → length b < stateSize →
+-- bytes that are no state's
+pub fill-unread : (b board : List ℕ) (n : ℕ) → n ≡ numberOf Unsound → readable b ≡ false →
     (n ≡ fillAnswer b board) × (board ≡ filledBytes b board)
 unfolding fillAnswer filledBytes
-fill-short b board n i h =
-    let same = short-answer b (fillNumber (fillAnswerOf (stateOfBytes b) (rowCount board))) h in
+fill-unread b board n i h =
+    let same = unread-answer b (fillNumber (fillAnswerOf (stateOfBytes b) (rowCount board))) h in
     (i ∙ sym same, sym (cond-false _ _ board (ne-eqb _ 0 (λ z. let clash = sym same ∙ z in omega arith))))

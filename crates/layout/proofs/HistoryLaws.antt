@@ -36,10 +36,12 @@ use Rattle.dispatch.proofs.FlatLaws.{flat-length}
 use Rattle.dispatch.proofs.EncodeLaws.{held-short, queue-short, held-count}
 use Rattle.layout.specs.Sizes.{stateSize}
 use Rattle.layout.specs.Decode.{stateOfBytes}
+use Rattle.layout.specs.InRange.{readable}
 use Rattle.layout.specs.Encode.{bytesOfState, withState, numberValues, Fits}
 use Rattle.layout.specs.Events.{eventNumber, eventBytes, freshBytes}
 use Rattle.layout.proofs.BackLaws.{state-back}
-use Rattle.layout.proofs.EventLaws.{own-answer}
+use Rattle.layout.proofs.EventLaws.{read-answer}
+use Rattle.layout.proofs.RangeLaws.{read-long, written-readable}
 
 -- the due time of a place that is not delayed is 0
 due-small : (x : Place) → ((d : ℕ) → x ≡ Delayed d → d < numberValues) → dueOf x < numberValues
@@ -95,19 +97,34 @@ module _ (m : Model) (s : sound m ≡ true) where
       ap stateOfBytes (cond-false (ltb (length b) stateSize) b after (le-ltb (length b) stateSize h)) ∙
       state-back (encode m) (drop stateSize b) shaped fits
 
+  pub written-read : (b : List ℕ) → stateSize ≤ length b → readable (withState (encode m) b) ≡ true
+  unfolding withState
+  written-read b h =
+      let after = bytesOfState (encode m) ++ drop stateSize b in
+      ap readable (cond-false (ltb (length b) stateSize) b after (le-ltb (length b) stateSize h)) ∙
+      written-readable (encode m) (drop stateSize b) shaped fits few
+    where
+      few : encode m .«task_count» ≤ taskLimit
+      unfolding encode
+      few = sizes .count
+
 -- after a fresh start
+pub fresh-readable : (s : Setup) (b : List ℕ) → stateSize ≤ length b → readable (freshBytes s b) ≡ true
+unfolding freshBytes freshOf
+fresh-readable s b h = written-read (fresh s .model) (fresh-sound s) b h
+
 pub fresh-back : (s : Setup) (b : List ℕ) → stateSize ≤ length b → stateOfBytes (freshBytes s b) ≡ freshOf s .state
 unfolding freshBytes freshOf
 fresh-back s b h = written-back (fresh s .model) (fresh-sound s) b h
 
 -- after an event
-module _ (b : List ℕ) (e : Event) (h : stateSize ≤ length b) (d : delayFits e ≡ true) where
+module _ (b : List ℕ) (e : Event) (h : readable b ≡ true) (d : delayFits e ≡ true) where
   abbrev s : State
   s = stateOfBytes b
 
   number-is : eventNumber b e ≡ numberOf (appliedOf s e .answer)
   unfolding eventNumber
-  number-is = own-answer b (numberOf (appliedOf s e .answer)) h
+  number-is = read-answer b (numberOf (appliedOf s e .answer)) h
 
   -- what is written where the answer is 0, and what stays
   bytes-are : eventBytes b e ≡ cond (eqb (numberOf (appliedOf s e .answer)) 0) (withState (appliedOf s e .state) b) b
@@ -117,6 +134,21 @@ module _ (b : List ℕ) (e : Event) (h : stateSize ≤ length b) (d : delayFits 
   abbrev Held : Stepped → Type 0
   Held r = stateOfBytes (cond (eqb (numberOf (r .answer)) 0) (withState (r .state) b) b) ≡ r .state
 
+  long : stateSize ≤ length b
+  long = read-long b h
+
+  read-when-sound : soundOf s ≡ true →
+      readable (cond (eqb (numberOf (answered s (apply (view s) e) .answer)) 0) (withState (answered s (apply (view s) e) .state) b) b) ≡ true
+  unfolding answered soundOf
+  read-when-sound g = by-test (eqb (numberOf (apply (view s) e .answer)) 0)
+    where
+      m : Model
+      m = apply (view s) e .model
+
+      by-test : (t : Bool) → readable (cond t (withState (cond t (encode m) s) b) b) ≡ true
+      by-test true = written-read m (sound-kept (view s) e d (and-right (sizesFit s) (sound (view s)) g)) b long
+      by-test false = h
+
   when-sound : soundOf s ≡ true → Held (answered s (apply (view s) e))
   unfolding answered soundOf
   when-sound g = by-test (eqb (numberOf (apply (view s) e .answer)) 0)
@@ -125,8 +157,21 @@ module _ (b : List ℕ) (e : Event) (h : stateSize ≤ length b) (d : delayFits 
       m = apply (view s) e .model
 
       by-test : (t : Bool) → stateOfBytes (cond t (withState (cond t (encode m) s) b) b) ≡ cond t (encode m) s
-      by-test true = written-back m (sound-kept (view s) e d (and-right (sizesFit s) (sound (view s)) g)) b h
+      by-test true = written-back m (sound-kept (view s) e d (and-right (sizesFit s) (sound (view s)) g)) b long
       by-test false = refl
+
+  -- readable bytes stay readable
+  pub event-readable : readable (eventBytes b e) ≡ true
+  unfolding appliedOf
+  event-readable = ap readable bytes-are ∙ both (soundOf s) refl
+    where
+      kept : Stepped → Type 0
+      kept r = readable (cond (eqb (numberOf (r .answer)) 0) (withState (r .state) b) b) ≡ true
+
+      both : (t : Bool) → soundOf s ≡ t → kept (cond t (answered s (apply (view s) e)) (unsound s))
+      unfolding kept
+      both true g = read-when-sound g
+      both false g = h
 
   pub event-back : stateOfBytes (eventBytes b e) ≡ appliedOf s e .state
   unfolding appliedOf

@@ -2,6 +2,7 @@ pub mod ReadLaws
 pub mod PutLaws
 pub mod WriteLaws
 pub mod BackLaws
+pub mod RangeLaws
 pub mod EventLaws
 pub mod HistoryLaws
 pub mod BoardLaws

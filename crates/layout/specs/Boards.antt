@@ -14,7 +14,7 @@ use Rattle.board.specs.declared.Row.{Row}
 use Rattle.layout.specs.Sizes.{nobodyCode, runningCode, readyCode, delayedCode, suspendedCode, endedCode}
 use Rattle.words.specs.Words.{tabulate, byteAt}
 use Rattle.layout.specs.Decode.{stateOfBytes}
-use Rattle.layout.specs.Events.{unlessShort}
+use Rattle.layout.specs.Events.{unlessUnreadable}
 
 abbrev pub rowSize : ℕ
 rowSize = 3
@@ -51,9 +51,9 @@ rowBytes r = kindNumber (r .kind) ∷ (r .priority .0 ∷ (r .position ∷ []))
 abbrev pub lentOf : ℕ → ℕ
 lentOf n = cond (ltb rowLimit n) rowLimit n
 
--- "with an unsound state it answers 10, else with too few rows 13"; so do too few bytes for a state
+-- "with an unsound state it answers 10, else with too few rows 13"; so do too few bytes for a state, and a number out of range
 unfoldable pub fillAnswer : List ℕ → List ℕ → ℕ
-fillAnswer b board = unlessShort b (fillNumber (fillAnswerOf (stateOfBytes b) (rowCount board)))
+fillAnswer b board = unlessUnreadable b (fillNumber (fillAnswerOf (stateOfBytes b) (rowCount board)))
 
 -- "Filling it writes the first rows, one per task, and no others"
 unfoldable pub filledBytes : List ℕ → List ℕ → List ℕ

@@ -24,7 +24,7 @@ use Rattle.layout.specs.Sizes.{tasksStart, ceilingsStart, heldStart, que
 unfoldable pub runnerFrom : ℕ → Runner
 runnerFrom b = cond (eqb b nobodyCode) Nobody (Runs b)
 
--- a kind that is none of the five reads as running, as 0 does: of a task that does not run it makes the state unsound
+-- a kind that is none of the five reads as running; InRange.antt makes such bytes unsound, as it does other flags than 0 and 1
 unfoldable pub placeFrom : ℕ → ℕ → Place
 placeFrom kind due =
     cond (eqb kind readyCode) Ready

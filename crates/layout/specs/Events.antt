@@ -6,6 +6,8 @@ use lib.Dec.{eqb, ltb}
 use lib.ListN.{length}
 use Rattle.rules.specs.Answers.{numberOf}
 use Rattle.rules.specs.declared.Event.{Event}
+use Rattle.rules.specs.declared.Runner.{Runner}
+use Rattle.rules.specs.declared.Runner.the-variants.{Nobody, Task}
 use Rattle.rules.specs.declared.Answer.the-variants.{Unsound}
 use Rattle.dispatch.specs.Sound.{soundOf}
 use Rattle.rules.specs.Fresh.{Setup}
@@ -13,11 +15,16 @@ use Rattle.dispatch.specs.Methods.{appliedOf, freshOf}
 use Rattle.dispatch.specs.declared.State.{State}
 use Rattle.layout.specs.Sizes.{nobodyCode, stateSize}
 use Rattle.layout.specs.Decode.{stateOfBytes}
-use Rattle.layout.specs.Encode.{runnerCode, withState}
+use Rattle.layout.specs.InRange.{readable}
+use Rattle.layout.specs.Encode.{withState}
 
 -- too few bytes for a state answer 10
 abbrev pub unlessShort : List ℕ → ℕ → ℕ
 unlessShort b n = cond (ltb (length b) stateSize) (numberOf Unsound) n
+
+-- .. and so do bytes with a number out of range
+abbrev pub unlessUnreadable : List ℕ → ℕ → ℕ
+unlessUnreadable b n = cond (readable b) n (numberOf Unsound)
 
 -- a state that is written beside the answer 0, "Any refusal returns the state unchanged."
 abbrev pub ifDone : ℕ → State → List ℕ → List ℕ
@@ -25,7 +32,7 @@ ifDone n s b = cond (eqb n 0) (withState s b) b
 
 -- an event
 unfoldable pub eventNumber : List ℕ → Event → ℕ
-eventNumber b e = unlessShort b (numberOf (appliedOf (stateOfBytes b) e .answer))
+eventNumber b e = unlessUnreadable b (numberOf (appliedOf (stateOfBytes b) e .answer))
 
 unfoldable pub eventBytes : List ℕ → Event → List ℕ
 eventBytes b e = ifDone (eventNumber b e) (appliedOf (stateOfBytes b) e .state) b
@@ -39,8 +46,12 @@ freshBytes s b = withState (freshOf s .state) b
 
 -- 0, or 10 for an unsound state
 unfoldable pub soundNumber : List ℕ → ℕ
-soundNumber b = unlessShort b (cond (soundOf (stateOfBytes b)) 0 (numberOf Unsound))
+soundNumber b = unlessUnreadable b (cond (soundOf (stateOfBytes b)) 0 (numberOf Unsound))
 
--- who runs, 255 being nobody
+-- who runs; 255 is nobody, and so is a number that is none of n tasks
+unfoldable pub listedCode : ℕ → Runner → ℕ
+listedCode n Nobody = nobodyCode
+listedCode n (Task t) = cond (ltb t n) t nobodyCode
+
 unfoldable pub runningNumber : List ℕ → ℕ
-runningNumber b = cond (ltb (length b) stateSize) nobodyCode (runnerCode (stateOfBytes b .running))
+runningNumber b = cond (readable b) (listedCode (stateOfBytes b .«task_count») (stateOfBytes b .running)) nobodyCode

@@ -8,12 +8,12 @@ ghost use Rattle.board.specs.Rows.{rowLimit, toldOf};
 ghost use Rattle.layout.specs.Boards.{rowSize, kindFrom, kindNumber, rowFrom, rowsFrom, rowBytes, fillAnswer, filledBytes};
 ghost use Rattle.layout.specs.Boards.{lentOf, rowByte, nextNumber};
 use crate::decode::read;
+use crate::ranges::readable;
 use crate::sizes::DELAYED;
 use crate::sizes::ENDED;
 use crate::sizes::NOBODY;
 use crate::sizes::READY;
 use crate::sizes::RUNNING;
-use crate::sizes::STATE_SIZE;
 use crate::sizes::SUSPENDED;
 use board::NextAnswer;
 use board::PlaceKind;
@@ -115,7 +115,7 @@ pub fn fill(bytes: &[u8], board: &mut [u8]) -> u8
     ensures { λ r. ⌜ r ≡ fillAnswer (now (bytes .entry)) (now (board .entry)) ⌝ }
     ensures { λ r. ⌜ now (board .exit) ≡ filledBytes (now (bytes .entry)) (now (board .entry)) ⌝ }
 {
-    if bytes.len() < STATE_SIZE {
+    if !readable(bytes) {
         return Answer::Unsound.number();
     }
     let state = read(bytes);

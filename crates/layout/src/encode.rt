@@ -47,7 +47,7 @@ fn put_number(out: &mut [u8], at: usize, n: u64)
     }
 }
 
-pub fn runner_code(running: Runner) -> u8
+fn runner_code(running: Runner) -> u8
     ensures { λ r. ⌜ r ≡ runnerCode running ⌝ }
 {
     match running {

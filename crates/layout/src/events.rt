@@ -1,21 +1,22 @@
 // A fresh start and the events, on a state in lent bytes.
 ghost use mathlib.Core.Path.{_≡_};
-ghost use Rattle.layout.specs.Events.{eventNumber, eventBytes, freshNumber, freshBytes, soundNumber, runningNumber};
+ghost use Rattle.layout.specs.Events.{eventNumber, eventBytes, freshNumber, freshBytes, soundNumber, listedCode, runningNumber};
 use crate::decode::read;
-use crate::encode::runner_code;
 use crate::encode::write;
+use crate::ranges::readable;
 use crate::sizes::NOBODY;
 use crate::sizes::STATE_SIZE;
 use dispatch::State;
 use rules::Answer;
 use rules::Event;
+use rules::Runner;
 
 // The state goes on by an event: its bytes are written anew, unless the event is refused.
 pub fn apply(bytes: &mut [u8], event: Event) -> u8
     ensures { λ r. ⌜ r ≡ eventNumber (now (bytes .entry)) event ⌝ }
     ensures { λ r. ⌜ now (bytes .exit) ≡ eventBytes (now (bytes .entry)) event ⌝ }
 {
-    if bytes.len() < STATE_SIZE {
+    if !readable(bytes) {
         return Answer::Unsound.number();
     }
     let state = read(bytes);
@@ -51,7 +52,7 @@ pub fn fresh(bases: &[u8], ceilings: &[u8], bytes: &mut [u8]) -> u8
 pub fn sound(bytes: &[u8]) -> u8
     ensures { λ r. ⌜ r ≡ soundNumber (now (bytes .entry)) ⌝ }
 {
-    if bytes.len() < STATE_SIZE {
+    if !readable(bytes) {
         return Answer::Unsound.number();
     }
     let state = read(bytes);
@@ -61,14 +62,24 @@ pub fn sound(bytes: &[u8]) -> u8
     Answer::Unsound.number()
 }
 
+// The number of a runner that is one of n tasks, or 255.
+fn listed_code(n: u8, running: Runner) -> u8
+    ensures { λ r. ⌜ r ≡ listedCode n running ⌝ }
+{
+    match running {
+        Runner::Nobody => NOBODY,
+        Runner::Task(t) => if t < n { t } else { NOBODY },
+    }
+}
+
 // Who runs, 255 being nobody.
 pub fn running(bytes: &[u8]) -> u8
     ensures { λ r. ⌜ r ≡ runningNumber (now (bytes .entry)) ⌝ }
 {
-    if bytes.len() < STATE_SIZE {
+    if !readable(bytes) {
         return NOBODY;
     }
     let state = read(bytes);
     let runner = state.running;
-    runner_code(runner)
+    listed_code(state.task_count, runner)
 }

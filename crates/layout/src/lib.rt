@@ -5,6 +5,7 @@ mod boards;
 mod decode;
 mod encode;
 mod events;
+mod ranges;
 mod sizes;
 
 pub use boards::fill;

@@ -21,7 +21,8 @@ fn read_bases(roster: &[u8], bases: &mut [u8])
     let n = fields::task_count(roster);
     let mut t: u8 = 0;
     while t < n {
-        bases[t as usize] = fields::base_of(roster, t);
+        let base = fields::base_of(roster, t);
+        bases[t as usize] = base.0;
         t += 1;
     }
 }
@@ -34,7 +35,8 @@ fn read_ceilings(roster: &[u8], ceilings: &mut [u8])
     let n = fields::object_count(roster);
     let mut o: u8 = 0;
     while o < n {
-        ceilings[o as usize] = fields::ceiling_of(roster, o);
+        let ceiling = fields::ceiling_of(roster, o);
+        ceilings[o as usize] = ceiling.0;
         o += 1;
     }
 }

@@ -1,5 +1,5 @@
 -- `dispatch::readers::raised` meets its contract.
-use mathlib.Core.Path.{_≡_, refl}
+use mathlib.Core.Path.{_≡_, refl, _∙_}
 use mathlib.Core.List.{map}
 use Prim.Native.Nat.{_-_, _≤_}
 use native.Mathlib.Omega.{arith}
@@ -16,14 +16,14 @@ use Rattle.dispatch.proofs.readers.raised.Statement.{statement}
 use Rattle.dispatch.proofs.readers.raised.Tie as tie
 
 abbrev Inv-loop : tie.InvT-loop
-Inv-loop held ceilings n row p size a₀ i₀ a i =
+Inv-loop held ceilings n row size p i₀ a i =
     (i ≤ size) ×
-    (highestOf (take n (map level ceilings)) p (listAt heldWidth row held) ≡
-    highestOf (take n (map level ceilings)) a (drop i (listAt heldWidth row held))) ×
+    (highestOf (take n (map level ceilings)) (p .0) (listAt heldWidth row held) ≡
+    highestOf (take n (map level ceilings)) (a .0) (drop i (listAt heldWidth row held))) ×
     (size ≡ length (listAt heldWidth row held)) × (size ≤ objectLimit)
 
 abbrev μ-loop : tie.MeasureT-loop
-μ-loop held ceilings n row p size a₀ i₀ a i = size - i
+μ-loop held ceilings n row size p i₀ a i = size - i
 
 list-length-requires : tie.Need-list-length-requires Inv-loop μ-loop
 list-length-requires c κs = (omega arith, c .before .pre)
@@ -47,6 +47,9 @@ add-o-2 c = search needs
 shared-slice-read-o : tie.Need-shared-slice-read-o Inv-loop μ-loop
 shared-slice-read-o c = search needs
 
+ceiling-requires : tie.Need-ceiling-requires Inv-loop μ-loop
+ceiling-requires c κs = search needs
+
 higher-requires : tie.Need-higher-requires Inv-loop μ-loop
 higher-requires c κs = search needs
 
@@ -58,11 +61,13 @@ loop-less c = search needs
 
 loop-again : tie.Need-loop-again Inv-loop μ-loop
 loop-again c =
-    let l = c .before .before .before .loop in
-    let a = c .before .before .before .before .before .before in
-    let item = list-entry heldWidth (a .args .row) (a .args .held .now) (omega arith) (a .pre) (l .i) (omega arith) in (
+    let at-ceiling = c .before in
+    let l = at-ceiling .before .before .before .loop in
+    let a = at-ceiling .before .before .before .before .before .before in
+    let item = list-entry heldWidth (a .args .row) (a .args .held .now) (omega arith) (a .pre) (l .i) (omega arith) in
+    let top = rw item at (at-ceiling .ceiling .ensures) in (
       search needs,
-      raise-more _ _ _ (l .a) _ (l .i) (omega arith) (rw item at (c .higher .ensures)) (l .inv .1),
+      raise-more _ _ _ (l .a .0) _ (l .i) (omega arith) (c .higher .ensures ∙ rw top) (l .inv .1),
       l .inv .2,
       l .inv .3,
     )
@@ -84,6 +89,7 @@ raised-spec =
     add-o
     add-o-2
     shared-slice-read-o
+    ceiling-requires
     higher-requires
     add-i
     loop-less

@@ -1,18 +1,24 @@
 -- `layout::boards::fill` meets its contract.
-use mathlib.Core.Path.{refl}
+use mathlib.Core.Path.{refl, _∙_, sym}
+use borrow.Author.Tests.{not-true, not-false}
 use native.Mathlib.Omega.{arith}
-use Rattle.layout.proofs.FilledLaws.{blankRows, fill-short, fill-refused, fill-room, fill-done}
+use Rattle.layout.proofs.FilledLaws.{blankRows, fill-unread, fill-refused, fill-room, fill-done}
 use borrow.Author.Needs.{needs}
 use Rattle.layout.proofs.boards.fill.Statement.{statement}
 use Rattle.layout.proofs.boards.fill.Tie as tie
+
+readable-requires : tie.Need-readable-requires
+readable-requires c κs = search needs
 
 number-requires : tie.Need-number-requires
 number-requires c κs = search needs
 
 returns : tie.Need-returns
 returns c =
-    let a = c .before .before .before .before .args in
-    fill-short (a .bytes .now) (a .board .now) _ (c .number .ensures) (omega arith)
+    let i = c .before in
+    let t = i .before in
+    let a = t .before .before .before .args in
+    fill-unread (a .bytes .now) (a .board .now) _ (c .number .ensures) (sym (t .readable .ensures) ∙ not-true _ (i .if1 .taken))
 
 read-requires : tie.Need-read-requires
 read-requires c κs = search needs
@@ -32,8 +38,11 @@ returns-2 c =
     let f = n .before in
     let l = f .before in
     let r = l .before in
-    let a = r .before .before .before .before .args in
-    let refused = fill-refused (a .bytes .now) (a .board .now) (omega arith) _ (r .read .ensures) blankRows refl _ (l .lent .ensures) in
+    let j = r .before .before in
+    let t = j .before in
+    let a = t .before .before .before .args in
+    let ok = sym (t .readable .ensures) ∙ not-false _ (j .if1 .left) in
+    let refused = fill-refused (a .bytes .now) (a .board .now) ok _ (r .read .ensures) blankRows refl _ (l .lent .ensures) in
     refused (f .fill-first .result .answer) (f .fill-first .result .rows) (f .fill-first .ensures) _ (n .number2 .ensures) (c .if2 .taken)
 
 cast-put-rows : tie.Need-cast-put-rows
@@ -45,8 +54,11 @@ put-rows-requires c κs =
     let f = n .before in
     let l = f .before in
     let r = l .before in
-    let a = r .before .before .before .before .args in
-    let room = fill-room (a .bytes .now) (a .board .now) (omega arith) _ (r .read .ensures) blankRows refl _ (l .lent .ensures) in
+    let j = r .before .before in
+    let t = j .before in
+    let a = t .before .before .before .args in
+    let ok = sym (t .readable .ensures) ∙ not-false _ (j .if1 .left) in
+    let room = fill-room (a .bytes .now) (a .board .now) ok _ (r .read .ensures) blankRows refl _ (l .lent .ensures) in
     room (f .fill-first .result .answer) (f .fill-first .result .rows) (f .fill-first .ensures) _ (n .number2 .ensures) (omega arith)
 
 same-length : tie.Need-same-length
@@ -60,8 +72,11 @@ returns-3 c =
     let f = n .before in
     let l = f .before in
     let r = l .before in
-    let a = r .before .before .before .before .args in
-    let done = fill-done (a .bytes .now) (a .board .now) (omega arith) _ (r .read .ensures) blankRows refl _ (l .lent .ensures) in
+    let j = r .before .before in
+    let t = j .before in
+    let a = t .before .before .before .args in
+    let ok = sym (t .readable .ensures) ∙ not-false _ (j .if1 .left) in
+    let done = fill-done (a .bytes .now) (a .board .now) ok _ (r .read .ensures) blankRows refl _ (l .lent .ensures) in
     let x = f .fill-first in
     done (x .result .answer) (x .result .rows) (x .ensures) _ (n .number2 .ensures) (omega (arith, i .if2 .left)) _ (p .put-rows .ensures)
 
@@ -69,6 +84,7 @@ pub fill-spec : {M : Type 1} → statement M
 fill-spec =
     tie.close
     (tie.spec
+    readable-requires
     number-requires
     returns
     read-requires

@@ -1,20 +1,26 @@
 -- `layout::events::apply` meets its contract.
 use native.Mathlib.Omega.{arith}
-use mathlib.Core.Path.{_∙_, ap}
+use borrow.Author.Tests.{not-true, not-false}
+use mathlib.Core.Path.{_∙_, ap, sym}
 use Rattle.dispatch.specs.Methods.{appliedOf}
 use Rattle.dispatch.specs.declared.State.{State}
-use Rattle.layout.proofs.EventLaws.{event-short, event-refused, event-done}
+use Rattle.layout.proofs.EventLaws.{event-unread, event-refused, event-done}
 use borrow.Author.Needs.{needs}
 use Rattle.layout.proofs.events.apply.Statement.{statement}
 use Rattle.layout.proofs.events.apply.Tie as tie
+
+readable-requires : tie.Need-readable-requires
+readable-requires c κs = search needs
 
 number-requires : tie.Need-number-requires
 number-requires c κs = search needs
 
 returns : tie.Need-returns
 returns c =
-    let a = c .before .before .before .args in
-    event-short (a .bytes .now) (a .event) _ (c .number .ensures) (omega arith)
+    let i = c .before in
+    let t = i .before in
+    let a = t .before .before .args in
+    event-unread (a .bytes .now) (a .event) _ (c .number .ensures) (sym (t .readable .ensures) ∙ not-true _ (i .if1 .taken))
 
 read-requires : tie.Need-read-requires
 read-requires c κs = search needs
@@ -32,9 +38,12 @@ returns-2 : tie.Need-returns-2
 returns-2 c =
     let n = c .before in
     let r = n .before .before in
-    let a = r .before .before .before .before .args in
+    let j = r .before .before in
+    let t = j .before in
+    let a = t .before .before .args in
+    let ok = sym (t .readable .ensures) ∙ not-false _ (j .if1 .left) in
     let step = n .before .applied .ensures ∙ ap (λ (x : State). appliedOf x (a .event)) (r .read .ensures) in
-    event-refused (a .bytes .now) (a .event) _ step _ (n .number2 .ensures) (omega arith) (λ z. c .if2 .taken (omega arith))
+    event-refused (a .bytes .now) (a .event) _ step _ (n .number2 .ensures) ok (λ z. c .if2 .taken (omega arith))
 
 write-requires : tie.Need-write-requires
 write-requires c κs = search needs
@@ -48,14 +57,18 @@ returns-3 c =
     let i = w .before .before .before in
     let n = i .before in
     let r = n .before .before in
-    let a = r .before .before .before .before .args in
+    let j = r .before .before in
+    let t = j .before in
+    let a = t .before .before .args in
+    let ok = sym (t .readable .ensures) ∙ not-false _ (j .if1 .left) in
     let step = n .before .applied .ensures ∙ ap (λ (x : State). appliedOf x (a .event)) (r .read .ensures) in
-    event-done (a .bytes .now) (a .event) _ step _ (n .number2 .ensures) (omega arith) _ (omega arith) (w .write .ensures)
+    event-done (a .bytes .now) (a .event) _ step _ (n .number2 .ensures) ok _ (omega arith) (w .write .ensures)
 
 pub apply-spec : {M : Type 1} → statement M
 apply-spec =
     tie.close
     (tie.spec
+    readable-requires
     number-requires
     returns
     read-requires

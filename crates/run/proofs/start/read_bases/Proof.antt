@@ -47,7 +47,7 @@ loop-again c =
     let a = c6 .args in
     let t = c2 .loop .t in
     let list = rosterOf (a .roster .now) .bases in
-    let step = copy-turn (a .bases .now) list 0 (c2 .loop .bases) t t (c .base-of .result) (t + 1) (t + 1) in
+    let step = copy-turn (a .bases .now) list 0 (c2 .loop .bases) t t (c .base-of .result .0) (t + 1) (t + 1) in
     let listed = base-count (a .roster .now) in (
       omega arith,
       simp length-set (c2 .loop .inv .1),

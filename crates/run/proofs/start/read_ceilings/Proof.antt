@@ -48,7 +48,7 @@ loop-again c =
     let a = c6 .args in
     let o = c2 .loop .o in
     let list = rosterOf (a .roster .now) .ceilings in
-    let step = copy-turn (a .ceilings .now) list 0 (c2 .loop .ceilings) o o (c .ceiling-of .result) (o + 1) (o + 1) in
+    let step = copy-turn (a .ceilings .now) list 0 (c2 .loop .ceilings) o o (c .ceiling-of .result .0) (o + 1) (o + 1) in
     let listed = ceiling-count (a .roster .now) in (
       omega arith,
       simp length-set (c2 .loop .inv .1),
