@@ -97,16 +97,16 @@ module _ (m : Model) (s : sound m ≡ true) where
       ap stateOfBytes (cond-false (ltb (length b) stateSize) b after (le-ltb (length b) stateSize h)) ∙
       state-back (encode m) (drop stateSize b) shaped fits
 
+  few : encode m .«task_count» ≤ taskLimit
+  unfolding encode
+  few = sizes .count
+
   pub written-read : (b : List ℕ) → stateSize ≤ length b → readable (withState (encode m) b) ≡ true
   unfolding withState
   written-read b h =
       let after = bytesOfState (encode m) ++ drop stateSize b in
       ap readable (cond-false (ltb (length b) stateSize) b after (le-ltb (length b) stateSize h)) ∙
       written-readable (encode m) (drop stateSize b) shaped fits few
-    where
-      few : encode m .«task_count» ≤ taskLimit
-      unfolding encode
-      few = sizes .count
 
 -- after a fresh start
 pub fresh-readable : (s : Setup) (b : List ℕ) → stateSize ≤ length b → readable (freshBytes s b) ≡ true
@@ -137,8 +137,10 @@ module _ (b : List ℕ) (e : Event) (h : readable b ≡ true) (d : delayFits e �
   long : stateSize ≤ length b
   long = read-long b h
 
-  read-when-sound : soundOf s ≡ true →
-      readable (cond (eqb (numberOf (answered s (apply (view s) e) .answer)) 0) (withState (answered s (apply (view s) e) .state) b) b) ≡ true
+  abbrev Kept : Stepped → Type 0
+  Kept r = readable (cond (eqb (numberOf (r .answer)) 0) (withState (r .state) b) b) ≡ true
+
+  read-when-sound : soundOf s ≡ true → Kept (answered s (apply (view s) e))
   unfolding answered soundOf
   read-when-sound g = by-test (eqb (numberOf (apply (view s) e .answer)) 0)
     where
@@ -165,11 +167,7 @@ module _ (b : List ℕ) (e : Event) (h : readable b ≡ true) (d : delayFits e �
   unfolding appliedOf
   event-readable = ap readable bytes-are ∙ both (soundOf s) refl
     where
-      kept : Stepped → Type 0
-      kept r = readable (cond (eqb (numberOf (r .answer)) 0) (withState (r .state) b) b) ≡ true
-
-      both : (t : Bool) → soundOf s ≡ t → kept (cond t (answered s (apply (view s) e)) (unsound s))
-      unfolding kept
+      both : (t : Bool) → soundOf s ≡ t → Kept (cond t (answered s (apply (view s) e)) (unsound s))
       both true g = read-when-sound g
       both false g = h
 

@@ -110,8 +110,14 @@ bit-small false = refl
 row-here : (p r : List ℕ) (n : ℕ) → length p ≡ n → (k : Task) → rowInRange (p ++ (taskBytes k ++ r)) n ≡ true
 unfolding rowInRange taskBytes lowBytes taskTail
 row-here p r n e k =
-    let at = λ (j : ℕ). byte-behind p (taskBytes k ++ r) n e j (n + j) refl in
-    rw (at kindOffset, at waitsOffset, at permitOffset, kind-small (k .place), waits-small (k .waiting), bit-small (k .permit))
+    rw (
+      byte-behind p (taskBytes k ++ r) n e kindOffset (n + kindOffset) refl,
+      byte-behind p (taskBytes k ++ r) n e waitsOffset (n + waitsOffset) refl,
+      byte-behind p (taskBytes k ++ r) n e permitOffset (n + permitOffset) refl,
+      kind-small (k .place),
+      waits-small (k .waiting),
+      bit-small (k .permit),
+    )
 
 rows-here : (ks : List Task) (p r : List ℕ) (n t : ℕ) → length p ≡ n → t < length ks →
     rowInRange (p ++ (flatMap taskBytes ks ++ r)) (n + taskSize * t) ≡ true

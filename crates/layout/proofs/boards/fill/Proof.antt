@@ -38,7 +38,7 @@ returns-2 c =
     let f = n .before in
     let l = f .before in
     let r = l .before in
-    let j = r .before .before in
+    let j = r .before in
     let t = j .before in
     let a = t .before .before .before .args in
     let ok = sym (t .readable .ensures) ∙ not-false _ (j .if1 .left) in
@@ -50,16 +50,17 @@ cast-put-rows c = search needs
 
 put-rows-requires : tie.Need-put-rows-requires
 put-rows-requires c κs =
-    let n = c .before .before .before .before in
+    let i = c .before .before .before in
+    let n = i .before in
     let f = n .before in
     let l = f .before in
     let r = l .before in
-    let j = r .before .before in
+    let j = r .before in
     let t = j .before in
     let a = t .before .before .before .args in
     let ok = sym (t .readable .ensures) ∙ not-false _ (j .if1 .left) in
     let room = fill-room (a .bytes .now) (a .board .now) ok _ (r .read .ensures) blankRows refl _ (l .lent .ensures) in
-    room (f .fill-first .result .answer) (f .fill-first .result .rows) (f .fill-first .ensures) _ (n .number2 .ensures) (omega arith)
+    room (f .fill-first .result .answer) (f .fill-first .result .rows) (f .fill-first .ensures) _ (n .number2 .ensures) (omega (arith, i .if2 .left))
 
 same-length : tie.Need-same-length
 same-length c = search needs
@@ -72,7 +73,7 @@ returns-3 c =
     let f = n .before in
     let l = f .before in
     let r = l .before in
-    let j = r .before .before in
+    let j = r .before in
     let t = j .before in
     let a = t .before .before .before .args in
     let ok = sym (t .readable .ensures) ∙ not-false _ (j .if1 .left) in

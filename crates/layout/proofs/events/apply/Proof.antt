@@ -15,11 +15,14 @@ readable-requires c κs = search needs
 number-requires : tie.Need-number-requires
 number-requires c κs = search needs
 
+same-length : tie.Need-same-length
+same-length c = search needs
+
 returns : tie.Need-returns
 returns c =
     let i = c .before in
     let t = i .before in
-    let a = t .before .before .args in
+    let a = t .before .before .before .args in
     event-unread (a .bytes .now) (a .event) _ (c .number .ensures) (sym (t .readable .ensures) ∙ not-true _ (i .if1 .taken))
 
 read-requires : tie.Need-read-requires
@@ -31,8 +34,8 @@ applied-requires c κs = search needs
 number-requires-2 : tie.Need-number-requires-2
 number-requires-2 c κs = search needs
 
-same-length : tie.Need-same-length
-same-length c = search needs
+same-length-2 : tie.Need-same-length-2
+same-length-2 c = search needs
 
 returns-2 : tie.Need-returns-2
 returns-2 c =
@@ -40,7 +43,7 @@ returns-2 c =
     let r = n .before .before in
     let j = r .before .before in
     let t = j .before in
-    let a = t .before .before .args in
+    let a = t .before .before .before .args in
     let ok = sym (t .readable .ensures) ∙ not-false _ (j .if1 .left) in
     let step = n .before .applied .ensures ∙ ap (λ (x : State). appliedOf x (a .event)) (r .read .ensures) in
     event-refused (a .bytes .now) (a .event) _ step _ (n .number2 .ensures) ok (λ z. c .if2 .taken (omega arith))
@@ -48,8 +51,8 @@ returns-2 c =
 write-requires : tie.Need-write-requires
 write-requires c κs = search needs
 
-same-length-2 : tie.Need-same-length-2
-same-length-2 c = search needs
+same-length-3 : tie.Need-same-length-3
+same-length-3 c = search needs
 
 returns-3 : tie.Need-returns-3
 returns-3 c =
@@ -59,7 +62,7 @@ returns-3 c =
     let r = n .before .before in
     let j = r .before .before in
     let t = j .before in
-    let a = t .before .before .args in
+    let a = t .before .before .before .args in
     let ok = sym (t .readable .ensures) ∙ not-false _ (j .if1 .left) in
     let step = n .before .applied .ensures ∙ ap (λ (x : State). appliedOf x (a .event)) (r .read .ensures) in
     event-done (a .bytes .now) (a .event) _ step _ (n .number2 .ensures) ok _ (omega arith) (w .write .ensures)
@@ -70,12 +73,13 @@ apply-spec =
     (tie.spec
     readable-requires
     number-requires
+    same-length
     returns
     read-requires
     applied-requires
     number-requires-2
-    same-length
+    same-length-2
     returns-2
     write-requires
-    same-length-2
+    same-length-3
     returns-3)

@@ -23,7 +23,7 @@ listed-code-requires c κs = search needs
 returns-2 : tie.Need-returns-2
 returns-2 c =
     let r = c .before in
-    let j = r .before .before in
+    let j = r .before in
     let k = j .before in
     let a = k .before .before .args in
     let ok = sym (k .readable .ensures) ∙ not-false _ (j .if1 .left) in

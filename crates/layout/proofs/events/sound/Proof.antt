@@ -28,7 +28,7 @@ returns-2 : tie.Need-returns-2
 returns-2 c =
     let t = c .before in
     let r = t .before in
-    let j = r .before .before in
+    let j = r .before in
     let k = j .before in
     let a = k .before .before .args in
     let ok = sym (k .readable .ensures) ∙ not-false _ (j .if1 .left) in
@@ -41,7 +41,7 @@ returns-3 : tie.Need-returns-3
 returns-3 c =
     let t = c .before .before in
     let r = t .before in
-    let j = r .before .before in
+    let j = r .before in
     let k = j .before in
     let a = k .before .before .args in
     let ok = sym (k .readable .ensures) ∙ not-false _ (j .if1 .left) in
