@@ -1,2 +1,3 @@
 pub mod StartLaws
 pub mod PackLaws
+pub mod SaidLaws

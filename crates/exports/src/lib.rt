@@ -10,6 +10,7 @@ ghost use Rattle.trace.specs.Run.{answerOf, bufferOf};
 ghost use Rattle.exports.specs.Packed.{packed, packedVerdict, packedRun, scriptStart};
 
 mod boards;
+mod readers;
 mod states;
 
 fn pack(number: u8, task: u8, position: usize) -> u64

@@ -1,9 +1,21 @@
 // A state in lent bytes: its fresh start, its events, its test and who runs. The layout is crate layout's.
 ghost use mathlib.Core.Path.{_≡_};
 ghost use Rattle.rules.specs.declared.Event.the-variants.{Enter, Leave, Delay, Suspend, Release, Clock, Set, Work, Finish};
+ghost use Rattle.exports.specs.Said.{saidPriority};
 ghost use Rattle.layout.specs.Events.{eventNumber, eventBytes, freshNumber, freshBytes, soundNumber, runningNumber};
+use rules::Checked;
 use rules::Event;
 use rules::Priority;
+
+// A number as a priority; 0, which is none, for a number that is none.
+fn said_priority(value: u64) -> Priority
+    ensures { λ r. ⌜ r ≡ saidPriority value ⌝ }
+{
+    match Priority::checked(value) {
+        Checked::Good(p) => p,
+        Checked::OutOfRange => Priority(0),
+    }
+}
 
 // The fresh state of bases and ceilings: 0, 13 or 15, the state being written each time; 10, and nothing, into too few bytes.
 #[no_mangle]
@@ -66,11 +78,11 @@ pub extern "C" fn dispatch_clock(state: &mut [u8], reading: u64) -> u8
 }
 
 #[no_mangle]
-pub extern "C" fn dispatch_set(state: &mut [u8], task: u64, priority: u8) -> u8
-    ensures { λ r. ⌜ r ≡ eventNumber (now (state .entry)) (Set task (record { 0 = priority })) ⌝ }
-    ensures { λ r. ⌜ now (state .exit) ≡ eventBytes (now (state .entry)) (Set task (record { 0 = priority })) ⌝ }
+pub extern "C" fn dispatch_set(state: &mut [u8], task: u64, priority: u64) -> u8
+    ensures { λ r. ⌜ r ≡ eventNumber (now (state .entry)) (Set task (saidPriority priority)) ⌝ }
+    ensures { λ r. ⌜ now (state .exit) ≡ eventBytes (now (state .entry)) (Set task (saidPriority priority)) ⌝ }
 {
-    layout::apply(state, Event::Set(task, Priority(priority)))
+    layout::apply(state, Event::Set(task, said_priority(priority)))
 }
 
 #[no_mangle]
@@ -97,7 +109,7 @@ pub extern "C" fn dispatch_sound(state: &[u8]) -> u8
     layout::sound(state)
 }
 
-// Who runs; 255 is nobody, or too few bytes.
+// Who runs; 255 is nobody, and where the bytes are no state's or name no listed task.
 #[no_mangle]
 pub extern "C" fn dispatch_running(state: &[u8]) -> u8
     ensures { λ r. ⌜ r ≡ runningNumber (now (state .entry)) ⌝ }

@@ -37,7 +37,7 @@ first-low f zero most h = omega arith
 first-low f (suc n) most h =
     either (passed (first n f)) (f n) (first n f) most (h n (omega arith)) (first-low f n most (λ i g. h i (omega arith)))
 
-part-low : (s : List ℕ) (t : ℕ) → stepCount (partAt s t) ≤ length s
+pub part-low : (s : List ℕ) (t : ℕ) → stepCount (partAt s t) ≤ length s
 unfolding partAt
 part-low s t =
     omega (arith, length-take (lengthAt s t) (drop (startAt s t) s), length-drop (startAt s t) s)

@@ -1,31 +1,35 @@
 -- Laws of the readers of a roster, by the ways of the code: what is found, and what is refused.
-use mathlib.Core.Path.{_≡_, ap, sym, _∙_}
+use mathlib.Core.Path.{_≡_, refl, ap, sym, _∙_}
 use mathlib.Core.Bool.{Bool, true, false, cond}
 use mathlib.Core.List.{List, []}
 use Prim.Native.Nat.{ℕ, _/_, _≤_, _<_}
 use native.Mathlib.Omega.{arith}
-use borrow.Author.Tests.{ltb-true, lt-ltb, le-ltb}
-use lib.Dec.{ltb}
+use borrow.Author.Tests.{leb-true, ltb-true, lt-ltb, le-ltb}
+use lib.Dec.{leb, ltb}
 use lib.ListN.{length}
 use Rattle.rules.specs.Model.{ceilingOf}
+use Rattle.rules.proofs.Choices.{and-right}
 use Rattle.rules.specs.declared.Priority.{Priority}
-use Rattle.format.specs.Limits.{stepSize}
+use Rattle.format.specs.Limits.{smallestRoster, largestRoster, stepSize}
 use Rattle.format.specs.Answers.{passed}
 use Rattle.format.specs.Format.{objectCount, partAt}
 use Rattle.format.specs.Steps.{stepsOf, stepIn}
 use Rattle.format.specs.Roster.{rosterOf, baseOf, scriptOf}
-use Rattle.format.specs.Form.{formOf, scriptAnswer, scriptPart}
+use Rattle.format.specs.Form.{lengthGood, formOf, scriptAnswer, scriptPart}
 use Rattle.format.specs.Readers.{objectAnswer, baseFound, ceilingFound, countFound, stepFound}
 use Rattle.format.specs.declared.Step.{Step}
 use Rattle.format.specs.declared.Verdict.{Verdict}
 use Rattle.format.specs.declared.Verdict.the-variants.{Passed, NoSuchObject}
 use Rattle.format.specs.declared.PriorityFound.the-variants as P
+use Rattle.format.specs.declared.CountFound.{CountFound}
 use Rattle.format.specs.declared.CountFound.the-variants as N
 use Rattle.format.specs.declared.StepFound.the-variants as S
 use Rattle.format.proofs.TestLaws.{truth, by-test, passed-is}
 use Rattle.format.proofs.StepLaws.{steps-length}
 use Rattle.format.proofs.FormatLaws.{script-listed}
-use Rattle.format.proofs.AnswerLaws.{answered-task, answered}
+use Rattle.format.proofs.AnswerLaws.{answered-form, answered-task, answered}
+use Rattle.format.proofs.PositionLaws.{part-low}
+use Rattle.format.proofs.FormedLaws.{formed}
 
 -- a choice, by its test
 chosen : {A : Type 0} (x : Bool) (y n z : A) → x ≡ true → z ≡ y → z ≡ cond x y n
@@ -119,3 +123,34 @@ module _ (s : List ℕ) where
     pub step-refused : (k : ℕ) → b ≡ false → S.Refused v ≡ stepFound s t k
     unfolding stepFound
     step-refused k g = other (passed (scriptAnswer s t)) _ _ _ (no g) (ap S.Refused e)
+
+-- how many steps there can be
+countIn : CountFound → ℕ
+countIn (N.Found n) = n
+countIn (N.Refused v) = 0
+
+module _ (s : List ℕ) (t : ℕ) where
+  size-low : lengthGood s ≡ true → length s ≤ largestRoster
+  unfolding lengthGood
+  size-low e =
+      leb-true (length s) largestRoster (and-right (leb smallestRoster (length s)) (leb (length s) largestRoster) e)
+
+  steps-low : passed (scriptAnswer s t) ≡ true → length (scriptOf (rosterOf s) t) ≤ largestRoster
+  steps-low g =
+      omega (
+        arith,
+        ap length (script-listed s t (answered-task s t g)),
+        steps-length (partAt s t),
+        part-low s t,
+        size-low (formed s (answered-form s t g) .size),
+      )
+
+  chosen-low : (b : Bool) → passed (scriptAnswer s t) ≡ b →
+      countIn (cond b (N.Found (length (scriptOf (rosterOf s) t))) (N.Refused (scriptAnswer s t))) ≤ largestRoster
+  unfolding countIn
+  chosen-low true g = steps-low g
+  chosen-low false g = omega arith
+
+  pub count-small : (n : ℕ) → countFound s t ≡ N.Found n → n ≤ largestRoster
+  unfolding countFound countIn
+  count-small n e = rw (sym (ap countIn e)) (chosen-low (passed (scriptAnswer s t)) refl)
