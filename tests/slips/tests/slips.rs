@@ -105,8 +105,8 @@ fn a_check_that_forgets_set_values_after_the_enter() {
         },
         events: "step ∷ step ∷ step ∷ step ∷ step ∷ []",
         // the fifth step, an Enter above the ceiling, is refused although task 0 runs
-        proof: "let i = s .refused (step ∷ step ∷ step ∷ step ∷ []) [] refl .only \
-                (λ d. let z : _≡_ {A = ℕ} 0 1 = cc in omega arith) in \
+        proof: "let i = s .refused (step ∷ step ∷ step ∷ step ∷ []) [] refl .0 \
+                (record { is = λ d. let z : _≡_ {A = ℕ} 0 1 = cc in omega arith }) in \
                 let n = i .nobody in let z : _≡_ {A = ℕ} 0 1 = cc in omega arith",
     };
     let (is, text) = accepted("later_set_values_forgotten", &[edit], &case);
