@@ -29,8 +29,8 @@ package Dispatcher with Preelaborate is
       Bad_Step,
       While_Held,
       Low_Ceiling,
-      Leaves_Other,
-      Sets_Other,
+      Script_Not_Innermost,
+      Other_Task,
       Bad_Events,
       Short_Buffer);
 
