@@ -6,15 +6,163 @@ with System;
 package body Dispatcher is
 
    --  The address of a slice without elements is never followed, but it must not be null.
-   Nowhere : aliased Unsigned_8 := 0;
+   Nowhere : aliased constant Unsigned_8 := 0;
 
    function Start (B : Bytes) return System.Address is
      (if B'Length = 0 then Nowhere'Address else B (B'First)'Address);
 
+   function Start (B : Board) return System.Address is
+     (if B'Length = 0 then Nowhere'Address else B (B'First)'Address);
+
+   function Answered (Number : Unsigned_8) return Answer is (Answer'Val (Number));
+
+   --  The number of an answer that packs more, and what stands above it.
+   function Number_In (Packed : Unsigned_64) return Answer is (Answer'Val (Packed mod 256));
+   function Value_In (Packed : Unsigned_64) return Unsigned_64 is (Packed / 256);
+
    function Unpacked (Packed : Unsigned_64) return Verdict is
-     (Number      => Unsigned_8 (Packed mod 256),
-      Task_Number => Unsigned_8 ((Packed / 256) mod 256),
-      Step        => Packed / 65536);
+     (Number  => Number_In (Packed),
+      At_Task => Task_Number (Value_In (Packed) mod 256),
+      At_Step => Step_Number (Packed / 65536));
+
+   --  A list as bytes for a fresh start. What is over 255 is no priority, nor is 255; a list of more than Count_Limit elements is
+   --  too long, and so is one of Count_Limit.
+   Count_Limit : constant := Task_Limit + 1;
+   subtype Short is Bytes (1 .. Count_Limit);
+
+   function Length_Of (List : Priority_List) return Natural is (Natural'Min (List'Length, Count_Limit));
+
+   function Shortened (List : Priority_List) return Short is
+      Result : Short := (others => 0);
+   begin
+      for I in 1 .. Length_Of (List) loop
+         Result (I) := Unsigned_8 (Priority'Min (List (List'First + (I - 1)), 255));
+      end loop;
+      return Result;
+   end Shortened;
+
+   procedure Fresh (Bases : Priority_List; Ceilings : Priority_List; S : out State; Result : out Answer) is
+      function Call
+        (Bases    : System.Address;
+         Tasks    : size_t;
+         Ceilings : System.Address;
+         Objects  : size_t;
+         S        : System.Address;
+         Length   : size_t) return Unsigned_8
+        with Import, Convention => C, External_Name => "dispatch_fresh";
+      B : constant Short := Shortened (Bases);
+      C : constant Short := Shortened (Ceilings);
+   begin
+      Result :=
+        Answered
+          (Call
+             (B'Address, size_t (Length_Of (Bases)), C'Address, size_t (Length_Of (Ceilings)), S'Address, S'Length));
+   end Fresh;
+
+   procedure Enter (S : in out State; Object : Object_Number; Result : out Answer) is
+      function Call (S : System.Address; Length : size_t; Object : Unsigned_64) return Unsigned_8
+        with Import, Convention => C, External_Name => "dispatch_enter";
+   begin
+      Result := Answered (Call (S'Address, S'Length, Unsigned_64 (Object)));
+   end Enter;
+
+   procedure Leave (S : in out State; Object : Object_Number; Result : out Answer) is
+      function Call (S : System.Address; Length : size_t; Object : Unsigned_64) return Unsigned_8
+        with Import, Convention => C, External_Name => "dispatch_leave";
+   begin
+      Result := Answered (Call (S'Address, S'Length, Unsigned_64 (Object)));
+   end Leave;
+
+   procedure Delay_For (S : in out State; Length : Ticks; Result : out Answer) is
+      function Call (S : System.Address; Length : size_t; D : Unsigned_16) return Unsigned_8
+        with Import, Convention => C, External_Name => "dispatch_delay";
+   begin
+      Result := Answered (Call (S'Address, S'Length, Unsigned_16 (Length)));
+   end Delay_For;
+
+   procedure Suspend (S : in out State; Result : out Answer) is
+      function Call (S : System.Address; Length : size_t) return Unsigned_8
+        with Import, Convention => C, External_Name => "dispatch_suspend";
+   begin
+      Result := Answered (Call (S'Address, S'Length));
+   end Suspend;
+
+   procedure Release (S : in out State; T : Task_Number; Result : out Answer) is
+      function Call (S : System.Address; Length : size_t; T : Unsigned_64) return Unsigned_8
+        with Import, Convention => C, External_Name => "dispatch_release";
+   begin
+      Result := Answered (Call (S'Address, S'Length, Unsigned_64 (T)));
+   end Release;
+
+   procedure Clock (S : in out State; Now : Reading; Result : out Answer) is
+      function Call (S : System.Address; Length : size_t; Now : Unsigned_64) return Unsigned_8
+        with Import, Convention => C, External_Name => "dispatch_clock";
+   begin
+      Result := Answered (Call (S'Address, S'Length, Unsigned_64 (Now)));
+   end Clock;
+
+   procedure Set_Base (S : in out State; T : Task_Number; Base : Priority; Result : out Answer) is
+      function Call
+        (S : System.Address; Length : size_t; T : Unsigned_64; P : Unsigned_64) return Unsigned_8
+        with Import, Convention => C, External_Name => "dispatch_set";
+   begin
+      Result := Answered (Call (S'Address, S'Length, Unsigned_64 (T), Unsigned_64 (Base)));
+   end Set_Base;
+
+   procedure Work (S : in out State; Result : out Answer) is
+      function Call (S : System.Address; Length : size_t) return Unsigned_8
+        with Import, Convention => C, External_Name => "dispatch_work";
+   begin
+      Result := Answered (Call (S'Address, S'Length));
+   end Work;
+
+   procedure Finish (S : in out State; Result : out Answer) is
+      function Call (S : System.Address; Length : size_t) return Unsigned_8
+        with Import, Convention => C, External_Name => "dispatch_finish";
+   begin
+      Result := Answered (Call (S'Address, S'Length));
+   end Finish;
+
+   function Is_Sound (S : State) return Boolean is
+      function Call (S : System.Address; Length : size_t) return Unsigned_8
+        with Import, Convention => C, External_Name => "dispatch_sound";
+   begin
+      return Answered (Call (S'Address, S'Length)) = Done;
+   end Is_Sound;
+
+   function Running (S : State) return Task_Number is
+      function Call (S : System.Address; Length : size_t) return Unsigned_8
+        with Import, Convention => C, External_Name => "dispatch_running";
+   begin
+      return Task_Number (Call (S'Address, S'Length));
+   end Running;
+
+   pragma Warnings (Off, "formal parameter * is not modified");
+   pragma Warnings (Off, "mode could be ""in"" instead of ""in out""");
+
+   procedure Fill (S : State; B : in out Board; Result : out Answer) is
+      function Call
+        (S : System.Address; Length : size_t; B : System.Address; Board_Length : size_t) return Unsigned_8
+        with Import, Convention => C, External_Name => "dispatch_fill";
+   begin
+      Result := Answered (Call (S'Address, S'Length, Start (B), 3 * B'Length));
+   end Fill;
+
+   procedure Next (B : Board; Row : out Row_Number; Result : out Answer) is
+      function Call (B : System.Address; Length : size_t) return Unsigned_64
+        with Import, Convention => C, External_Name => "dispatch_next";
+      Packed : constant Unsigned_64 := Call (Start (B), 3 * B'Length);
+   begin
+      Row := Row_Number (Value_In (Packed));
+      Result := Number_In (Packed);
+   end Next;
+
+   function Form (Roster : Bytes) return Verdict is
+      function Call (Roster : System.Address; Length : size_t) return Unsigned_64
+        with Import, Convention => C, External_Name => "dispatch_form";
+   begin
+      return Unpacked (Call (Start (Roster), Roster'Length));
+   end Form;
 
    function Check (Roster : Bytes) return Verdict is
       function Call (Roster : System.Address; Length : size_t) return Unsigned_64
@@ -23,8 +171,60 @@ package body Dispatcher is
       return Unpacked (Call (Start (Roster), Roster'Length));
    end Check;
 
-   pragma Warnings (Off, "formal parameter ""Buffer"" is not modified");
-   pragma Warnings (Off, "mode could be ""in"" instead of ""in out""");
+   procedure Base_Of (Roster : Bytes; T : Task_Number; Base : out Priority; Result : out Answer) is
+      function Call (Roster : System.Address; Length : size_t; T : Unsigned_64) return Unsigned_64
+        with Import, Convention => C, External_Name => "dispatch_base";
+      Packed : constant Unsigned_64 := Call (Start (Roster), Roster'Length, Unsigned_64 (T));
+   begin
+      Base := Priority (Value_In (Packed));
+      Result := Number_In (Packed);
+   end Base_Of;
+
+   procedure Ceiling_Of (Roster : Bytes; Object : Object_Number; Ceiling : out Priority; Result : out Answer) is
+      function Call (Roster : System.Address; Length : size_t; Object : Unsigned_64) return Unsigned_64
+        with Import, Convention => C, External_Name => "dispatch_ceiling";
+      Packed : constant Unsigned_64 := Call (Start (Roster), Roster'Length, Unsigned_64 (Object));
+   begin
+      Ceiling := Priority (Value_In (Packed));
+      Result := Number_In (Packed);
+   end Ceiling_Of;
+
+   procedure Step_Count (Roster : Bytes; T : Task_Number; Count : out Step_Number; Result : out Answer) is
+      function Call (Roster : System.Address; Length : size_t; T : Unsigned_64) return Unsigned_64
+        with Import, Convention => C, External_Name => "dispatch_step_count";
+      Packed : constant Unsigned_64 := Call (Start (Roster), Roster'Length, Unsigned_64 (T));
+   begin
+      Count := Step_Number (Value_In (Packed));
+      Result := Number_In (Packed);
+   end Step_Count;
+
+   procedure Script (Roster : Bytes; T : Task_Number; Start : out Natural; Length : out Natural; Result : out Answer) is
+      function Number_Call (Roster : System.Address; Length : size_t; T : Unsigned_64) return Unsigned_8
+        with Import, Convention => C, External_Name => "dispatch_script_number";
+      function Start_Call (Roster : System.Address; Length : size_t; T : Unsigned_64) return Unsigned_64
+        with Import, Convention => C, External_Name => "dispatch_script_start";
+      function Length_Call (Roster : System.Address; Length : size_t; T : Unsigned_64) return Unsigned_64
+        with Import, Convention => C, External_Name => "dispatch_script_length";
+      From : constant System.Address := Dispatcher.Start (Roster);
+   begin
+      Start := Natural (Start_Call (From, Roster'Length, Unsigned_64 (T)));
+      Length := Natural (Length_Call (From, Roster'Length, Unsigned_64 (T)));
+      Result := Answered (Number_Call (From, Roster'Length, Unsigned_64 (T)));
+   end Script;
+
+   procedure Step_Of (Roster : Bytes; T : Task_Number; K : Step_Number; Found : out Step; Result : out Answer) is
+      function Call
+        (Roster : System.Address; Length : size_t; T : Unsigned_64; K : Unsigned_64) return Unsigned_64
+        with Import, Convention => C, External_Name => "dispatch_step";
+      Packed : constant Unsigned_64 := Call (Start (Roster), Roster'Length, Unsigned_64 (T), Unsigned_64 (K));
+   begin
+      Found :=
+        (Code => Step_Code'Val ((Packed / 2**8) mod 2**8),
+         A    => Unsigned_8 ((Packed / 2**16) mod 2**8),
+         B    => Unsigned_16 ((Packed / 2**24) mod 2**16));
+      Result := Number_In (Packed);
+   end Step_Of;
+
    procedure Run (Roster : Bytes; Events : Bytes; Buffer : in out Bytes; Result : out Verdict) is
       function Call
         (Roster        : System.Address;
@@ -40,99 +240,5 @@ package body Dispatcher is
           (Call
              (Start (Roster), Roster'Length, Start (Events), Events'Length, Start (Buffer), Buffer'Length));
    end Run;
-
-   procedure Fresh (Bases : Bytes; Ceilings : Bytes; S : out State; Result : out Answer) is
-      function Call
-        (Bases    : System.Address;
-         Tasks    : size_t;
-         Ceilings : System.Address;
-         Objects  : size_t;
-         S        : System.Address;
-         Length   : size_t) return Unsigned_8
-        with Import, Convention => C, External_Name => "dispatch_fresh";
-   begin
-      Result :=
-        Call (Start (Bases), Bases'Length, Start (Ceilings), Ceilings'Length, S'Address, S'Length);
-   end Fresh;
-
-   procedure Enter (S : in out State; Object : Unsigned_64; Result : out Answer) is
-      function Call (S : System.Address; Length : size_t; Object : Unsigned_64) return Unsigned_8
-        with Import, Convention => C, External_Name => "dispatch_enter";
-   begin
-      Result := Call (S'Address, S'Length, Object);
-   end Enter;
-
-   procedure Leave (S : in out State; Object : Unsigned_64; Result : out Answer) is
-      function Call (S : System.Address; Length : size_t; Object : Unsigned_64) return Unsigned_8
-        with Import, Convention => C, External_Name => "dispatch_leave";
-   begin
-      Result := Call (S'Address, S'Length, Object);
-   end Leave;
-
-   procedure Delay_For (S : in out State; Ticks : Unsigned_16; Result : out Answer) is
-      function Call (S : System.Address; Length : size_t; Ticks : Unsigned_16) return Unsigned_8
-        with Import, Convention => C, External_Name => "dispatch_delay";
-   begin
-      Result := Call (S'Address, S'Length, Ticks);
-   end Delay_For;
-
-   procedure Suspend (S : in out State; Result : out Answer) is
-      function Call (S : System.Address; Length : size_t) return Unsigned_8
-        with Import, Convention => C, External_Name => "dispatch_suspend";
-   begin
-      Result := Call (S'Address, S'Length);
-   end Suspend;
-
-   procedure Release (S : in out State; Task_Number : Unsigned_64; Result : out Answer) is
-      function Call (S : System.Address; Length : size_t; T : Unsigned_64) return Unsigned_8
-        with Import, Convention => C, External_Name => "dispatch_release";
-   begin
-      Result := Call (S'Address, S'Length, Task_Number);
-   end Release;
-
-   procedure Clock (S : in out State; Reading : Unsigned_64; Result : out Answer) is
-      function Call (S : System.Address; Length : size_t; Reading : Unsigned_64) return Unsigned_8
-        with Import, Convention => C, External_Name => "dispatch_clock";
-   begin
-      Result := Call (S'Address, S'Length, Reading);
-   end Clock;
-
-   procedure Set_Base
-     (S : in out State; Task_Number : Unsigned_64; Priority : Unsigned_8; Result : out Answer)
-   is
-      function Call
-        (S : System.Address; Length : size_t; T : Unsigned_64; P : Unsigned_8) return Unsigned_8
-        with Import, Convention => C, External_Name => "dispatch_set";
-   begin
-      Result := Call (S'Address, S'Length, Task_Number, Priority);
-   end Set_Base;
-
-   procedure Work (S : in out State; Result : out Answer) is
-      function Call (S : System.Address; Length : size_t) return Unsigned_8
-        with Import, Convention => C, External_Name => "dispatch_work";
-   begin
-      Result := Call (S'Address, S'Length);
-   end Work;
-
-   procedure Finish (S : in out State; Result : out Answer) is
-      function Call (S : System.Address; Length : size_t) return Unsigned_8
-        with Import, Convention => C, External_Name => "dispatch_finish";
-   begin
-      Result := Call (S'Address, S'Length);
-   end Finish;
-
-   function Is_Sound (S : State) return Boolean is
-      function Call (S : System.Address; Length : size_t) return Unsigned_8
-        with Import, Convention => C, External_Name => "dispatch_sound";
-   begin
-      return Call (S'Address, S'Length) = Done;
-   end Is_Sound;
-
-   function Running (S : State) return Unsigned_8 is
-      function Call (S : System.Address; Length : size_t) return Unsigned_8
-        with Import, Convention => C, External_Name => "dispatch_running";
-   begin
-      return Call (S'Address, S'Length);
-   end Running;
 
 end Dispatcher;

@@ -1,50 +1,144 @@
 --  The dispatcher's functions for Ada, over libexports.a (rt staticlib exports).
 --
 --  Every function answers for any bytes of any length. An event whose answer is not Done leaves the state as it was.
+--  Numbers of different kinds have different types. Each is as wide as a caller can need: one that is out of the dispatcher's
+--  range is taken and refused by the dispatcher's own rule, never cut. Only a Delay's ticks end at 16 bits.
 
 with Interfaces; use Interfaces;
 
-package Dispatcher is
+package Dispatcher with Preelaborate is
+
+   --  The answers, in the order of their numbers in README.md's table: Answer'Pos is the number.
+   type Answer is
+     (Done,
+      No_Such_Task,
+      No_Such_Object,
+      Bad_Priority,
+      Bad_Reading,
+      Nobody_Runs,
+      Ended_Task,
+      Inside_Action,
+      Above_Ceiling,
+      Not_Innermost,
+      Unsound,
+      Bad_Length,
+      Bad_Mark,
+      Bad_Counts,
+      Bad_Layout,
+      Bad_Values,
+      Bad_Step,
+      While_Held,
+      Low_Ceiling,
+      Script_Not_Innermost,
+      Other_Task,
+      Bad_Events,
+      Short_Buffer);
+
+   type Task_Number is mod 2**64;
+   type Object_Number is mod 2**64;
+   type Step_Number is mod 2**64;
+   type Row_Number is mod 2**64;
+
+   --  1 to 32 are priorities; 1 to 30 are Ada's Priority, 31 and 32 its Interrupt_Priority.
+   type Priority is mod 2**64;
+   First_Priority   : constant Priority := 1;
+   Last_Priority    : constant Priority := 32;
+   Default_Priority : constant Priority := 15;
+
+   --  A clock reading, in ticks.
+   type Reading is mod 2**64;
+   Last_Reading : constant Reading := 281_474_976_710_655;
+
+   --  How long a Delay is. A larger number raises Constraint_Error, and as a static value is told by the compiler.
+   type Ticks is range 0 .. 65_535;
+
+   Task_Limit   : constant := 32;
+   Object_Limit : constant := 16;
+
+   --  The running task where nobody runs, and the row where nobody is next.
+   Nobody     : constant Task_Number := 255;
+   Nobody_Row : constant Row_Number := 255;
 
    type Bytes is array (Natural range <>) of aliased Unsigned_8;
 
-   --  A state as bytes; docs/LAYOUT.md has the layout.
+   --  A state as bytes; docs/LAYOUT.md has the layout. Any bytes are a state, though few are sound.
    State_Size : constant := 2144;
-   subtype State is Bytes (0 .. State_Size - 1);
+   type State is new Bytes (0 .. State_Size - 1);
 
-   --  A number of the table of answers in README.md.
-   subtype Answer is Unsigned_8;
-   Done : constant Answer := 0;
+   --  Bases by task, ceilings by object.
+   type Priority_List is array (Natural range <>) of Priority;
+   Empty : constant Priority_List (1 .. 0) := (others => 0);
 
-   Nobody : constant Unsigned_8 := 255;
+   --  The fresh start: Done, Bad_Counts or Bad_Values, and the state beside it.
+   procedure Fresh (Bases : Priority_List; Ceilings : Priority_List; S : out State; Result : out Answer);
 
-   --  What a roster's check or a run answers; the place is 0, 0 unless a fault is named.
-   type Verdict is record
-      Number : Answer;
-      Task_Number : Unsigned_8;
-      Step : Unsigned_64;
-   end record;
-
-   function Check (Roster : Bytes) return Verdict;
-
-   --  Two bytes per event into Buffer: the answer, and the running task or Nobody.
-   procedure Run (Roster : Bytes; Events : Bytes; Buffer : in out Bytes; Result : out Verdict);
-
-   procedure Fresh (Bases : Bytes; Ceilings : Bytes; S : out State; Result : out Answer);
-
-   procedure Enter (S : in out State; Object : Unsigned_64; Result : out Answer);
-   procedure Leave (S : in out State; Object : Unsigned_64; Result : out Answer);
-   procedure Delay_For (S : in out State; Ticks : Unsigned_16; Result : out Answer);
+   --  The events.
+   procedure Enter (S : in out State; Object : Object_Number; Result : out Answer);
+   procedure Leave (S : in out State; Object : Object_Number; Result : out Answer);
+   procedure Delay_For (S : in out State; Length : Ticks; Result : out Answer);
    procedure Suspend (S : in out State; Result : out Answer);
-   procedure Release (S : in out State; Task_Number : Unsigned_64; Result : out Answer);
-   procedure Clock (S : in out State; Reading : Unsigned_64; Result : out Answer);
-   procedure Set_Base (S : in out State; Task_Number : Unsigned_64; Priority : Unsigned_8; Result : out Answer);
+   procedure Release (S : in out State; T : Task_Number; Result : out Answer);
+   procedure Clock (S : in out State; Now : Reading; Result : out Answer);
+   procedure Set_Base (S : in out State; T : Task_Number; Base : Priority; Result : out Answer);
    procedure Work (S : in out State; Result : out Answer);
    procedure Finish (S : in out State; Result : out Answer);
 
    function Is_Sound (S : State) return Boolean;
 
    --  The running task, or Nobody.
-   function Running (S : State) return Unsigned_8;
+   function Running (S : State) return Task_Number;
+
+   --  A board has one row per task. A row says where the task is, its active priority, and its position in its ready queue.
+   type Place is (Is_Running, Is_Ready, Is_Delayed, Is_Suspended, Is_Ended) with Size => 8;
+   type Active_Priority is mod 2**8;
+   type Queue_Position is mod 2**8;
+   type Row is record
+      Kind     : Place;
+      Active   : Active_Priority;
+      Position : Queue_Position;
+   end record with Size => 24;
+   for Row use record
+      Kind     at 0 range 0 .. 7;
+      Active   at 1 range 0 .. 7;
+      Position at 2 range 0 .. 7;
+   end record;
+   type Board is array (Natural range <>) of Row with Component_Size => 24;
+
+   --  Fills the first rows, one per task, and no others: Done; or Unsound, then Bad_Counts for too few rows, and nothing.
+   procedure Fill (S : State; B : in out Board; Result : out Answer);
+
+   --  The next row, counted from 0, or Nobody_Row; refused with Bad_Counts or Bad_Priority, and Nobody_Row beside it.
+   procedure Next (B : Board; Row : out Row_Number; Result : out Answer);
+
+   --  What a roster's form or check or a run answers; the place is 0, 0 unless a fault is named.
+   type Verdict is record
+      Number  : Answer;
+      At_Task : Task_Number;
+      At_Step : Step_Number;
+   end record;
+
+   function Form (Roster : Bytes) return Verdict;
+   function Check (Roster : Bytes) return Verdict;
+
+   --  What a roster says: Done and a value, or Bad_Length to Bad_Step, then No_Such_Task or No_Such_Object, and 0.
+   procedure Base_Of (Roster : Bytes; T : Task_Number; Base : out Priority; Result : out Answer);
+   procedure Ceiling_Of (Roster : Bytes; Object : Object_Number; Ceiling : out Priority; Result : out Answer);
+   procedure Step_Count (Roster : Bytes; T : Task_Number; Count : out Step_Number; Result : out Answer);
+
+   --  Where a task's script stands in the roster, in bytes from its first; on a refusal it starts at 0 and is empty.
+   procedure Script (Roster : Bytes; T : Task_Number; Start : out Natural; Length : out Natural; Result : out Answer);
+
+   --  A step of a script, its code and operands; docs/FORMAT.md has them. At and past the script's end it is Finish_Step.
+   type Step_Code is
+     (Finish_Step, Enter_Step, Leave_Step, Delay_Step, Work_Step, Suspend_Step, Release_Step, Set_Step, Again_Step);
+   type Step is record
+      Code : Step_Code;
+      A    : Unsigned_8;
+      B    : Unsigned_16;
+   end record;
+   procedure Step_Of (Roster : Bytes; T : Task_Number; K : Step_Number; Found : out Step; Result : out Answer);
+
+   --  Two bytes per event into Buffer: the number of the answer, and the running task or 255. A refused run writes nothing.
+   procedure Run (Roster : Bytes; Events : Bytes; Buffer : in out Bytes; Result : out Verdict);
 
 end Dispatcher;

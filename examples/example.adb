@@ -1,4 +1,4 @@
---  The marked cases A and B, and a clock reading that goes backwards, through the Ada package.
+--  A caller of every kind of function through the Ada package: a state and its events, a board, a roster's check and readers, a run.
 
 with Ada.Text_IO; use Ada.Text_IO;
 with Dispatcher; use Dispatcher;
@@ -6,26 +6,111 @@ with Interfaces; use Interfaces;
 
 procedure Example is
 
+   --  The roster and the events of docs/FORMAT.md: two tasks, one protected object, eleven events.
+   Roster : constant Bytes :=
+     (1, 0, 0, 0, 4, 0, 0, 0, 2, 0, 0, 0,
+      3, 0, 5, 0, 1, 0, 0, 0, 2, 0, 0, 0,
+      10, 0, 0, 0, 12, 0,
+      20, 0, 12, 0, 12, 0,
+      20, 0,
+      16#52#, 16#35#, 2, 1, 36, 0, 24, 0);
+   One_Step : constant Bytes := (3, 0, 0, 0, 0, 0, 0, 0);
+   Clock_5  : constant Bytes := (1, 0, 5, 0, 0, 0, 0, 0);
+   Clock_4  : constant Bytes := (1, 0, 4, 0, 0, 0, 0, 0);
+   Events   : constant Bytes :=
+     One_Step & One_Step & Clock_5 & One_Step & One_Step & One_Step & Clock_4 & One_Step & One_Step & One_Step & One_Step;
+
    S : State;
    Result : Answer;
-   No_Objects : constant Bytes (1 .. 0) := (others => 0);
 
    procedure Show (Event : String) is
       Runner : constant String :=
-        (if Running (S) = Nobody then " nobody" else Unsigned_8'Image (Running (S)));
+        (if Running (S) = Nobody then " nobody" else Task_Number'Image (Running (S)));
    begin
-      Put_Line (Event & ":" & Answer'Image (Result) & ", running" & Runner);
+      Put_Line (Event & ":" & Integer'Image (Answer'Pos (Result)) & ", running" & Runner);
    end Show;
 
+   procedure Show (Call : String; V : Verdict) is
+   begin
+      Put_Line
+        (Call & ":" & Integer'Image (Answer'Pos (V.Number)) & ", task" & Task_Number'Image (V.At_Task)
+         & ", step" & Step_Number'Image (V.At_Step));
+   end Show;
+
+   procedure Show_Step (K : Step_Number) is
+      Found : Step;
+   begin
+      Step_Of (Roster, 1, K, Found, Result);
+      Put_Line
+        ("step" & Step_Number'Image (K) & " of task 1: code" & Integer'Image (Step_Code'Pos (Found.Code))
+         & ", a" & Unsigned_8'Image (Found.A) & ", b" & Unsigned_16'Image (Found.B));
+   end Show_Step;
+
+   --  The marked cases A and B, a base that is none, and a reading that goes backwards.
+   procedure State_And_Board is
+      B    : Board (0 .. 2);
+      Head : Row_Number;
+   begin
+      Fresh ((10, 20, 10), Empty, S, Result);
+      Show ("fresh 10 20 10");
+      Set_Base (S, T => 1, Base => 10, Result => Result);
+      Show ("set 1 to 10");
+      Set_Base (S, T => 1, Base => 257, Result => Result);
+      Show ("set 1 to 257");
+      Clock (S, 5, Result);
+      Show ("clock 5");
+      Clock (S, 4, Result);
+      Show ("clock 4");
+      Finish (S, Result);
+      Show ("finish");
+
+      Fill (S, B, Result);
+      Put_Line ("fill:" & Integer'Image (Answer'Pos (Result)));
+      for I in B'Range loop
+         Put_Line
+           ("row" & Integer'Image (I) & ": place" & Integer'Image (Place'Pos (B (I).Kind))
+            & ", priority" & Active_Priority'Image (B (I).Active) & ", position" & Queue_Position'Image (B (I).Position));
+      end loop;
+      Next (B, Head, Result);
+      Put_Line ("next:" & Integer'Image (Answer'Pos (Result)) & ", row" & Row_Number'Image (Head));
+   end State_And_Board;
+
+   procedure Roster_And_Run is
+      Low     : Bytes := Roster;
+      Base    : Priority;
+      Ceiling : Priority;
+      Count   : Step_Number;
+      Start   : Natural;
+      Length  : Natural;
+      Pairs   : Bytes (1 .. Events'Length / 4) := (others => 0);
+      V       : Verdict;
+   begin
+      Low (36) := 19;
+      Show ("check", Check (Roster));
+      Show ("check with ceiling 19", Check (Low));
+      Base_Of (Roster, 1, Base, Result);
+      Step_Count (Roster, 1, Count, Result);
+      Script (Roster, 1, Start, Length, Result);
+      Put_Line
+        ("task 1: base" & Priority'Image (Base) & ", steps" & Step_Number'Image (Count)
+         & ", script from" & Natural'Image (Start) & ", length" & Natural'Image (Length));
+      Ceiling_Of (Roster, 0, Ceiling, Result);
+      Put_Line ("object 0: ceiling" & Priority'Image (Ceiling));
+      Show_Step (0);
+      Show_Step (3);
+      Base_Of (Roster, 2, Base, Result);
+      Put_Line ("base of task 2:" & Integer'Image (Answer'Pos (Result)));
+
+      Run (Roster, Events, Pairs, V);
+      Show ("run", V);
+      Put ("pairs:");
+      for I in 1 .. Pairs'Length / 2 loop
+         Put ((if I = 1 then "" else ",") & Unsigned_8'Image (Pairs (2 * I - 1)) & Unsigned_8'Image (Pairs (2 * I)));
+      end loop;
+      New_Line;
+   end Roster_And_Run;
+
 begin
-   Fresh ((10, 20, 10), No_Objects, S, Result);
-   Show ("fresh 10 20 10");
-   Set_Base (S, 1, 10, Result);
-   Show ("set 1 to 10");
-   Clock (S, 5, Result);
-   Show ("clock 5");
-   Clock (S, 4, Result);
-   Show ("clock 4");
-   Finish (S, Result);
-   Show ("finish");
+   State_And_Board;
+   Roster_And_Run;
 end Example;

@@ -1,0 +1,8 @@
+--  A Delay longer than 16 bits is refused by the compiler: the gate compiles this with TICKS 65535, and tries it with 65536.
+
+with Dispatcher; use Dispatcher;
+
+procedure Wait_For (S : in out State; Result : out Answer) is
+begin
+   Delay_For (S, $TICKS, Result);
+end Wait_For;
