@@ -1,6 +1,7 @@
 //! Boards through the exported functions, against the second program: filled from sound and scrambled states, and made ones asked.
 
-use harness::exported;
+use dispatch::raw;
+use harness::calls;
 use harness::layout::{bytes_of, put_rows, rows_of, state_of, ROW_SIZE, STATE_SIZE};
 use harness::random::Random;
 use harness::report::{hex, Histogram};
@@ -46,13 +47,13 @@ fn filling_agrees_with_the_second_program() {
         if number == 0 {
             put_rows(&mut wanted, &filled[..tasks]);
         }
-        let answer = exported::fill(&bytes, &mut found);
+        let answer = raw::fill(&bytes, &mut found);
         assert_eq!(answer, number, "answer, {}", input());
         assert_eq!(found, wanted, "board, {}", input());
         if answer == 0 {
             let rows = &found[..ROW_SIZE * tasks];
             assert_eq!(
-                exported::next(rows),
+                calls::next(rows),
                 board::next(&filled[..tasks]),
                 "next, {}",
                 input()
@@ -60,7 +61,7 @@ fn filling_agrees_with_the_second_program() {
             let head = state
                 .highest_ready()
                 .and_then(|p| state.queue(p)?.front().copied());
-            assert_eq!(exported::next(rows), Ok(head), "head, {}", input());
+            assert_eq!(calls::next(rows), Ok(head), "head, {}", input());
         }
         answers.count(answer);
     }
@@ -104,7 +105,7 @@ fn the_next_row_agrees_with_the_second_program() {
             bytes[ROW_SIZE * random.below(count)] = random.byte();
         }
         let before = bytes.clone();
-        let found = exported::next(&bytes);
+        let found = calls::next(&bytes);
         let input = || format!("seed {seed}, board {}", hex(&bytes));
         assert_eq!(found, board::next(&rows_of(&bytes)), "{}", input());
         assert_eq!(bytes, before, "asking changes nothing, {}", input());

@@ -2,7 +2,8 @@
 
 use std::collections::BTreeMap;
 
-use harness::exported;
+use dispatch::raw;
+use harness::calls;
 use harness::layout::{bytes_of, state_of, STATE_SIZE};
 use harness::random::Random;
 use harness::report::{hex, Histogram};
@@ -63,12 +64,12 @@ fn an_event_agrees_with_the_second_program() {
         }
         sound += faults.is_empty() as usize;
         let unsound = if faults.is_empty() { 0 } else { 10 };
-        assert_eq!(exported::sound(&before), unsound, "sound, {}", input());
+        assert_eq!(raw::sound(&before), unsound, "sound, {}", input());
 
         let (wanted, next) = machine::apply(state, event);
         let mut after = before.clone();
         after.extend([0xA5; GUARD]);
-        let answer = exported::event(&mut after, event);
+        let answer = calls::event(&mut after, event);
         assert_eq!(answer, wanted, "answer, {}", input());
         assert_eq!(answer == 10, unsound == 10, "10, {}", input());
         let kept = if answer == 0 {
@@ -78,7 +79,7 @@ fn an_event_agrees_with_the_second_program() {
         };
         assert_eq!(after[..STATE_SIZE], kept, "state, {}", input());
         assert_eq!(after[STATE_SIZE..], [0xA5; GUARD], "guard, {}", input());
-        assert_eq!(exported::running(&after), after[8], "running, {}", input());
+        assert_eq!(raw::running(&after), after[8], "running, {}", input());
         answers.count(answer);
     }
     answers.print("events by answer");
@@ -108,7 +109,7 @@ fn a_history_agrees_with_the_second_program() {
             let event = event_of(&mut random, &state);
             let (wanted, next) = machine::apply(state, event);
             state = next;
-            let answer = exported::event(&mut bytes, event);
+            let answer = calls::event(&mut bytes, event);
             assert_eq!(
                 answer, wanted,
                 "answer, seed {seed}, event {step}, {event:?}"
@@ -139,7 +140,7 @@ fn a_fresh_start_agrees_with_the_second_program() {
         let wide = |bytes: &[u8]| bytes.iter().map(|b| *b as u64).collect::<Vec<u64>>();
         let (wanted, state) = state::fresh(&wide(&bases), &wide(&ceilings));
         let mut bytes = vec![0xA5; STATE_SIZE];
-        let answer = exported::fresh(&bases, &ceilings, &mut bytes);
+        let answer = raw::fresh(&bases, &ceilings, &mut bytes);
         assert_eq!(
             answer, wanted,
             "seed {seed}, bases {bases:?}, ceilings {ceilings:?}"
@@ -162,18 +163,14 @@ fn a_state_that_is_too_short_is_refused_and_kept() {
         let mut bytes = bytes_of(&state)[..length].to_vec();
         let before = bytes.clone();
         assert_eq!(
-            exported::event(&mut bytes, machine::Event::Work),
+            calls::event(&mut bytes, machine::Event::Work),
             10,
             "length {length}"
         );
-        assert_eq!(
-            exported::fresh(&[10], &[], &mut bytes),
-            10,
-            "length {length}"
-        );
-        assert_eq!(exported::sound(&bytes), 10, "length {length}");
-        assert_eq!(exported::running(&bytes), 255, "length {length}");
-        assert_eq!(exported::fill(&bytes, &mut [0; 96]), 10, "length {length}");
+        assert_eq!(raw::fresh(&[10], &[], &mut bytes), 10, "length {length}");
+        assert_eq!(raw::sound(&bytes), 10, "length {length}");
+        assert_eq!(raw::running(&bytes), 255, "length {length}");
+        assert_eq!(raw::fill(&bytes, &mut [0; 96]), 10, "length {length}");
         assert_eq!(bytes, before, "length {length}");
     }
 }

@@ -1,6 +1,7 @@
 //! The proved reader and check of rosters against the second program, on made and damaged rosters.
 
-use harness::exported;
+use dispatch::raw;
+use harness::calls;
 use harness::report::{bytes_of, hex, Histogram};
 use harness::rosters::{made, WHOLE_CASE};
 use second::roster as other;
@@ -20,7 +21,7 @@ fn check_agrees_with_the_second_program() {
     let mut histogram = Histogram::new();
     for seed in 0..CASES {
         let bytes = made(seed);
-        let found = exported::check(&bytes);
+        let found = raw::check(&bytes);
         assert_eq!(
             found,
             check_of(&bytes),
@@ -43,13 +44,13 @@ fn form_and_scripts_agree_with_the_second_program() {
             Err(refusal) => (refusal.number, refusal.task, refusal.step),
         };
         assert_eq!(
-            exported::form(&bytes),
+            raw::form(&bytes),
             form,
             "form, seed {seed}, roster {}",
             hex(&bytes)
         );
         for t in [0, 1, 4, 31, 32, 200, 256] {
-            let found = exported::script(&bytes, t as u64);
+            let found = calls::script(&bytes, t as u64);
             assert_eq!(
                 found,
                 other::script(&bytes, t),
@@ -65,8 +66,8 @@ fn form_and_scripts_agree_with_the_second_program() {
 fn the_whole_case() {
     let bytes = bytes_of(WHOLE_CASE);
     assert_eq!(bytes.len(), 46);
-    assert_eq!(exported::check(&bytes), (0, 0, 0));
+    assert_eq!(raw::check(&bytes), (0, 0, 0));
     let mut low = bytes.clone();
     low[36] = 0x13;
-    assert_eq!(exported::check(&low), (18, 1, 1));
+    assert_eq!(raw::check(&low), (18, 1, 1));
 }
