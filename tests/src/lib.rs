@@ -1,6 +1,7 @@
 //! What the tests share: made inputs, the library's calls in the second program's kinds, and reports.
 
 pub mod calls;
+pub mod compare;
 pub mod events;
 pub mod layout;
 pub mod random;
