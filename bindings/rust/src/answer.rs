@@ -60,25 +60,25 @@ answers! {
     /// The state is not sound.
     Unsound = 10,
     /// A roster shorter than 14 or longer than 32,768 bytes.
-    RosterLength = 11,
+    BadLength = 11,
     /// The roster's mark is not there.
-    RosterMark = 12,
+    BadMark = 12,
     /// Not 1 to 32 tasks or 0 to 16 objects; a board with too few rows, or asked with more than 32.
-    Counts = 13,
+    BadCounts = 13,
     /// A start or a length off the roster's layout.
-    Layout = 14,
+    BadLayout = 14,
     /// A base or ceiling outside 1 to 32, or a byte of a roster that has to be 0.
-    BadValue = 15,
+    BadValues = 15,
     /// A step that is none, has an unused operand, or names no listed task or object.
     BadStep = 16,
     /// Delay, Suspend, Again or the script's end while something is held, or Enter of a held object.
-    HeldInScript = 17,
+    WhileHeld = 17,
     /// Enter of an object whose ceiling is below the task's base, its own Set values or its held ceilings.
-    CeilingInScript = 18,
+    LowCeiling = 18,
     /// Leave of an object that is not the innermost held, in a script.
-    LeaveInScript = 19,
+    ScriptNotInnermost = 19,
     /// A script that sets another task's base.
-    OtherTaskInScript = 20,
+    OtherTask = 20,
     /// Events whose length is wrong, of an unknown kind, or with an unused field that is not 0.
     BadEvents = 21,
     /// A buffer with less than two bytes for each event.
