@@ -1,7 +1,7 @@
 //! Boards through the exported functions, against the second program: filled from sound and scrambled states, and made ones asked.
 
-use dispatch::raw;
 use harness::calls;
+use harness::compare::compare_fill;
 use harness::layout::{bytes_of, put_rows, rows_of, state_of, ROW_SIZE, STATE_SIZE};
 use harness::random::Random;
 use harness::report::{hex, Histogram};
@@ -29,40 +29,17 @@ fn filling_agrees_with_the_second_program() {
     for seed in 0..CASES {
         let mut random = Random::new(seed);
         let bytes = made_state(&mut random);
-        let state = state_of(&bytes);
-        let tasks = state.tasks.len();
+        let tasks = state_of(&bytes).tasks.len();
         // around the number of tasks, and now and then far from it; bytes behind the last whole row too
         let rows = match random.below(4) {
             0 => random.below(tasks + 1),
             1 => random.below(40),
             _ => tasks + random.below(3),
         };
-        let mut found: Vec<u8> = (0..ROW_SIZE * rows + random.below(3))
+        let board: Vec<u8> = (0..ROW_SIZE * rows + random.below(3))
             .map(|_| random.byte())
             .collect();
-        let mut wanted = found.clone();
-        let input = || format!("seed {seed}, {rows} rows, state {}", hex(&bytes));
-        let mut filled = rows_of(&wanted);
-        let number = board::fill(&state, &mut filled);
-        if number == 0 {
-            put_rows(&mut wanted, &filled[..tasks]);
-        }
-        let answer = raw::fill(&bytes, &mut found);
-        assert_eq!(answer, number, "answer, {}", input());
-        assert_eq!(found, wanted, "board, {}", input());
-        if answer == 0 {
-            let rows = &found[..ROW_SIZE * tasks];
-            assert_eq!(
-                calls::next(rows),
-                board::next(&filled[..tasks]),
-                "next, {}",
-                input()
-            );
-            let head = state
-                .highest_ready()
-                .and_then(|p| state.queue(p)?.front().copied());
-            assert_eq!(calls::next(rows), Ok(head), "head, {}", input());
-        }
+        let answer = compare_fill(&bytes, &board, &format!("seed {seed}"));
         answers.count(answer);
     }
     answers.print("boards filled by answer");

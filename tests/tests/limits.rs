@@ -178,4 +178,13 @@ fn every_number_of_an_event() {
 }
 
 /// Priorities that fit no byte.
-const FAR_PRIORITIES: [u64; 0] = [];
+const FAR_PRIORITIES: [u64; 8] = [
+    256,
+    257,
+    65_536 + 1,
+    (1 << 32) + 1,
+    (1 << 48) + 15,
+    (1 << 63) + 32,
+    u64::MAX - 255 + 1,
+    u64::MAX,
+];

@@ -177,7 +177,7 @@ fn every_value_of_a_fresh_start() {
             let counted = (1..=32).contains(&tasks) && objects <= 16;
             let wanted = if counted { 0 } else { 13 };
             assert_eq!(
-                compare_fresh(&bases, &ceilings),
+                compare_fresh(&bases, &ceilings, "one fault"),
                 wanted,
                 "{tasks}, {objects}"
             );
@@ -186,7 +186,7 @@ fn every_value_of_a_fresh_start() {
                 .iter_mut()
                 .take(1)
                 .for_each(|ceiling| *ceiling = 33);
-            compare_fresh(&bases, &ceilings);
+            compare_fresh(&bases, &ceilings, "one fault");
         }
     }
     for place in 0..48 {
@@ -196,7 +196,7 @@ fn every_value_of_a_fresh_start() {
                 0..=31 => bases[place] = value,
                 _ => ceilings[place - 32] = value,
             }
-            compare_fresh(&bases, &ceilings);
+            compare_fresh(&bases, &ceilings, "one fault");
         }
     }
 }
