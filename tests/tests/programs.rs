@@ -7,7 +7,7 @@ use std::process::{Command, Stdio};
 use harness::events::events_of;
 use harness::random::Random;
 use harness::report::{bytes_of, save, Histogram};
-use harness::rosters::{largest, made, passing, LARGEST, WHOLE_CASE};
+use harness::rosters::{largest, made, passing, step, LARGEST, WHOLE_CASE, WORK};
 
 const CASES: u64 = 600;
 /// Of each refusal a few are enough: the run's own test has hundreds of each.
@@ -169,5 +169,20 @@ fn files_at_their_limits() {
         let roster = [&roster[..], &vec![0; more]].concat();
         let lines = alone("more-roster", |at| fs::write(at, &roster).unwrap(), &[]);
         assert_eq!(lines, "refused 11\n", "{more} bytes more");
+    }
+}
+
+/// The place of a fault far back in a script, with every number of digits.
+#[test]
+fn a_late_fault_is_named() {
+    for (tasks, objects) in [(1, 1), (32, 16)] {
+        let last = largest(tasks, objects).scripts[tasks - 1].len() - 1;
+        for index in [0, 9, 10, 99, 100, 255, 256, 999, 1000, last] {
+            let mut plan = largest(tasks, objects);
+            plan.scripts[tasks - 1][index] = step(WORK, 1, 0);
+            let prepare = |at: &Path| fs::write(at, plan.bytes()).unwrap();
+            let wanted = format!("refused 16 {} {index}\n", tasks - 1);
+            assert_eq!(alone("late-fault", prepare, &[]), wanted);
+        }
     }
 }

@@ -99,6 +99,48 @@ fn one_bad_row() {
     }
 }
 
+/// A roster of two tasks and one object over eight bytes of scripts, with these starts and lengths in its tables.
+fn with_layout(rows: [(usize, usize); 2], object_table: usize, task_table: usize) -> Vec<u8> {
+    let mut bytes = [4, 0, 0, 0].repeat(2);
+    for (start, length) in rows {
+        bytes.extend([7, 0, start as u8, 0, length as u8, 0]);
+    }
+    bytes.extend([7, 0, 0x52, 0x35, 2, 1]);
+    bytes.extend([object_table as u8, 0, task_table as u8, 0]);
+    bytes
+}
+
+/// Every start and length of two scripts: gaps, overlaps, parts of steps and the wrong order.
+#[test]
+fn every_layout_of_two_scripts() {
+    let mut answers = Histogram::new();
+    let pairs = || (0..=9).flat_map(|start| (0..=9).map(move |length| (start, length)));
+    for first in pairs() {
+        for second in pairs() {
+            let bytes = with_layout([first, second], 20, 8);
+            answers.count(compare_roster(&bytes, &format!("{first:?} {second:?}")));
+        }
+    }
+    // no steps and two, one and one, two and none
+    assert_eq!(answers.of(0), 3);
+}
+
+/// Every start of the two tables.
+#[test]
+fn every_layout_of_the_tables() {
+    let mut answers = Histogram::new();
+    for object_table in 0..=40 {
+        for task_table in 0..=40 {
+            let bytes = with_layout([(0, 4), (4, 4)], object_table, task_table);
+            answers.count(compare_roster(
+                &bytes,
+                &format!("{object_table} {task_table}"),
+            ));
+        }
+    }
+    assert_eq!((answers.of(0), answers.of(14)), (1, 41 * 41 - 1));
+}
+
 /// A record of every kind with nothing else in it, and of each kind around those there are with one bit elsewhere: alone, and
 /// among good Steps.
 #[test]
