@@ -38,50 +38,38 @@ pub fn compare_roster(bytes: &[u8], input: &str) -> u8 {
     found.0
 }
 
-/// The lookups of a roster's parts for these tasks and objects, and for steps around the ends of each script.
+/// The lookups of a roster's parts for these tasks and objects.
 pub fn compare_parts(bytes: &[u8], tasks: &[u64], objects: &[u64], input: &dyn Fn() -> String) {
     for &t in tasks {
-        let at = |call: &str| format!("{call} {t}, {}", input());
-        let task = t as usize;
-        assert_eq!(
-            calls::script(bytes, t),
-            roster::script(bytes, task),
-            "{}",
-            at("script")
-        );
-        let base = calls::value(raw::base(bytes, t));
-        assert_eq!(base, roster::base(bytes, task), "{}", at("base"));
-        let count = calls::value(raw::step_count(bytes, t));
-        assert_eq!(
-            count,
-            roster::step_count(bytes, task),
-            "{}",
-            at("step count")
-        );
-        let end = count.unwrap_or(0);
-        for step in [
-            0,
-            end.saturating_sub(1),
-            end,
-            end + 1,
-            1 << 32,
-            1 << 62,
-            u64::MAX,
-        ] {
-            let found = calls::value(raw::step(bytes, t, step));
-            let wanted = roster::step(bytes, task, step);
-            let wanted = wanted.map(|raw| u32::from_le_bytes(raw) as u64);
-            assert_eq!(found, wanted, "{}", at(&format!("step {step} of task")));
-        }
+        let at = |call: &str| format!("{call} of task {t}, {}", input());
+        let found = calls::script(bytes, t);
+        assert_eq!(found, roster::script(bytes, t as usize), "{}", at("script"));
+        let found = calls::value(raw::base(bytes, t));
+        assert_eq!(found, roster::base(bytes, t as usize), "{}", at("base"));
+        compare_steps(bytes, t, &at);
     }
     for &o in objects {
         let found = calls::value(raw::ceiling(bytes, o));
-        assert_eq!(
-            found,
-            roster::ceiling(bytes, o as usize),
-            "ceiling {o}, {}",
-            input()
-        );
+        let wanted = roster::ceiling(bytes, o as usize);
+        assert_eq!(found, wanted, "ceiling {o}, {}", input());
+    }
+}
+
+/// How many steps a task's script has, and its steps around its ends.
+fn compare_steps(bytes: &[u8], t: u64, at: &dyn Fn(&str) -> String) {
+    let count = calls::value(raw::step_count(bytes, t));
+    let wanted = roster::step_count(bytes, t as usize);
+    assert_eq!(count, wanted, "{}", at("step count"));
+    let end = count.unwrap_or(0);
+    let far = [1 << 32, 1 << 62, u64::MAX];
+    for step in [0, end.saturating_sub(1), end, end + 1]
+        .into_iter()
+        .chain(far)
+    {
+        let found = calls::value(raw::step(bytes, t, step));
+        let wanted = roster::step(bytes, t as usize, step);
+        let wanted = wanted.map(|raw| u32::from_le_bytes(raw) as u64);
+        assert_eq!(found, wanted, "{}", at(&format!("step {step}")));
     }
 }
 
