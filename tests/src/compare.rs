@@ -10,7 +10,7 @@ use crate::calls;
 use crate::layout::{
     bytes_of, in_range, put_rows, rows_of, running_of, state_of, ROW_SIZE, STATE_SIZE,
 };
-use crate::report::hex;
+use crate::report::{hex, save};
 
 fn refused<T>(result: Result<T, Refusal>) -> (u8, usize, usize) {
     match result {
@@ -79,8 +79,8 @@ pub fn compare_run(roster: &[u8], events: &[u8], size: usize, input: &str) -> u8
     let mut wanted = found.clone();
     let answer = raw::run(roster, events, &mut found);
     let expected = refused(run::run(roster, events, &mut wanted));
-    let shown = &events[..events.len().min(64)];
-    let input = || format!("{input}, room {size}, first events {}", hex(shown));
+    let saved = || save("compared-run", size as u64, roster, events);
+    let input = || format!("{input}, room {size}, {}", saved());
     assert_eq!(answer, expected, "answer, {}", input());
     assert!(found == wanted, "buffer, {}", input());
     answer.0

@@ -417,9 +417,14 @@ pub fn damage(random: &mut Random, bytes: &mut Vec<u8>, number: u8) {
         },
         14 => off_layout(random, bytes),
         _ => {
-            let tasks = bytes[trailer + 2] as usize;
+            // the second byte of a row of either table
+            let (tasks, objects) = (bytes[trailer + 2] as usize, bytes[trailer + 3] as usize);
             let table = u16::from_le_bytes([bytes[trailer + 6], bytes[trailer + 7]]) as usize;
-            bytes[table + 6 * random.below(tasks) + 1] = random.byte() | 1;
+            let row = match random.below(tasks + objects) {
+                t if t < tasks => 6 * t,
+                o => 6 * tasks + 2 * (o - tasks),
+            };
+            bytes[table + row + 1] = 1 << random.below(8);
         }
     }
 }
