@@ -105,6 +105,15 @@ pub fn in_range(bytes: &[u8]) -> bool {
         .all(|row| row[8] <= 4 && row[10] <= 1 && row[12] <= 1)
 }
 
+/// Brings these numbers in range in every row, so that what else is wrong with the bytes is looked at.
+pub fn bring_in_range(bytes: &mut [u8]) {
+    for row in bytes[TASKS..CEILINGS].chunks_exact_mut(TASK_ROW) {
+        row[8] %= 5;
+        row[10] %= 2;
+        row[12] %= 2;
+    }
+}
+
 /// The task that the running byte names: 255 where that is no listed one.
 pub fn running_of(bytes: &[u8]) -> u8 {
     match bytes[8] {

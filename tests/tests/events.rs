@@ -5,11 +5,11 @@ use std::collections::BTreeMap;
 use dispatch::raw;
 use harness::calls;
 use harness::compare::{compare_event, compare_fresh, compare_readers};
-use harness::layout::{bytes_of, in_range, state_of, STATE_SIZE};
+use harness::layout::{bring_in_range, bytes_of, in_range, state_of, STATE_SIZE};
 use harness::random::Random;
 use harness::report::Histogram;
 use harness::states::{event_of, plant, sound_state};
-use second::machine;
+use second::machine::{self, Event};
 use second::sound::{broken, CLAUSES};
 use second::state;
 
@@ -38,7 +38,13 @@ fn made(random: &mut Random, seed: u64) -> Vec<u8> {
             bytes[at] = random.byte();
             bytes
         }
-        _ => (0..STATE_SIZE).map(|_| random.byte()).collect(),
+        _ => {
+            let mut bytes: Vec<u8> = (0..STATE_SIZE).map(|_| random.byte()).collect();
+            if random.once_in(2) {
+                bring_in_range(&mut bytes);
+            }
+            bytes
+        }
     }
 }
 
@@ -127,21 +133,34 @@ fn a_fresh_start_agrees_with_the_second_program() {
     answers.require(&[0, 13, 15], LEAST);
 }
 
+/// Every length below a state's, for every call on a state.
 #[test]
 fn a_state_that_is_too_short_is_refused_and_kept() {
-    for length in [0, 1, 8, 11, 16, 1088, STATE_SIZE - 1] {
-        let (_, state) = state::fresh(&[10, 20], &[20]);
+    let (_, state) = state::fresh(&[10, 20], &[20]);
+    let events = [
+        Event::Enter(0),
+        Event::Leave(0),
+        Event::Delay(1),
+        Event::Suspend,
+        Event::Release(0),
+        Event::Clock(1),
+        Event::Set(0, 1),
+        Event::Work,
+        Event::Finish,
+    ];
+    for length in 0..STATE_SIZE {
         let mut bytes = bytes_of(&state)[..length].to_vec();
         let before = bytes.clone();
-        assert_eq!(
-            calls::event(&mut bytes, machine::Event::Work),
-            10,
-            "length {length}"
-        );
-        assert_eq!(raw::fresh(&[10], &[], &mut bytes), 10, "length {length}");
-        assert_eq!(raw::sound(&bytes), 10, "length {length}");
-        assert_eq!(raw::running(&bytes), 255, "length {length}");
-        assert_eq!(raw::fill(&bytes, &mut [0; 96]), 10, "length {length}");
-        assert_eq!(bytes, before, "length {length}");
+        let mut board = [0xA5; 96];
+        for event in events {
+            let answer = calls::event(&mut bytes, event);
+            assert_eq!(answer, 10, "length {length}, {event:?}");
+        }
+        let fresh = raw::fresh(&[10], &[], &mut bytes);
+        let fill = raw::fill(&bytes, &mut board);
+        let (sound, running) = (raw::sound(&bytes), raw::running(&bytes));
+        let found = (fresh, fill, sound, running);
+        assert_eq!(found, (10, 10, 10, 255), "length {length}");
+        assert_eq!((bytes, board), (before, [0xA5; 96]), "length {length}");
     }
 }
