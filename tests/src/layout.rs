@@ -114,11 +114,13 @@ pub fn bring_in_range(bytes: &mut [u8]) {
     }
 }
 
-/// The task that the running byte names: 255 where that is no listed one.
+/// The task that the running byte names: 255 where that is no listed one. Bytes with a task count above 32, or not `in_range`, list
+/// nobody.
 pub fn running_of(bytes: &[u8]) -> u8 {
-    match bytes[8] {
-        running if running < bytes[TASK_COUNT] => running,
-        _ => NOBODY,
+    let (running, tasks) = (bytes[8], bytes[TASK_COUNT]);
+    match running < tasks && tasks as usize <= MOST_TASKS && in_range(bytes) {
+        true => running,
+        false => NOBODY,
     }
 }
 

@@ -1,11 +1,11 @@
 //! Sizes at their limits and one beyond, with nothing else wrong: rosters, events, buffers, boards and numbers.
 
 use harness::calls;
-use harness::compare::{compare_event, compare_roster, compare_run};
+use harness::compare::{compare_event, compare_parts, compare_roster, compare_run};
 use harness::layout::{bytes_of, put_rows, rows_of, ROW_SIZE};
 use harness::random::Random;
 use harness::report::hex;
-use harness::rosters::{every_step, largest, step, Plan, ENTER, LARGEST, WORK};
+use harness::rosters::{every_step, largest, step, Plan, AGAIN, DELAY, ENTER, LARGEST, WORK};
 use harness::states::sound_state;
 use second::board::{self, Kind, Row};
 use second::limits::LARGEST_READING;
@@ -24,6 +24,7 @@ fn a_roster_of_the_largest_size() {
         let input = format!("{tasks} tasks, {objects} objects");
         assert_eq!(bytes.len(), LARGEST);
         assert_eq!(compare_roster(&bytes, &input), 0);
+        compare_parts(&bytes, &[0, 1, 31, 32], &[0, 15, 16], &|| input.clone());
         assert_eq!(compare_run(&bytes, &STEP.repeat(40), 80, &input), 0);
         // the last step is looked at too
         let mut late = plan.clone();
@@ -103,6 +104,63 @@ fn the_most_events() {
     }
 }
 
+/// A task that delays itself by a step, and readings around the time when it is due.
+#[test]
+fn every_length_of_a_delay() {
+    for d in [1, 2, 255, 256, 257, 32_767, 32_768, 32_769, 65_534, 65_535] {
+        let plan = Plan {
+            bases: vec![1, 2],
+            ceilings: Vec::new(),
+            scripts: vec![vec![step(AGAIN, 0, 0)], vec![step(DELAY, 0, d)]],
+        };
+        for now in [0, 1, 65_535, LARGEST_READING - 65_536, LARGEST_READING - 1] {
+            let due = now + d as u64;
+            let mut readings = vec![due - 1, due, due + 1];
+            readings.extend((0..16).map(|bit| due ^ (1 << bit)));
+            for reading in readings.into_iter().filter(|r| *r <= LARGEST_READING) {
+                let events = [clock(now), STEP, clock(reading), STEP, clock(due - 1)].concat();
+                compare_run(&plan.bytes(), &events, 10, &format!("{d} from {now}"));
+            }
+        }
+    }
+}
+
+fn clock(reading: u64) -> [u8; 8] {
+    let value = reading.to_le_bytes();
+    let [a, b, c, d, e, f, 0, 0] = value else {
+        panic!("{reading} has no six bytes");
+    };
+    [1, 0, a, b, c, d, e, f]
+}
+
+/// Asks a board; gives whether it is refused.
+fn compare_next(bytes: &[u8]) -> bool {
+    let found = calls::next(bytes);
+    assert_eq!(found, board::next(&rows_of(bytes)), "board {}", hex(bytes));
+    found.is_err()
+}
+
+/// Every two rows of a few kinds, priorities and positions, and every two positions.
+#[test]
+fn every_two_rows() {
+    let mut rows = Vec::new();
+    for kind in [0, 1, 2, 3, 4, 5, 255] {
+        for priority in [0, 1, 2, 31, 32, 33] {
+            rows.extend([0, 1, 128, 255].map(|position| [kind, priority, position]));
+        }
+    }
+    for first in &rows {
+        for second in &rows {
+            compare_next(&[*first, *second].concat());
+        }
+    }
+    for position in 0..=255 {
+        for other in 0..=255 {
+            compare_next(&[1, 7, position, 1, 7, other]);
+        }
+    }
+}
+
 /// Boards of many sizes whose rows are all good, and with one bad priority in a row of each kind.
 #[test]
 fn the_most_rows() {
@@ -113,11 +171,6 @@ fn the_most_rows() {
         Kind::Suspended,
         Kind::Ended,
     ];
-    let compare = |bytes: &[u8]| {
-        let found = calls::next(bytes);
-        assert_eq!(found, board::next(&rows_of(bytes)), "board {}", hex(bytes));
-        found
-    };
     for count in (0..=40).chain([64, 255, 256, 257, 288, 1000]) {
         for kind in kinds {
             let row = Row {
@@ -127,12 +180,12 @@ fn the_most_rows() {
             };
             let mut bytes = vec![0; ROW_SIZE * count];
             put_rows(&mut bytes, &vec![row; count]);
-            assert_eq!(compare(&bytes).is_err(), count > 32);
+            assert_eq!(compare_next(&bytes), count > 32);
             for (at, value) in [(0, 0), (0, 33), (count / 2, 128), (count.max(1) - 1, 255)] {
                 let mut changed = bytes.clone();
                 if let Some(priority) = changed.get_mut(ROW_SIZE * at + 1) {
                     *priority = value;
-                    assert!(compare(&changed).is_err(), "row {at} as {value}");
+                    assert!(compare_next(&changed), "row {at} as {value}");
                 }
             }
         }

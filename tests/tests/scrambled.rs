@@ -23,8 +23,8 @@ fn after(bases: &[u64], ceilings: &[u64], events: &[Event]) -> State {
     state
 }
 
-/// Sound states of many kinds: all the tasks and objects there can be, tasks in all places, nested holders, a base that waits,
-/// nobody running, and everybody ended.
+/// Sound states of many kinds: all the tasks and objects there can be, tasks in all places, nested holders, one that holds all, a
+/// base that waits, nobody running, and everybody ended.
 fn sound_states() -> Vec<State> {
     let bases: Vec<u64> = (0..32).map(|t| 1 + t / 2).collect();
     let ceilings: Vec<u64> = (0..16).map(|o| 17 + o).collect();
@@ -32,6 +32,7 @@ fn sound_states() -> Vec<State> {
     let waiting = [Event::Delay(0), Event::Suspend, Event::Enter(0)];
     let late = [Event::Delay(0), Event::Delay(9), Event::Clock(3)];
     let nested = [Event::Enter(0), Event::Enter(1), Event::Set(2, 4)];
+    let all: Vec<Event> = (0..16).map(Event::Enter).collect();
     let away = [
         Event::Suspend,
         Event::Delay(7),
@@ -42,6 +43,7 @@ fn sound_states() -> Vec<State> {
         after(&bases, &ceilings, &inside),
         after(&bases, &ceilings, &waiting),
         after(&bases, &ceilings, &late),
+        after(&[5, 17], &ceilings, &all),
         after(&[5, 5, 9], &[9, 10], &nested),
         after(&[3, 2, 1], &[4], &away[..3]),
         after(&[3, 2, 1], &[4], &away),
