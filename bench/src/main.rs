@@ -9,7 +9,7 @@ mod work;
 use std::hint::black_box;
 use std::time::Instant;
 
-use harness::exported;
+use dispatch::raw;
 use harness::random::Random;
 use work::{events_of, roster_of, Mix, REALISTIC, STEP_HEAVY};
 
@@ -37,7 +37,7 @@ fn case_of(seed: u64, mix: Mix, tasks: usize, count: usize) -> Case {
 fn same(case: &Case, seed: u64) -> Vec<u8> {
     let mut proved = vec![0; case.events.len() / 4];
     let mut other = proved.clone();
-    let a = exported::run(&case.roster, &case.events, &mut proved);
+    let a = raw::run(&case.roster, &case.events, &mut proved);
     let b = plain::run(&case.roster, &case.events, &mut other);
     assert_eq!((a, a.0), (b, 0), "seed {seed}");
     assert_eq!(proved, other, "seed {seed}");
@@ -60,7 +60,7 @@ fn batch(run: Run, case: &Case, buffer: &mut [u8], times: usize) -> u128 {
 fn times_of(case: &Case) -> (f64, f64) {
     let count = (case.events.len() / 8) as f64;
     let mut buffer = vec![0; case.events.len() / 4];
-    let runs: [Run; 2] = [exported::run, plain::run];
+    let runs: [Run; 2] = [raw::run, plain::run];
     let mut least = [f64::MAX; 2];
     let once = batch(runs[0], case, &mut buffer, 8) / 8;
     let times = (BATCH_NS / once.max(1)).max(1) as usize;

@@ -44,12 +44,28 @@ pub fn events_of(random: &mut Random) -> Vec<u8> {
     events
 }
 
+/// One fault and no other: a stray part of a record, an unknown kind, a byte in an unused field, or good Steps beyond the most.
 fn spoil(random: &mut Random, events: &mut Vec<u8>) {
-    match random.below(5) {
-        0 => events.push(random.byte()),
-        1 => events.extend([3, 1, 0, 0, 0, 0, 0, 0]),
-        2 => events.extend([1, 1, 9, 0, 0, 0, 0, 0]),
-        3 => events.extend([random.within(5, 255) as u8, 0, 0, 0, 0, 0, 0, 0]),
-        _ => events.resize(32_768 + 8 * random.within(1, 3), 3),
+    let mut record = [0; 8];
+    match random.below(4) {
+        0 => return events.extend(vec![0; random.within(1, 7)]),
+        1 => {
+            let other = random.within(5, 255) as u8;
+            record[0] = random.pick(&[0, 5, 255, other]);
+        }
+        2 => {
+            let (kind, first, last) = random.pick(&[(1, 1, 1), (2, 2, 7), (3, 1, 7)]);
+            record[0] = kind;
+            record[random.within(first, last)] = 1 << random.below(8);
+        }
+        _ => {
+            let most = 4096 + random.within(1, 3);
+            while events.len() < 8 * most {
+                events.extend([3, 0, 0, 0, 0, 0, 0, 0]);
+            }
+            return;
+        }
     }
+    let at = 8 * random.within(0, events.len() / 8);
+    events.splice(at..at, record);
 }

@@ -96,7 +96,36 @@ fn list_in(row: &[u8]) -> Vec<usize> {
         .collect()
 }
 
-/// The state that any bytes mean; counts past the rows give tasks and objects that are there in number only.
+/// Whether the numbers of the listed tasks that have few values are such: place kind, waits flag and permit. Bytes where one is not
+/// are unsound, whatever else they say.
+pub fn in_range(bytes: &[u8]) -> bool {
+    let listed = (bytes[TASK_COUNT] as usize).min(MOST_TASKS);
+    let rows = bytes[TASKS..][..TASK_ROW * listed].chunks_exact(TASK_ROW);
+    rows.into_iter()
+        .all(|row| row[8] <= 4 && row[10] <= 1 && row[12] <= 1)
+}
+
+/// Brings these numbers in range in every row, so that what else is wrong with the bytes is looked at.
+pub fn bring_in_range(bytes: &mut [u8]) {
+    for row in bytes[TASKS..CEILINGS].chunks_exact_mut(TASK_ROW) {
+        row[8] %= 5;
+        row[10] %= 2;
+        row[12] %= 2;
+    }
+}
+
+/// The task that the running byte names: 255 where that is no listed one. Bytes with a task count above 32, or not `in_range`, list
+/// nobody.
+pub fn running_of(bytes: &[u8]) -> u8 {
+    let (running, tasks) = (bytes[8], bytes[TASK_COUNT]);
+    match running < tasks && tasks as usize <= MOST_TASKS && in_range(bytes) {
+        true => running,
+        false => NOBODY,
+    }
+}
+
+/// The state that any bytes mean; counts past the rows give tasks and objects that are there in number only, and numbers that are
+/// not `in_range` one or the other.
 pub fn state_of(bytes: &[u8]) -> State {
     let tasks = bytes[TASK_COUNT] as usize;
     let objects = bytes[OBJECT_COUNT] as usize;

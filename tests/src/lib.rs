@@ -1,7 +1,8 @@
-//! What the tests share: made inputs, the exported functions behind safe wrappers, and reports.
+//! What the tests share: made inputs, the library's calls in the second program's kinds, and reports.
 
+pub mod calls;
+pub mod compare;
 pub mod events;
-pub mod exported;
 pub mod layout;
 pub mod random;
 pub mod report;

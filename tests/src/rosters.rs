@@ -177,6 +177,60 @@ fn next_step(
     }
 }
 
+/// A small roster that passes and has every step: three tasks, the last without steps, and two objects.
+pub fn every_step() -> Plan {
+    let first = vec![
+        step(ENTER, 0, 0),
+        step(SET, 0, 9),
+        step(ENTER, 1, 0),
+        step(RELEASE, 2, 0),
+        step(LEAVE, 1, 0),
+        step(WORK, 0, 0),
+        step(LEAVE, 0, 0),
+        step(DELAY, 0, 300),
+        step(AGAIN, 0, 0),
+    ];
+    let second = vec![
+        step(SUSPEND, 0, 0),
+        step(DELAY, 0, 0),
+        step(ENTER, 1, 0),
+        step(LEAVE, 1, 0),
+    ];
+    Plan {
+        bases: vec![9, 12, 5],
+        ceilings: vec![20, 25],
+        scripts: vec![first, second, Vec::new()],
+    }
+}
+
+/// A roster of 32 tasks and 16 objects that passes, with a step or two for each task.
+pub fn most_rows() -> Plan {
+    let script = |t: usize| match t % 4 {
+        0 => vec![step(WORK, 0, 0), step(AGAIN, 0, 0)],
+        1 => vec![step(ENTER, 15, 0), step(LEAVE, 15, 0)],
+        2 => vec![step(RELEASE, 31, 0)],
+        _ => vec![step(SET, t as u8, 32)],
+    };
+    Plan {
+        bases: (1..=32).collect(),
+        ceilings: (17..=32).collect(),
+        scripts: (0..MOST_TASKS).map(script).collect(),
+    }
+}
+
+/// A roster that passes and has exactly the largest size; all tasks but the last have one step.
+pub fn largest(tasks: usize, objects: usize) -> Plan {
+    let room = LARGEST - TRAILER - 2 * objects - 6 * tasks;
+    assert_eq!(room % 4, 0, "whole steps fill the roster");
+    let mut scripts = vec![vec![step(WORK, 0, 0)]; tasks - 1];
+    scripts.push(vec![step(WORK, 0, 0); room / 4 - (tasks - 1)]);
+    Plan {
+        bases: vec![15; tasks],
+        ceilings: vec![15; objects],
+        scripts,
+    }
+}
+
 /// A place to put a step: at the start, in the middle, or at the end, before an Again.
 fn place_in(random: &mut Random, script: &[Step]) -> usize {
     let last = match script.last() {
@@ -363,9 +417,14 @@ pub fn damage(random: &mut Random, bytes: &mut Vec<u8>, number: u8) {
         },
         14 => off_layout(random, bytes),
         _ => {
-            let tasks = bytes[trailer + 2] as usize;
+            // the second byte of a row of either table
+            let (tasks, objects) = (bytes[trailer + 2] as usize, bytes[trailer + 3] as usize);
             let table = u16::from_le_bytes([bytes[trailer + 6], bytes[trailer + 7]]) as usize;
-            bytes[table + 6 * random.below(tasks) + 1] = random.byte() | 1;
+            let row = match random.below(tasks + objects) {
+                t if t < tasks => 6 * t,
+                o => 6 * tasks + 2 * (o - tasks),
+            };
+            bytes[table + row + 1] = 1 << random.below(8);
         }
     }
 }

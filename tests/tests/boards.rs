@@ -1,6 +1,7 @@
 //! Boards through the exported functions, against the second program: filled from sound and scrambled states, and made ones asked.
 
-use harness::exported;
+use harness::calls;
+use harness::compare::compare_fill;
 use harness::layout::{bytes_of, put_rows, rows_of, state_of, ROW_SIZE, STATE_SIZE};
 use harness::random::Random;
 use harness::report::{hex, Histogram};
@@ -28,40 +29,17 @@ fn filling_agrees_with_the_second_program() {
     for seed in 0..CASES {
         let mut random = Random::new(seed);
         let bytes = made_state(&mut random);
-        let state = state_of(&bytes);
-        let tasks = state.tasks.len();
+        let tasks = state_of(&bytes).tasks.len();
         // around the number of tasks, and now and then far from it; bytes behind the last whole row too
         let rows = match random.below(4) {
             0 => random.below(tasks + 1),
             1 => random.below(40),
             _ => tasks + random.below(3),
         };
-        let mut found: Vec<u8> = (0..ROW_SIZE * rows + random.below(3))
+        let board: Vec<u8> = (0..ROW_SIZE * rows + random.below(3))
             .map(|_| random.byte())
             .collect();
-        let mut wanted = found.clone();
-        let input = || format!("seed {seed}, {rows} rows, state {}", hex(&bytes));
-        let mut filled = rows_of(&wanted);
-        let number = board::fill(&state, &mut filled);
-        if number == 0 {
-            put_rows(&mut wanted, &filled[..tasks]);
-        }
-        let answer = exported::fill(&bytes, &mut found);
-        assert_eq!(answer, number, "answer, {}", input());
-        assert_eq!(found, wanted, "board, {}", input());
-        if answer == 0 {
-            let rows = &found[..ROW_SIZE * tasks];
-            assert_eq!(
-                exported::next(rows),
-                board::next(&filled[..tasks]),
-                "next, {}",
-                input()
-            );
-            let head = state
-                .highest_ready()
-                .and_then(|p| state.queue(p)?.front().copied());
-            assert_eq!(exported::next(rows), Ok(head), "head, {}", input());
-        }
+        let answer = compare_fill(&bytes, &board, &format!("seed {seed}"));
         answers.count(answer);
     }
     answers.print("boards filled by answer");
@@ -104,7 +82,7 @@ fn the_next_row_agrees_with_the_second_program() {
             bytes[ROW_SIZE * random.below(count)] = random.byte();
         }
         let before = bytes.clone();
-        let found = exported::next(&bytes);
+        let found = calls::next(&bytes);
         let input = || format!("seed {seed}, board {}", hex(&bytes));
         assert_eq!(found, board::next(&rows_of(&bytes)), "{}", input());
         assert_eq!(bytes, before, "asking changes nothing, {}", input());

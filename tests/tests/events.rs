@@ -2,20 +2,20 @@
 
 use std::collections::BTreeMap;
 
-use harness::exported;
-use harness::layout::{bytes_of, state_of, STATE_SIZE};
+use dispatch::raw;
+use harness::calls;
+use harness::compare::{compare_event, compare_fresh, compare_readers};
+use harness::layout::{bring_in_range, bytes_of, in_range, state_of, STATE_SIZE};
 use harness::random::Random;
-use harness::report::{hex, Histogram};
+use harness::report::Histogram;
 use harness::states::{event_of, plant, sound_state};
-use second::machine;
+use second::machine::{self, Event};
 use second::sound::{broken, CLAUSES};
 use second::state;
 
 const CASES: u64 = 24_000;
 const LEAST: usize = 200;
 const LEAST_ALONE: usize = 20;
-/// Bytes behind the state, which nobody may touch.
-const GUARD: usize = 5;
 
 /// The bytes of a state: half of them of a sound one, the others with one planted fault or two, a changed byte, or noise.
 fn made(random: &mut Random, seed: u64) -> Vec<u8> {
@@ -38,7 +38,13 @@ fn made(random: &mut Random, seed: u64) -> Vec<u8> {
             bytes[at] = random.byte();
             bytes
         }
-        _ => (0..STATE_SIZE).map(|_| random.byte()).collect(),
+        _ => {
+            let mut bytes: Vec<u8> = (0..STATE_SIZE).map(|_| random.byte()).collect();
+            if random.once_in(2) {
+                bring_in_range(&mut bytes);
+            }
+            bytes
+        }
     }
 }
 
@@ -53,32 +59,16 @@ fn an_event_agrees_with_the_second_program() {
         let before = made(&mut random, seed);
         let state = state_of(&before);
         let event = event_of(&mut random, &state);
-        let input = || format!("seed {seed}, {event:?}, state {}", hex(&before));
+        let input = format!("seed {seed}");
+        sound += compare_readers(&before, &input) as usize;
         let faults = broken(&state);
         faults
             .iter()
             .for_each(|name| *clauses.entry(name).or_insert(0) += 1);
-        if let [only] = faults[..] {
+        if let ([only], true) = (&faults[..], in_range(&before)) {
             *alone.entry(only).or_insert(0) += 1;
         }
-        sound += faults.is_empty() as usize;
-        let unsound = if faults.is_empty() { 0 } else { 10 };
-        assert_eq!(exported::sound(&before), unsound, "sound, {}", input());
-
-        let (wanted, next) = machine::apply(state, event);
-        let mut after = before.clone();
-        after.extend([0xA5; GUARD]);
-        let answer = exported::event(&mut after, event);
-        assert_eq!(answer, wanted, "answer, {}", input());
-        assert_eq!(answer == 10, unsound == 10, "10, {}", input());
-        let kept = if answer == 0 {
-            bytes_of(&next)
-        } else {
-            before.clone()
-        };
-        assert_eq!(after[..STATE_SIZE], kept, "state, {}", input());
-        assert_eq!(after[STATE_SIZE..], [0xA5; GUARD], "guard, {}", input());
-        assert_eq!(exported::running(&after), after[8], "running, {}", input());
+        let answer = compare_event(&before, event, &input);
         answers.count(answer);
     }
     answers.print("events by answer");
@@ -108,7 +98,7 @@ fn a_history_agrees_with_the_second_program() {
             let event = event_of(&mut random, &state);
             let (wanted, next) = machine::apply(state, event);
             state = next;
-            let answer = exported::event(&mut bytes, event);
+            let answer = calls::event(&mut bytes, event);
             assert_eq!(
                 answer, wanted,
                 "answer, seed {seed}, event {step}, {event:?}"
@@ -136,44 +126,41 @@ fn a_fresh_start_agrees_with_the_second_program() {
                 .collect::<Vec<u8>>()
         };
         let (bases, ceilings) = (values(tasks), values(objects));
-        let wide = |bytes: &[u8]| bytes.iter().map(|b| *b as u64).collect::<Vec<u64>>();
-        let (wanted, state) = state::fresh(&wide(&bases), &wide(&ceilings));
-        let mut bytes = vec![0xA5; STATE_SIZE];
-        let answer = exported::fresh(&bases, &ceilings, &mut bytes);
-        assert_eq!(
-            answer, wanted,
-            "seed {seed}, bases {bases:?}, ceilings {ceilings:?}"
-        );
-        assert_eq!(
-            bytes,
-            bytes_of(&state),
-            "seed {seed}, bases {bases:?}, ceilings {ceilings:?}"
-        );
+        let answer = compare_fresh(&bases, &ceilings, &format!("seed {seed}"));
         answers.count(answer);
     }
     answers.print("fresh starts by answer");
     answers.require(&[0, 13, 15], LEAST);
 }
 
+/// Every length below a state's, for every call on a state.
 #[test]
 fn a_state_that_is_too_short_is_refused_and_kept() {
-    for length in [0, 1, 8, 11, 16, 1088, STATE_SIZE - 1] {
-        let (_, state) = state::fresh(&[10, 20], &[20]);
+    let (_, state) = state::fresh(&[10, 20], &[20]);
+    let events = [
+        Event::Enter(0),
+        Event::Leave(0),
+        Event::Delay(1),
+        Event::Suspend,
+        Event::Release(0),
+        Event::Clock(1),
+        Event::Set(0, 1),
+        Event::Work,
+        Event::Finish,
+    ];
+    for length in 0..STATE_SIZE {
         let mut bytes = bytes_of(&state)[..length].to_vec();
         let before = bytes.clone();
-        assert_eq!(
-            exported::event(&mut bytes, machine::Event::Work),
-            10,
-            "length {length}"
-        );
-        assert_eq!(
-            exported::fresh(&[10], &[], &mut bytes),
-            10,
-            "length {length}"
-        );
-        assert_eq!(exported::sound(&bytes), 10, "length {length}");
-        assert_eq!(exported::running(&bytes), 255, "length {length}");
-        assert_eq!(exported::fill(&bytes, &mut [0; 96]), 10, "length {length}");
-        assert_eq!(bytes, before, "length {length}");
+        let mut board = [0xA5; 96];
+        for event in events {
+            let answer = calls::event(&mut bytes, event);
+            assert_eq!(answer, 10, "length {length}, {event:?}");
+        }
+        let fresh = raw::fresh(&[10], &[], &mut bytes);
+        let fill = raw::fill(&bytes, &mut board);
+        let (sound, running) = (raw::sound(&bytes), raw::running(&bytes));
+        let found = (fresh, fill, sound, running);
+        assert_eq!(found, (10, 10, 10, 255), "length {length}");
+        assert_eq!((bytes, board), (before, [0xA5; 96]), "length {length}");
     }
 }

@@ -7,7 +7,7 @@ use std::process::{Command, Stdio};
 use harness::events::events_of;
 use harness::random::Random;
 use harness::report::{bytes_of, save, Histogram};
-use harness::rosters::{made, passing, WHOLE_CASE};
+use harness::rosters::{largest, made, passing, step, LARGEST, WHOLE_CASE, WORK};
 
 const CASES: u64 = 600;
 /// Of each refusal a few are enough: the run's own test has hundreds of each.
@@ -142,8 +142,47 @@ fn odd_files_are_refused() {
     }
     assert_eq!(alone("no-events", good, &[]), "passed\nend\n");
     assert_eq!(alone("odd-events", good, &[3, 0, 0]), "refused 21\n");
-    let steps = [3, 0, 0, 0, 0, 0, 0, 0].repeat(4096);
-    let lines = alone("most-events", good, &steps);
+}
+
+/// Good files of the largest size, and the same with a little more behind it.
+#[test]
+fn files_at_their_limits() {
+    let whole = bytes_of(WHOLE_CASE);
+    let good = |at: &Path| fs::write(at, &whole).unwrap();
+    let steps = |count: usize| [3, 0, 0, 0, 0, 0, 0, 0].repeat(count);
+    let lines = alone("most-events", good, &steps(4096));
     assert_eq!(lines.lines().count(), 4098);
     assert!(lines.starts_with("passed\n0 0\n") && lines.ends_with("5 -\nend\n"));
+    for count in [4097, 4098, 8192, 8193, 12_288] {
+        let lines = alone("more-events", good, &steps(count));
+        assert_eq!(lines, "refused 21\n", "{count} steps");
+    }
+    for more in [1, 7] {
+        let events = [&steps(4096)[..], &[0; 7][..more]].concat();
+        let lines = alone("stray-bytes", good, &events);
+        assert_eq!(lines, "refused 21\n", "{more} bytes more");
+    }
+    let roster = largest(1, 1).bytes();
+    let most = |at: &Path| fs::write(at, &roster).unwrap();
+    assert_eq!(alone("most-roster", most, &[]), "passed\nend\n");
+    for more in [1, 8, LARGEST, 2 * LARGEST] {
+        let roster = [&roster[..], &vec![0; more]].concat();
+        let lines = alone("more-roster", |at| fs::write(at, &roster).unwrap(), &[]);
+        assert_eq!(lines, "refused 11\n", "{more} bytes more");
+    }
+}
+
+/// The place of a fault far back in a script, with every number of digits.
+#[test]
+fn a_late_fault_is_named() {
+    for (tasks, objects) in [(1, 1), (32, 16)] {
+        let last = largest(tasks, objects).scripts[tasks - 1].len() - 1;
+        for index in [0, 9, 10, 99, 100, 255, 256, 999, 1000, last] {
+            let mut plan = largest(tasks, objects);
+            plan.scripts[tasks - 1][index] = step(WORK, 1, 0);
+            let prepare = |at: &Path| fs::write(at, plan.bytes()).unwrap();
+            let wanted = format!("refused 16 {} {index}\n", tasks - 1);
+            assert_eq!(alone("late-fault", prepare, &[]), wanted);
+        }
+    }
 }

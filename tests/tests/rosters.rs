@@ -1,33 +1,18 @@
 //! The proved reader and check of rosters against the second program, on made and damaged rosters.
 
-use harness::exported;
+use dispatch::raw;
+use harness::compare::{compare_parts, compare_roster};
 use harness::report::{bytes_of, hex, Histogram};
 use harness::rosters::{made, WHOLE_CASE};
-use second::roster as other;
 
 const CASES: u64 = 24_000;
 const LEAST: usize = 200;
 
-fn check_of(bytes: &[u8]) -> (u8, usize, usize) {
-    match other::admit(bytes) {
-        Ok(_) => (0, 0, 0),
-        Err(refusal) => (refusal.number, refusal.task, refusal.step),
-    }
-}
-
 #[test]
-fn check_agrees_with_the_second_program() {
+fn form_and_check_agree_with_the_second_program() {
     let mut histogram = Histogram::new();
     for seed in 0..CASES {
-        let bytes = made(seed);
-        let found = exported::check(&bytes);
-        assert_eq!(
-            found,
-            check_of(&bytes),
-            "seed {seed}, roster {}",
-            hex(&bytes)
-        );
-        histogram.count(found.0);
+        histogram.count(compare_roster(&made(seed), &format!("seed {seed}")));
     }
     histogram.print("rosters by answer of the check");
     histogram.require(&[0, 11, 12, 13, 14, 15, 16, 17, 18, 19, 20], LEAST);
@@ -35,28 +20,13 @@ fn check_agrees_with_the_second_program() {
 }
 
 #[test]
-fn form_and_scripts_agree_with_the_second_program() {
-    for seed in (0..CASES).step_by(4) {
+fn the_parts_agree_with_the_second_program() {
+    let tasks = [0, 1, 4, 31, 32, 200, 256, 1 << 32, (1 << 32) + 1, u64::MAX];
+    let objects = [0, 1, 3, 15, 16, 200, 256, 1 << 32, (1 << 32) + 1, u64::MAX];
+    for seed in (0..CASES).step_by(12) {
         let bytes = made(seed);
-        let form = match other::read(&bytes) {
-            Ok(_) => (0, 0, 0),
-            Err(refusal) => (refusal.number, refusal.task, refusal.step),
-        };
-        assert_eq!(
-            exported::form(&bytes),
-            form,
-            "form, seed {seed}, roster {}",
-            hex(&bytes)
-        );
-        for t in [0, 1, 4, 31, 32, 200, 256] {
-            let found = exported::script(&bytes, t as u64);
-            assert_eq!(
-                found,
-                other::script(&bytes, t),
-                "script {t}, seed {seed}, roster {}",
-                hex(&bytes)
-            );
-        }
+        let input = || format!("seed {seed}, roster {}", hex(&bytes));
+        compare_parts(&bytes, &tasks, &objects, &input);
     }
 }
 
@@ -65,8 +35,8 @@ fn form_and_scripts_agree_with_the_second_program() {
 fn the_whole_case() {
     let bytes = bytes_of(WHOLE_CASE);
     assert_eq!(bytes.len(), 46);
-    assert_eq!(exported::check(&bytes), (0, 0, 0));
+    assert_eq!(raw::check(&bytes), (0, 0, 0));
     let mut low = bytes.clone();
     low[36] = 0x13;
-    assert_eq!(exported::check(&low), (18, 1, 1));
+    assert_eq!(raw::check(&low), (18, 1, 1));
 }

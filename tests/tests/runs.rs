@@ -1,7 +1,7 @@
 //! The proved run against the second program: its answer, and every byte of the buffer.
 
+use dispatch::raw;
 use harness::events::events_of;
-use harness::exported;
 use harness::random::Random;
 use harness::report::{bytes_of, save, Histogram};
 use harness::rosters::{made, passing, WHOLE_CASE};
@@ -41,7 +41,7 @@ fn a_run_agrees_with_the_second_program() {
         let size = room_for(&mut random, needed);
         let mut found = vec![0xA5; size];
         let mut wanted = found.clone();
-        let answer = exported::run(&roster, &events, &mut found);
+        let answer = raw::run(&roster, &events, &mut found);
         let expected = match other::run(&roster, &events, &mut wanted) {
             Ok(()) => (0, 0, 0),
             Err(refusal) => (refusal.number, refusal.task, refusal.step),
@@ -93,10 +93,7 @@ fn the_whole_case_runs() {
     ]
     .concat();
     let mut buffer = [0xA5; 24];
-    assert_eq!(
-        exported::run(&roster, &bytes_of(&text), &mut buffer),
-        (0, 0, 0)
-    );
+    assert_eq!(raw::run(&roster, &bytes_of(&text), &mut buffer), (0, 0, 0));
     let pairs = "0000 0000 0000 0000 0001 0001 0401 0001 0000 00FF 05FF A5A5";
     assert_eq!(buffer[..], bytes_of(pairs));
 }
@@ -113,7 +110,7 @@ fn the_recordings_of_an_ada_run_time_are_met() {
         };
         let wanted = bytes_of(pairs);
         let mut buffer = vec![0xA5; wanted.len()];
-        let answer = exported::run(&bytes_of(roster), &bytes_of(events), &mut buffer);
+        let answer = raw::run(&bytes_of(roster), &bytes_of(events), &mut buffer);
         assert_eq!(answer, (0, 0, 0), "{name}");
         assert_eq!(buffer, wanted, "{name}");
         runs += 1;

@@ -116,6 +116,20 @@ pub fn ceiling(bytes: &[u8], o: usize) -> Result<u64, u8> {
     Ok(*ceiling)
 }
 
+/// How many steps the script of task `t` has; refused with 11 to 16, then 1.
+pub fn step_count(bytes: &[u8], t: usize) -> Result<u64, u8> {
+    let script = script(bytes, t)?;
+    Ok((script.len() / STEP) as u64)
+}
+
+/// The four bytes of a step of task `t`; at the script's end and behind it Finish, which is four zeros. Refused with 11 to 16, then 1.
+pub fn step(bytes: &[u8], t: usize, step: u64) -> Result<[u8; STEP], u8> {
+    let mut steps = script(bytes, t)?.chunks_exact(STEP);
+    // A script of so few bytes has no step whose number is too large for this machine.
+    let found = usize::try_from(step).ok().and_then(|step| steps.nth(step));
+    Ok(found.map_or([0; STEP], |raw| [raw[0], raw[1], raw[2], raw[3]]))
+}
+
 /// One row of the task table as it stands in the bytes.
 struct TaskRow {
     base: u64,

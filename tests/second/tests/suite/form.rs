@@ -3,7 +3,7 @@
 use crate::support::{
     delay, enter, leave, place, release, roster, set, verdict, RawStep, AGAIN, SUSPEND, WORK,
 };
-use second::roster::{base, ceiling, read, script};
+use second::roster::{base, ceiling, read, script, step, step_count};
 
 /// The number and place of a refusal by form alone.
 fn form(bytes: &[u8]) -> (u8, usize, usize) {
@@ -260,6 +260,14 @@ fn lookups_refuse_by_form_and_then_by_index() {
     );
     assert_eq!((base(&good, 1), base(&good, 2)), (Ok(20), Err(1)));
     assert_eq!((ceiling(&good, 1), ceiling(&good, 2)), (Ok(30), Err(2)));
+    assert_eq!(
+        (step_count(&good, 1), step_count(&good, 2)),
+        (Ok(1), Err(1))
+    );
+    assert_eq!(
+        (step(&good, 1, 0), step(&good, 2, 0)),
+        (Ok([5, 0, 0, 0]), Err(1))
+    );
     let faults: [(usize, u8, u8); 5] = [
         (24, 0, 12),
         (26, 0, 13),
@@ -273,6 +281,8 @@ fn lookups_refuse_by_form_and_then_by_index() {
         assert_eq!(script(&bytes, 9), Err(number));
         assert_eq!(base(&bytes, 9), Err(number));
         assert_eq!(ceiling(&bytes, 9), Err(number));
+        assert_eq!(step_count(&bytes, 9), Err(number));
+        assert_eq!(step(&bytes, 9, 9), Err(number));
     }
     assert_eq!(script(&good[..13], 0), Err(11));
 }
@@ -285,4 +295,19 @@ fn lookups_do_not_apply_the_check() {
     assert_eq!(script(&unchecked, 0), Ok(&unchecked[..4]));
     assert_eq!(base(&unchecked, 0), Ok(10));
     assert_eq!(ceiling(&unchecked, 0), Ok(20));
+}
+
+#[test]
+fn a_step_at_the_end_of_a_script_is_finish() {
+    let bytes = roster(&[(10, vec![delay(515), WORK]), (20, vec![])], &[]);
+    assert_eq!(step(&bytes, 0, 0), Ok([3, 0, 3, 2]));
+    assert_eq!(step(&bytes, 0, 1), Ok([4, 0, 0, 0]));
+    for index in [2, 3, 1 << 62, u64::MAX] {
+        assert_eq!(step(&bytes, 0, index), Ok([0; 4]));
+    }
+    assert_eq!(
+        (step_count(&bytes, 0), step_count(&bytes, 1)),
+        (Ok(2), Ok(0))
+    );
+    assert_eq!(step(&bytes, 1, 0), Ok([0; 4]));
 }

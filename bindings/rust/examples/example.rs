@@ -1,0 +1,130 @@
+//! Every kind of call through the Rust crate: a state, its board, a roster and its run.
+
+use dispatch::roster::{self, Refusal, Step};
+use dispatch::{Answer, Object, Priority, Row, State, Task};
+
+/// Two tasks and one protected object; README.md has what each byte says.
+static ROSTER: [u8; 46] = [
+    1, 0, 0, 0, 4, 0, 0, 0, 2, 0, 0, 0, // task 0: Enter 0, Work, Leave 0
+    3, 0, 5, 0, 1, 0, 0, 0, 2, 0, 0, 0, // task 1: Delay 5, Enter 0, Leave 0
+    10, 0, 0, 0, 12, 0, // base 10, script from byte 0, 12 bytes long
+    20, 0, 12, 0, 12, 0, // base 20, script from byte 12, 12 bytes long
+    20, 0, // ceiling 20
+    0x52, 0x35, 2, 1, 36, 0, 24, 0, // mark, counts, starts of the tables
+];
+
+/// An event of a run: kind 1 is Clock with its reading, 3 is Step.
+const fn event(kind: u8, value: u8) -> [u8; 8] {
+    [kind, 0, value, 0, 0, 0, 0, 0]
+}
+
+const STEP: [u8; 8] = event(3, 0);
+const EVENTS: [[u8; 8]; 11] = [
+    STEP,
+    STEP,
+    event(1, 5),
+    STEP,
+    STEP,
+    STEP,
+    event(1, 4),
+    STEP,
+    STEP,
+    STEP,
+    STEP,
+];
+
+fn show(event: &str, answer: Answer, state: &State) {
+    let number = answer.number();
+    match state.running() {
+        None => println!("{event}: {number}, running nobody"),
+        Some(Task(task)) => println!("{event}: {number}, running {task}"),
+    }
+}
+
+/// Marked cases A and B, a priority that is none, and a clock reading that goes backwards.
+fn events() -> State {
+    let (answer, mut state) = State::fresh(&[10, 20, 10], &[]);
+    show("fresh 10 20 10", answer, &state);
+    let answer = state.set(Task(1), Priority(10));
+    show("set 1 to 10", answer, &state);
+    let answer = state.set(Task(1), Priority(257));
+    show("set 1 to 257", answer, &state);
+    let answer = state.clock(5);
+    show("clock 5", answer, &state);
+    let answer = state.clock(4);
+    show("clock 4", answer, &state);
+    let answer = state.finish();
+    show("finish", answer, &state);
+    state
+}
+
+fn board(state: &State) {
+    let mut rows = [Row::default(); 3];
+    println!("fill: {}", state.fill(&mut rows).number());
+    for (task, row) in rows.iter().enumerate() {
+        println!(
+            "row {task}: place {}, priority {}, position {}",
+            row.kind, row.priority, row.position
+        );
+    }
+    match dispatch::next(&rows) {
+        Ok(Some(row)) => println!("next: 0, row {row}"),
+        Ok(None) => println!("next: 0, nobody"),
+        Err(refusal) => println!("next: {}", refusal.number()),
+    }
+}
+
+fn verdict(call: &str, result: Result<(), Refusal>) {
+    let (number, task, step) = match result {
+        Ok(()) => (0, 0, 0),
+        Err(refusal) => (refusal.answer.number(), refusal.task, refusal.step),
+    };
+    println!("{call}: {number}, task {task}, step {step}");
+}
+
+fn parts() -> Result<(), Answer> {
+    let task = Task(1);
+    let script = roster::script(&ROSTER, task)?;
+    println!(
+        "task 1: base {}, steps {}, script from {}, length {}",
+        roster::base(&ROSTER, task)?.0,
+        roster::step_count(&ROSTER, task)?,
+        script.as_ptr() as usize - ROSTER.as_ptr() as usize,
+        script.len()
+    );
+    let Priority(ceiling) = roster::ceiling(&ROSTER, Object(0))?;
+    println!("object 0: ceiling {ceiling}");
+    for step in [0, 3] {
+        let (code, a, b) = match roster::step(&ROSTER, task, step)? {
+            Step::Delay(ticks) => (3, 0, ticks),
+            Step::Finish => (0, 0, 0),
+            other => panic!("task 1 has no {other:?} there"),
+        };
+        println!("step {step} of task 1: code {code}, a {a}, b {b}");
+    }
+    if let Err(refusal) = roster::base(&ROSTER, Task(2)) {
+        println!("base of task 2: {}", refusal.number());
+    }
+    Ok(())
+}
+
+fn run() {
+    let mut buffer = [0; 22];
+    let result = roster::run(&ROSTER, EVENTS.as_flattened(), &mut buffer);
+    verdict("run", result);
+    let pairs = buffer.chunks_exact(2);
+    let pairs: Vec<String> = pairs.map(|p| format!("{} {}", p[0], p[1])).collect();
+    println!("pairs: {}", pairs.join(", "));
+}
+
+fn main() -> Result<(), Answer> {
+    let state = events();
+    board(&state);
+    verdict("check", roster::check(&ROSTER));
+    let mut low = ROSTER;
+    low[36] = 19;
+    verdict("check with ceiling 19", roster::check(&low));
+    parts()?;
+    run();
+    Ok(())
+}

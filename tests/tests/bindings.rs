@@ -1,0 +1,156 @@
+//! The safe functions of the crate `dispatch`: what a caller sees of states, boards and rosters.
+
+use dispatch::roster::{self, Refusal, Step};
+use dispatch::{next, Answer, Object, Place, Priority, Row, State, Task, MOST_TASKS, STATE_SIZE};
+use harness::report::bytes_of;
+use harness::rosters::{every_step, WHOLE_CASE};
+
+#[test]
+fn every_answer_has_its_number() {
+    for number in 0..=255 {
+        match Answer::of(number) {
+            Some(answer) => assert_eq!((answer.number(), number <= 22), (number, true)),
+            None => assert!(number > 22, "{number} is an answer"),
+        }
+    }
+    assert_eq!(Answer::Done.done(), Ok(()));
+    assert_eq!(Answer::Unsound.done(), Err(Answer::Unsound));
+    assert!(Answer::Done.is_done() && !Answer::NoSuchTask.is_done());
+}
+
+/// The marked cases that take few events: A to E and G to L.
+#[test]
+fn events_move_a_state() {
+    let (answer, mut state) = State::fresh(&[10, 20, 10], &[20]);
+    assert_eq!((answer, state.running()), (Answer::Done, Some(Task(1))));
+    assert_eq!(state.set(Task(0), Priority(10)), Answer::Done);
+    assert_eq!(state.running(), Some(Task(1)));
+    for priority in [0, 33, 256, 257, u64::MAX] {
+        assert_eq!(state.set(Task(1), Priority(priority)), Answer::BadPriority);
+    }
+    assert_eq!(state.set(Task(3), Priority(0)), Answer::NoSuchTask);
+    assert_eq!(state.enter(Object(0)), Answer::Done);
+    assert_eq!(state.enter(Object(0)), Answer::InsideAction);
+    assert_eq!(state.enter(Object(1)), Answer::NoSuchObject);
+    assert_eq!(state.delay(0), Answer::InsideAction);
+    assert_eq!(state.leave(Object(0)), Answer::Done);
+    assert_eq!(state.leave(Object(0)), Answer::NotInnermost);
+    assert_eq!(state.set(Task(1), Priority::LAST), Answer::Done);
+    assert_eq!(state.enter(Object(0)), Answer::AboveCeiling);
+    assert_eq!(state.release(Task(1)), Answer::Done);
+    assert_eq!(
+        (state.suspend(), state.running()),
+        (Answer::Done, Some(Task(1)))
+    );
+    assert_eq!(
+        (state.suspend(), state.running()),
+        (Answer::Done, Some(Task(0)))
+    );
+    assert_eq!(
+        (state.clock(5), state.clock(4)),
+        (Answer::Done, Answer::BadReading)
+    );
+    assert_eq!(
+        (state.delay(0), state.running()),
+        (Answer::Done, Some(Task(2)))
+    );
+    assert_eq!((state.work(), state.delay(7)), (Answer::Done, Answer::Done));
+    assert_eq!((state.finish(), state.running()), (Answer::Done, None));
+    assert_eq!(state.finish(), Answer::NobodyRuns);
+    assert_eq!(state.set(Task(0), Priority::DEFAULT), Answer::EndedTask);
+    assert!(state.is_sound());
+}
+
+#[test]
+fn a_state_is_kept_as_bytes() {
+    let (answer, beside) = State::fresh(&[33], &[]);
+    assert_eq!(
+        (answer, beside.clone()),
+        (Answer::BadValues, State::fresh(&[1], &[]).1)
+    );
+    assert_eq!(State::fresh(&[], &[]), (Answer::BadCounts, beside));
+    let (_, state) = State::fresh(&[7, 8], &[9]);
+    assert_eq!(State::from_bytes(*state.as_bytes()), state);
+    let mut unsound = State::from_bytes([0xFF; STATE_SIZE]);
+    assert_eq!((unsound.is_sound(), unsound.running()), (false, None));
+    assert_eq!(unsound.work(), Answer::Unsound);
+    assert_eq!(unsound, State::from_bytes([0xFF; STATE_SIZE]));
+}
+
+#[test]
+fn a_board_is_filled_and_asked() {
+    let (_, mut state) = State::fresh(&[10, 20, 10], &[]);
+    assert_eq!(state.suspend(), Answer::Done);
+    let blank = Row {
+        kind: 9,
+        priority: 9,
+        position: 9,
+    };
+    let mut board = [blank; 4];
+    assert_eq!(state.fill(&mut board), Answer::Done);
+    let places = board.map(|row| (row.place(), row.priority, row.position));
+    assert_eq!(places[0], (Some(Place::Running), 10, 0));
+    assert_eq!(places[1], (Some(Place::Suspended), 20, 0));
+    assert_eq!(places[2], (Some(Place::Ready), 10, 0));
+    assert_eq!((board[3], blank.place()), (blank, None));
+    assert_eq!(next(&board[..3]), Ok(Some(2)));
+    assert_eq!(next(&board[..2]), Ok(None));
+    assert_eq!(next(&[Row::default()]), Err(Answer::BadPriority));
+    assert_eq!(next(&[blank; MOST_TASKS + 1]), Err(Answer::BadCounts));
+    assert_eq!(state.fill(&mut board[..2]), Answer::BadCounts);
+}
+
+#[test]
+fn a_roster_is_read_and_run() {
+    let mut whole = bytes_of(WHOLE_CASE);
+    assert_eq!(
+        (roster::form(&whole), roster::check(&whole)),
+        (Ok(()), Ok(()))
+    );
+    assert_eq!(roster::script(&whole, Task(1)), Ok(&whole[12..24]));
+    assert_eq!(roster::script(&whole, Task(2)), Err(Answer::NoSuchTask));
+    assert_eq!(roster::base(&whole, Task(1)), Ok(Priority(20)));
+    assert_eq!(roster::ceiling(&whole, Object(0)), Ok(Priority(20)));
+    assert_eq!(
+        roster::ceiling(&whole, Object(1)),
+        Err(Answer::NoSuchObject)
+    );
+    assert_eq!(roster::step_count(&whole, Task(0)), Ok(3));
+    let mut buffer = [0xA5; 3];
+    assert_eq!(
+        roster::run(&whole, &[3, 0, 0, 0, 0, 0, 0, 0], &mut buffer),
+        Ok(())
+    );
+    assert_eq!(buffer, [0, 0, 0xA5]);
+    whole[36] = 19;
+    let refusal = Refusal {
+        answer: Answer::LowCeiling,
+        task: 1,
+        step: 1,
+    };
+    assert_eq!(roster::run(&whole, &[], &mut buffer), Err(refusal));
+    assert_eq!(refusal.to_string(), "refused 18 1 1");
+    assert_eq!(roster::base(&[], Task(0)), Err(Answer::BadLength));
+}
+
+#[test]
+fn every_step_is_read() {
+    let bytes = every_step().bytes();
+    let steps = |t| (0..).map(move |s| roster::step(&every_step().bytes(), Task(t), s).unwrap());
+    let first = [
+        Step::Enter(Object(0)),
+        Step::Set(Task(0), Priority(9)),
+        Step::Enter(Object(1)),
+        Step::Release(Task(2)),
+        Step::Leave(Object(1)),
+        Step::Work,
+        Step::Leave(Object(0)),
+        Step::Delay(300),
+        Step::Again,
+        Step::Finish,
+    ];
+    assert!(steps(0).take(10).eq(first));
+    assert!(steps(1).take(2).eq([Step::Suspend, Step::Delay(0)]));
+    assert_eq!(roster::step(&bytes, Task(2), u64::MAX), Ok(Step::Finish));
+    assert_eq!(roster::step(&bytes, Task(3), 0), Err(Answer::NoSuchTask));
+}

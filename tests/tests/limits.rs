@@ -1,0 +1,243 @@
+//! Sizes at their limits and one beyond, with nothing else wrong: rosters, events, buffers, boards and numbers.
+
+use harness::calls;
+use harness::compare::{compare_event, compare_parts, compare_roster, compare_run};
+use harness::layout::{bytes_of, put_rows, rows_of, ROW_SIZE};
+use harness::random::Random;
+use harness::report::hex;
+use harness::rosters::{every_step, largest, step, Plan, AGAIN, DELAY, ENTER, LARGEST, WORK};
+use harness::states::sound_state;
+use second::board::{self, Kind, Row};
+use second::limits::LARGEST_READING;
+use second::machine::Event;
+
+const STEP: [u8; 8] = [3, 0, 0, 0, 0, 0, 0, 0];
+
+/// Tasks and objects with which whole steps fill the largest roster.
+const FULL: [(usize, usize); 4] = [(1, 1), (2, 0), (31, 15), (32, 16)];
+
+#[test]
+fn a_roster_of_the_largest_size() {
+    for (tasks, objects) in FULL {
+        let plan = largest(tasks, objects);
+        let bytes = plan.bytes();
+        let input = format!("{tasks} tasks, {objects} objects");
+        assert_eq!(bytes.len(), LARGEST);
+        assert_eq!(compare_roster(&bytes, &input), 0);
+        compare_parts(&bytes, &[0, 1, 31, 32], &[0, 15, 16], &|| input.clone());
+        assert_eq!(compare_run(&bytes, &STEP.repeat(40), 80, &input), 0);
+        // the last step is looked at too
+        let mut late = plan.clone();
+        *late.scripts[tasks - 1].last_mut().unwrap() = step(WORK, 1, 0);
+        assert_eq!(compare_roster(&late.bytes(), &input), 16);
+        if objects > 0 {
+            *late.scripts[tasks - 1].last_mut().unwrap() = step(ENTER, 0, 0);
+            assert_eq!(compare_roster(&late.bytes(), &input), 17);
+        }
+        // one byte more, anywhere, and one step more
+        for at in [0, 4, LARGEST / 2, LARGEST - 8, LARGEST] {
+            let mut longer = bytes.clone();
+            longer.insert(at, 0);
+            assert_eq!(
+                compare_roster(&longer, &format!("{input}, more at {at}")),
+                11
+            );
+        }
+        let mut longer = plan.clone();
+        longer.scripts[tasks - 1].push(step(WORK, 0, 0));
+        assert_eq!(compare_roster(&longer.bytes(), &input), 11);
+    }
+}
+
+/// Every bit of the tables and the trailer of the largest roster, whose starts and lengths fill both bytes.
+#[test]
+fn the_tables_of_a_roster_of_the_largest_size() {
+    let bytes = largest(2, 0).bytes();
+    for at in LARGEST - 8 - 12..LARGEST {
+        for bit in 0..8 {
+            let mut changed = bytes.clone();
+            changed[at] ^= 1 << bit;
+            let number = compare_roster(&changed, &format!("bit {bit} of byte {at}"));
+            assert!(number != 0 || at < LARGEST - 8, "bit {bit} of byte {at}");
+        }
+    }
+}
+
+/// Every length up to that of a small roster, from its front and from its back.
+#[test]
+fn a_part_of_a_roster() {
+    let smallest = Plan {
+        bases: vec![1],
+        ceilings: Vec::new(),
+        scripts: vec![Vec::new()],
+    };
+    assert_eq!(smallest.bytes().len(), 14);
+    for bytes in [smallest.bytes(), every_step().bytes()] {
+        for cut in 0..=bytes.len() {
+            compare_roster(&bytes[cut..], &format!("without the first {cut}"));
+            compare_roster(&bytes[..cut], &format!("the first {cut}"));
+        }
+    }
+}
+
+/// Good Steps up to the most there may be, and beyond; and the same with a few bytes more or less.
+#[test]
+fn the_most_events() {
+    let roster = every_step().bytes();
+    for count in [0, 1, 2, 4095, 4096, 4097, 4098, 8191, 8192, 8193, 10_000] {
+        let input = format!("{count} steps");
+        let events = STEP.repeat(count);
+        for size in [2 * count, 2 * count + 1, 2 * count + 9] {
+            let wanted = if count <= 4096 { 0 } else { 21 };
+            assert_eq!(compare_run(&roster, &events, size, &input), wanted);
+        }
+        if count > 0 {
+            let wanted = if count <= 4096 { 22 } else { 21 };
+            for size in [0, count, 2 * count - 2, 2 * count - 1] {
+                assert_eq!(compare_run(&roster, &events, size, &input), wanted);
+            }
+        }
+        for more in 1..8 {
+            let longer = [&events[..], &[0; 8][..more]].concat();
+            assert_eq!(compare_run(&roster, &longer, 2 * count + 2, &input), 21);
+        }
+    }
+}
+
+/// A task that delays itself by a step, and readings around the time when it is due.
+#[test]
+fn every_length_of_a_delay() {
+    for d in [1, 2, 255, 256, 257, 32_767, 32_768, 32_769, 65_534, 65_535] {
+        let plan = Plan {
+            bases: vec![1, 2],
+            ceilings: Vec::new(),
+            scripts: vec![vec![step(AGAIN, 0, 0)], vec![step(DELAY, 0, d)]],
+        };
+        for now in [0, 1, 65_535, LARGEST_READING - 65_536, LARGEST_READING - 1] {
+            let due = now + d as u64;
+            let mut readings = vec![due - 1, due, due + 1];
+            readings.extend((0..16).map(|bit| due ^ (1 << bit)));
+            for reading in readings.into_iter().filter(|r| *r <= LARGEST_READING) {
+                let events = [clock(now), STEP, clock(reading), STEP, clock(due - 1)].concat();
+                compare_run(&plan.bytes(), &events, 10, &format!("{d} from {now}"));
+            }
+        }
+    }
+}
+
+fn clock(reading: u64) -> [u8; 8] {
+    let value = reading.to_le_bytes();
+    let [a, b, c, d, e, f, 0, 0] = value else {
+        panic!("{reading} has no six bytes");
+    };
+    [1, 0, a, b, c, d, e, f]
+}
+
+/// Asks a board; gives whether it is refused.
+fn compare_next(bytes: &[u8]) -> bool {
+    let found = calls::next(bytes);
+    assert_eq!(found, board::next(&rows_of(bytes)), "board {}", hex(bytes));
+    found.is_err()
+}
+
+/// Every two rows of a few kinds, priorities and positions, and every two positions.
+#[test]
+fn every_two_rows() {
+    let mut rows = Vec::new();
+    for kind in [0, 1, 2, 3, 4, 5, 255] {
+        for priority in [0, 1, 2, 31, 32, 33] {
+            rows.extend([0, 1, 128, 255].map(|position| [kind, priority, position]));
+        }
+    }
+    for first in &rows {
+        for second in &rows {
+            compare_next(&[*first, *second].concat());
+        }
+    }
+    for position in 0..=255 {
+        for other in 0..=255 {
+            compare_next(&[1, 7, position, 1, 7, other]);
+        }
+    }
+}
+
+/// Boards of many sizes whose rows are all good, and with one bad priority in a row of each kind.
+#[test]
+fn the_most_rows() {
+    let kinds = [
+        Kind::Running,
+        Kind::Ready,
+        Kind::Delayed,
+        Kind::Suspended,
+        Kind::Ended,
+    ];
+    for count in (0..=40).chain([64, 255, 256, 257, 288, 1000]) {
+        for kind in kinds {
+            let row = Row {
+                kind,
+                priority: 32,
+                position: 0,
+            };
+            let mut bytes = vec![0; ROW_SIZE * count];
+            put_rows(&mut bytes, &vec![row; count]);
+            assert_eq!(compare_next(&bytes), count > 32);
+            for (at, value) in [(0, 0), (0, 33), (count / 2, 128), (count.max(1) - 1, 255)] {
+                let mut changed = bytes.clone();
+                if let Some(priority) = changed.get_mut(ROW_SIZE * at + 1) {
+                    *priority = value;
+                    assert!(compare_next(&changed), "row {at} as {value}");
+                }
+            }
+        }
+    }
+}
+
+/// Events with numbers at the limits and far beyond, on sound states.
+#[test]
+fn every_number_of_an_event() {
+    let mut counts: Vec<usize> = (0..=34).collect();
+    counts.extend([
+        255,
+        256,
+        257,
+        65_536,
+        1 << 32,
+        (1 << 32) + 1,
+        1 << 63,
+        usize::MAX,
+    ]);
+    let mut priorities: Vec<u64> = vec![0, 1, 2, 15, 31, 32, 33, 34, 64, 128, 254, 255];
+    priorities.extend(FAR_PRIORITIES);
+    for seed in 0..60 {
+        let mut random = Random::new(seed);
+        let state = sound_state(&mut random);
+        let bytes = bytes_of(&state);
+        let now = state.now;
+        let mut events: Vec<Event> = Vec::new();
+        for &n in &counts {
+            events.extend([Event::Enter(n), Event::Leave(n), Event::Release(n)]);
+            events.extend(priorities.iter().map(|p| Event::Set(n, *p)));
+        }
+        events.extend([now.wrapping_sub(1), now, now + 1, u64::MAX].map(Event::Clock));
+        for top in [1 << 48, 1 << 49, 1 << 60, 1 << 63] {
+            events.extend([top - 1, top, top | now, top | (now + 1)].map(Event::Clock));
+        }
+        events.extend([LARGEST_READING - 1, LARGEST_READING].map(Event::Clock));
+        events.extend([0, 1, 255, 256, 32_767, 32_768, 65_534, 65_535].map(Event::Delay));
+        for event in events {
+            compare_event(&bytes, event, &format!("seed {seed}"));
+        }
+    }
+}
+
+/// Priorities that fit no byte.
+const FAR_PRIORITIES: [u64; 8] = [
+    256,
+    257,
+    65_536 + 1,
+    (1 << 32) + 1,
+    (1 << 48) + 15,
+    (1 << 63) + 32,
+    u64::MAX - 255 + 1,
+    u64::MAX,
+];
