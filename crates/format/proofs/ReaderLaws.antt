@@ -1,7 +1,7 @@
 -- Laws of the readers of a roster, by the ways of the code: what is found, and what is refused.
 use mathlib.Core.Path.{_≡_, refl, ap, sym, _∙_}
 use mathlib.Core.Bool.{Bool, true, false, cond}
-use mathlib.Core.List.{List, []}
+use mathlib.Core.List.{List}
 use Prim.Native.Nat.{ℕ, _/_, _≤_, _<_}
 use native.Mathlib.Omega.{arith}
 use borrow.Author.Tests.{leb-true, ltb-true, lt-ltb, le-ltb}
@@ -15,7 +15,7 @@ use Rattle.format.specs.Answers.{passed}
 use Rattle.format.specs.Format.{objectCount, partAt}
 use Rattle.format.specs.Steps.{stepsOf, stepIn}
 use Rattle.format.specs.Roster.{rosterOf, baseOf, scriptOf}
-use Rattle.format.specs.Form.{lengthGood, formOf, scriptAnswer, scriptPart}
+use Rattle.format.specs.Form.{lengthGood, formOf, scriptAnswer}
 use Rattle.format.specs.Readers.{objectAnswer, baseFound, ceilingFound, countFound, stepFound}
 use Rattle.format.specs.declared.Step.{Step}
 use Rattle.format.specs.declared.Verdict.{Verdict}
@@ -97,13 +97,11 @@ module _ (s : List ℕ) where
     unfolding baseFound
     base-refused g = other (passed (scriptAnswer s t)) _ _ _ (no g) (ap P.Refused e)
 
-    -- the steps of the part that the reader of scripts hands back
-    part-steps : (part : List ℕ) → b ≡ true → part ≡ scriptPart s t → stepsOf part ≡ scriptOf (rosterOf s) t
-    unfolding scriptPart
-    part-steps part g h =
-        ap stepsOf (h ∙ ap (λ (x : Bool). cond x (partAt s t) []) (ok g)) ∙ sym (script-listed s t (answered-task s t (ok g)))
+    -- the steps of the part that is the script
+    part-steps : (part : List ℕ) → b ≡ true → part ≡ partAt s t → stepsOf part ≡ scriptOf (rosterOf s) t
+    part-steps part g h = ap stepsOf h ∙ sym (script-listed s t (answered-task s t (ok g)))
 
-    pub count-found : (part : List ℕ) (n : ℕ) → b ≡ true → part ≡ scriptPart s t → n ≡ length part / stepSize → N.Found n ≡ countFound s t
+    pub count-found : (part : List ℕ) (n : ℕ) → b ≡ true → part ≡ partAt s t → n ≡ length part / stepSize → N.Found n ≡ countFound s t
     unfolding countFound
     count-found part n g h i =
         chosen (passed (scriptAnswer s t)) _ _ _ (ok g)
@@ -113,7 +111,7 @@ module _ (s : List ℕ) where
     unfolding countFound
     count-refused g = other (passed (scriptAnswer s t)) _ _ _ (no g) (ap N.Refused e)
 
-    pub step-found : (part : List ℕ) (k : ℕ) (x : Step) → b ≡ true → part ≡ scriptPart s t → x ≡ stepIn (stepsOf part) k →
+    pub step-found : (part : List ℕ) (k : ℕ) (x : Step) → b ≡ true → part ≡ partAt s t → x ≡ stepIn (stepsOf part) k →
         S.Found x ≡ stepFound s t k
     unfolding stepFound
     step-found part k x g h i =

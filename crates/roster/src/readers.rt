@@ -2,7 +2,7 @@
 ghost use mathlib.Core.Path.{_≡_};
 ghost use Rattle.format.specs.Readers.{objectAnswer, baseFound, ceilingFound, countFound, stepFound};
 use crate::forms;
-use crate::scripts::script;
+use crate::parts::script_part;
 use crate::scripts::script_answer;
 use fields::steps;
 use format::CountFound;
@@ -53,7 +53,7 @@ pub fn step_count(roster: &[u8], t: usize) -> CountFound
 {
     let v = script_answer(roster, t);
     if v.passed() {
-        let part = script(roster, t);
+        let part = script_part(roster, t as u8);
         return CountFound::Found(part.len() / Limits::STEP);
     }
     CountFound::Refused(v)
@@ -65,7 +65,7 @@ pub fn step(roster: &[u8], t: usize, k: usize) -> StepFound
 {
     let v = script_answer(roster, t);
     if v.passed() {
-        let part = script(roster, t);
+        let part = script_part(roster, t as u8);
         return StepFound::Found(steps::step_at(part, k));
     }
     StepFound::Refused(v)

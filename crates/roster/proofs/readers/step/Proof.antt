@@ -1,4 +1,7 @@
 -- `roster::readers::step` meets its contract.
+use native.Mathlib.Omega.{arith}
+use Rattle.format.proofs.FormedLaws.{tasks-few, part-inside}
+use Rattle.format.proofs.AnswerLaws.{answered-form, answered-task, answered}
 use Rattle.format.proofs.ReaderLaws.{step-found, step-refused}
 use borrow.Author.Needs.{needs}
 use Rattle.roster.proofs.readers.step.Statement.{statement}
@@ -10,8 +13,21 @@ script-answer-requires c κs = search needs
 passed-requires : tie.Need-passed-requires
 passed-requires c κs = search needs
 
-script-requires : tie.Need-script-requires
-script-requires c κs = search needs
+cast-script-part : tie.Need-cast-script-part
+cast-script-part c =
+    let c2 = c .before .before in
+    let s = c2 .before .before .args .roster .now in
+    let t = c2 .before .before .args .t in
+    let ok = answered s t _ _ (c2 .script-answer .ensures) (c .before .passed .ensures) (c .if1 .taken) in
+    omega (arith, answered-task s t ok, tasks-few s (answered-form s t ok))
+
+script-part-requires : tie.Need-script-part-requires
+script-part-requires c κs =
+    let c2 = c .before .before in
+    let s = c2 .before .before .args .roster .now in
+    let t = c2 .before .before .args .t in
+    let ok = answered s t _ _ (c2 .script-answer .ensures) (c .before .passed .ensures) (c .if1 .taken) in
+    part-inside s (answered-form s t ok) t (answered-task s t ok)
 
 step-at-requires : tie.Need-step-at-requires
 step-at-requires c κs = search needs
@@ -23,7 +39,7 @@ returns c =
     let c3 = c2 .before in
     let c5 = c3 .before .before in
     step-found (c5 .args .roster .now) _ _ _ (c3 .script-answer .ensures) (c2 .passed .ensures) _ _ _ (c1 .before .if1 .taken)
-    (c1 .script .ensures) (c .step-at .ensures)
+    (c1 .script-part .ensures) (c .step-at .ensures)
 
 returns-2 : tie.Need-returns-2
 returns-2 c =
@@ -32,4 +48,4 @@ returns-2 c =
 
 pub step-spec : {M : Type 1} → statement M
 step-spec =
-    tie.close (tie.spec script-answer-requires passed-requires script-requires step-at-requires returns returns-2)
+    tie.close (tie.spec script-answer-requires passed-requires cast-script-part script-part-requires step-at-requires returns returns-2)
