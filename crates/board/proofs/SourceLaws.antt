@@ -18,7 +18,7 @@ use Rattle.rules.proofs.PriorityLaws.{in-bounds, bounds-in}
 use Rattle.rules.proofs.Soundness.{sound-good}
 use Rattle.dispatch.specs.State.{view}
 use Rattle.dispatch.specs.Sound.{soundOf}
-use Rattle.dispatch.specs.Readers.{entryOf, queueOf, recordOf, activePriorityOf}
+use Rattle.dispatch.specs.Readers.{entryOf, queueOf, taskRecordOf, activePriorityOf}
 use Rattle.dispatch.proofs.Known.{Shaped}
 use Rattle.dispatch.specs.declared.State.{State}
 use Rattle.dispatch.specs.declared.Listed.the-variants.{Number, Nothing}
@@ -94,8 +94,8 @@ module _ (s : State) (t : ℕ) where
       let c : Core false (view s) taskLimit = sound-good (view s) (view-sound s good) .pending .core in
       bounds-in (active (view s) t) (act-low (view s) taskLimit c t h) (act-high (view s) taskLimit c t h)
 
-  row-is : soundOf s ≡ true → t < length (view s .tasks) → rowFrom (kindOf (recordOf s t .place)) (activePriorityOf s t) ≡ rowOf (view s) t
-  unfolding rowOf queuePosition recordOf activePriorityOf queueOf
+  row-is : soundOf s ≡ true → t < length (view s .tasks) → rowFrom (kindOf (taskRecordOf s t .place)) (activePriorityOf s t) ≡ rowOf (view s) t
+  unfolding rowOf queuePosition taskRecordOf activePriorityOf queueOf
   row-is good h =
       ap (λ (q : List ℕ). rowWith kind (activePriorityOf s t) (cond (isReadyKind kind) (placeIn t q) 0))
       (cond-true (inRange (active (view s) t)) _ [] (in-level good h))
@@ -104,7 +104,7 @@ module _ (s : State) (t : ℕ) where
       kind = kindOf (taskAt (view s) t .place)
 
   pub row-made : (k : Task) (x : PlaceKind) (p : Priority) (a : ℕ) → (soundOf s ≡ true) × (t < length (view s .tasks)) →
-      k ≡ recordOf s t → x ≡ kindOf (k .place) → p ≡ activePriorityOf s t → a ≡ cond (isReadyKind x) (placeIn t (queueOf s p)) 0 →
+      k ≡ taskRecordOf s t → x ≡ kindOf (k .place) → p ≡ activePriorityOf s t → a ≡ cond (isReadyKind x) (placeIn t (queueOf s p)) 0 →
       rowWith x p a ≡ rowOf (view s) t
   row-made k x p a asked e f g h =
       ap (rowWith x p) h ∙ ap (rowFrom x) g ∙

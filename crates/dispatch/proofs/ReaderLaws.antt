@@ -24,7 +24,7 @@ use Rattle.memory.proofs.GridLaws.{row-at, list-at, list-count}
 use Rattle.dispatch.specs.declared.State.{State}
 use Rattle.dispatch.specs.declared.Listed.the-variants.{Number, Nothing}
 use Rattle.dispatch.specs.State.{level, priority, view, waitingFor, taskFor, holding}
-use Rattle.dispatch.specs.Readers.{listAt, entryOf, queueOf, recordOf, heldOf, activePriorityOf}
+use Rattle.dispatch.specs.Readers.{listAt, entryOf, queueOf, taskRecordOf, heldOf, activePriorityOf}
 use Rattle.dispatch.proofs.Known.{Shaped}
 use Rattle.dispatch.proofs.EncodeLaws.{together-tasks, together-held, together-length}
 
@@ -120,8 +120,8 @@ module _ (s : State) (known : Shaped s) where
     past : length (view s .tasks) ≤ t → taskAt (view s) t ≡ blank
     past h = List·getD-eq-default (view s .tasks) blank {n = t} h
 
-    pub task-none : length (view s .tasks) ≤ t → blankTask ≡ recordOf s t
-    unfolding recordOf waitingFor
+    pub task-none : length (view s .tasks) ≤ t → blankTask ≡ taskRecordOf s t
+    unfolding taskRecordOf waitingFor
     task-none h = ap taskFor (sym (past h))
 
     pub held-none : length (view s .tasks) ≤ t → [] ≡ heldOf s t
@@ -139,8 +139,8 @@ module _ (s : State) (known : Shaped s) where
     unfolding view all
     record-is h = getD-take (s .«task_count») all t blank (omega (arith, count-is))
 
-    pub task-is : t < length (view s .tasks) → getD (s .tasks) t blankTask ≡ recordOf s t
-    unfolding recordOf waitingFor all
+    pub task-is : t < length (view s .tasks) → getD (s .tasks) t blankTask ≡ taskRecordOf s t
+    unfolding taskRecordOf waitingFor all
     task-is h =
         let parts = together-tasks (s .tasks) (heldIn (s .held)) same-count in
         ap (λ (ks : List Task). getD ks t blankTask) (sym parts) ∙
@@ -154,10 +154,10 @@ module _ (s : State) (known : Shaped s) where
         (ap (λ (ls : List (List ℕ)). getD ls t []) (sym parts) ∙
         (List·getD-map holding all t blank ∙ ap holding (sym (record-is h))))
 
-    pub active-is : (base : Priority) (a : ℕ) → t < length (view s .tasks) → base ≡ recordOf s t .base →
+    pub active-is : (base : Priority) (a : ℕ) → t < length (view s .tasks) → base ≡ taskRecordOf s t .base →
         a ≡ highestOf (take (s .«object_count») (map level (s .ceilings))) (base .0) (listAt heldWidth t (s .held)) →
         priority a ≡ activePriorityOf s t
-    unfolding activePriorityOf recordOf heldOf view
+    unfolding activePriorityOf taskRecordOf heldOf view
     active-is base a h e f = ap priority (f ∙ rw (e, held-is h))
 
 -- the ceiling of an object

@@ -27,8 +27,8 @@ unfoldable pub queueOf : State → Priority → List ℕ
 queueOf s p = cond (inRange (p .0)) (queue (view s) (p .0)) []
 
 -- the record of task t, and the objects that it holds, outermost first; past the last task it is blank
-unfoldable pub recordOf : State → ℕ → Task
-recordOf s t = taskFor (taskAt (view s) t)
+unfoldable pub taskRecordOf : State → ℕ → Task
+taskRecordOf s t = taskFor (taskAt (view s) t)
 
 unfoldable pub heldOf : State → ℕ → List ℕ
 heldOf s t = taskAt (view s) t .held

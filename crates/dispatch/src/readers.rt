@@ -8,7 +8,7 @@ ghost use Rattle.rules.specs.Model.{ceilingOf, highestOf};
 ghost use Rattle.memory.specs.Rows.{heldWidth};
 ghost use Rattle.memory.specs.Tasks.{blankTask};
 ghost use Rattle.dispatch.specs.State.{level, view};
-ghost use Rattle.dispatch.specs.Readers.{listAt, entryOf, queueOf, recordOf, heldOf, activePriorityOf};
+ghost use Rattle.dispatch.specs.Readers.{listAt, entryOf, queueOf, taskRecordOf, heldOf, activePriorityOf};
 use crate::Listed;
 use crate::State;
 use memory::sizes::HELD_WIDTH;
@@ -132,7 +132,7 @@ impl State {
 
     // The record of the task t, a blank one past the last.
     pub fn task(self, t: u64) -> Task
-        ensures { λ r. ⌜ r ≡ recordOf self t ⌝ }
+        ensures { λ r. ⌜ r ≡ taskRecordOf self t ⌝ }
     {
         if self.has_task(t) {
             let i = t as usize;

@@ -35,7 +35,7 @@ use Rattle.memory.proofs.MemoryLaws.{idle, busy}
 use Rattle.trace.specs.declared.Input.{Input}
 use Rattle.trace.specs.declared.Input.the-variants.{Step as Stepped}
 use Rattle.trace.specs.Config.{Config, Outcome, Asked, event, nothing, eventOf, answerTo, perform, positionAfter, isDone}
-use Rattle.trace.specs.Config.{advance, nextStep, positionOf, stepBy, outside, happen}
+use Rattle.trace.specs.Config.{advance, nextStep, positionAt, stepBy, outside, happen}
 use Rattle.run.specs.Slices.{configOf, Going, Happened}
 
 -- a step moves a position on by one at most
@@ -126,10 +126,10 @@ module _ {s h ts hd cs qs ps : List ℕ} (g : Going s h ts hd cs qs ps) where
       abbrev pub c : Config
       c = configOf s h ts hd cs qs ps
 
-      position-is : positionOf c t ≡ k
+      position-is : positionAt c t ≡ k
       position-is = getD-take (taskCount s) ps t 0 runner-listed ∙ sym place
 
-      next-is : nextStep (rosterOf s) t (positionOf c t) ≡ x
+      next-is : nextStep (rosterOf s) t (positionAt c t) ≡ x
       next-is =
           ap (nextStep (rosterOf s) t) position-is ∙
           (ap (λ (l : List Step). stepIn l k) (script-listed s t runner-listed ∙ ap stepsOf (sym script)) ∙ sym next)
@@ -138,7 +138,7 @@ module _ {s h ts hd cs qs ps : List ℕ} (g : Going s h ts hd cs qs ps) where
       unfolding happen stepBy
       step-is =
           ap (stepBy (rosterOf s) c) runner-is ∙
-          (ap (λ (y : Step). advance c t (positionAfter (positionOf c t) y) (perform (c .model) y)) next-is ∙
+          (ap (λ (y : Step). advance c t (positionAfter (positionAt c t) y) (perform (c .model) y)) next-is ∙
           ap (λ (j : ℕ). advance c t (positionAfter j x) (perform (c .model) x)) position-is)
 
       -- the outcome, by names for its parts

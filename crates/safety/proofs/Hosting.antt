@@ -20,7 +20,7 @@ use Rattle.format.specs.declared.Step.{Step}
 use Rattle.format.specs.declared.Step.the-variants.{Enter, Leave, Delay, Work, Suspend, Release, Set, Again, Finish}
 use Rattle.format.proofs.PassedLaws.{Orderly, orderly}
 use Rattle.trace.specs.Config.{Config, Outcome, Asked, event as asks, nothing, startOf, eventOf, answerTo, perform}
-use Rattle.trace.specs.Config.{positionOf, nextStep, advance, outside, stepBy, happen}
+use Rattle.trace.specs.Config.{positionAt, nextStep, advance, outside, stepBy, happen}
 use Rattle.dispatch.specs.declared.Stepped.{Stepped}
 use Rattle.dispatch.specs.State.{view, encode}
 use Rattle.dispatch.proofs.EncodeLaws.{view-encode}
@@ -59,7 +59,7 @@ module _ (c : Config) (s : sound (c .model) ≡ true) where
   step-is : (r : Roster) (w : Runner) → c .model .running ≡ w → stepOn r (beside c) w ≡ replied (stepBy r c w)
   unfolding stepOn stepBy advance apply
   step-is r Nobody e = rw (applied-encode (c .model) s event.Work, work-5 (c .model) e)
-  step-is r (Task t) e = rw (called-is (nextStep r t (positionOf c t)))
+  step-is r (Task t) e = rw (called-is (nextStep r t (positionAt c t)))
 
   call-is : (r : Roster) (e : history.Event) → call r (beside c) e ≡ replied (happen r c (inputOf e))
   unfolding call happen outside inputOf apply encode
@@ -76,7 +76,7 @@ module _ (c : Config) (s : sound (c .model) ≡ true) where
   step-never : (r : Roster) (w : Runner) → stepBy r c w .answer ≡ Unsound → ⊥
   unfolding stepBy advance perform
   step-never r Nobody u = absurd (omega (arith, ap numberOf u))
-  step-never r (Task t) u = answer-never (eventOf (nextStep r t (positionOf c t))) u
+  step-never r (Task t) u = answer-never (eventOf (nextStep r t (positionAt c t))) u
 
   event-never : (r : Roster) (e : history.Event) → happen r c (inputOf e) .answer ≡ Unsound → ⊥
   unfolding happen outside inputOf apply

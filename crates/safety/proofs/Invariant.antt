@@ -29,7 +29,7 @@ use Rattle.format.specs.declared.Step.{Step}
 use Rattle.format.specs.declared.Step.the-variants.{Enter, Leave, Delay, Work, Suspend, Release, Set, Again, Finish}
 use Rattle.format.proofs.PassedLaws.{Orderly}
 use Rattle.trace.specs.Config.{Config, Asked, event, nothing, eventOf, answerTo, perform, positionAfter, isDone}
-use Rattle.trace.specs.Config.{advance, nextStep, positionOf, stepBy, outside, happen}
+use Rattle.trace.specs.Config.{advance, nextStep, positionAt, stepBy, outside, happen}
 use Rattle.safety.specs.History.{Event, clock as read, release as free, step, inputOf}
 use Rattle.safety.specs.Reckon.{Away, here, until, resting, gone, Status, Reckoning, unknown, statusAt, withStatus, atPosition}
 use Rattle.safety.specs.Reckon.{insideOf}
@@ -401,7 +401,7 @@ by-step : (r : Roster) → Orderly r → (c : Config) (b : Reckoning) → Inv r 
 unfolding stepBy
 by-step r k c b i Nobody e = i
 by-step r k c b i (Task t) e =
-    stepped r k (c .model) (c .positions) b (i .good) (i .agree) (i .ceilings) (i .size) (i .fits) t e c refl refl (positionOf c t)
+    stepped r k (c .model) (c .positions) b (i .good) (i .agree) (i .ceilings) (i .size) (i .fits) t e c refl refl (positionAt c t)
     (ap (λ (v : Status). v .position) (sym (i .agree .each t)))
 
 -- every event

@@ -35,7 +35,7 @@ use Rattle.rules.proofs.EventLaws.{rebase-other}
 use Rattle.rules.proofs.Readings.{reading-early, reading-low}
 use Rattle.safety.specs.Reckon.{Away, here, until, resting, gone, Status, Reckoning, unknown, statusAt, withStatus, insideOf}
 use Rattle.safety.specs.Reckon.{basedOn}
-use Rattle.safety.specs.Reckon.{permitted, goes, awayAfter, readAt, released, releasedIn, becomesBase, atLeave, setTo}
+use Rattle.safety.specs.Reckon.{permitted, goes, awayAfter, readAt, released, releasedIn, becomesBase, atLeave, afterSet}
 use Rattle.safety.proofs.Agree.{awayOf, statusOf, Agree, agree-alike, agree-task, agree-same, agree-kept, status-twice}
 
 -- an accepted event: the Model after it is good and agrees with the reckoning b
@@ -199,7 +199,7 @@ module _ (ps : List ℕ) (b : Reckoning) (m : Model) (h : Good true m) (a : Agre
       (agree-task b (m .now) (m .tasks) ps a t _ _ low (ap (λ (v : Status). goes v gone) is))
 
   -- Set of the running task itself
-  pub fine-set : (p : ℕ) → inRange p ≡ true → Fine ps (withStatus b t (setTo (statusAt b t) p)) (setBase m t p)
+  pub fine-set : (p : ℕ) → inRange p ≡ true → Fine ps (withStatus b t (afterSet (statusAt b t) p)) (setBase m t p)
   unfolding isEnded
   fine-set p g =
       fine ps _ (setBase m t p) (rebase m t p) (set-0 m t p (lt-leb (length (m .tasks)) t low) g (ap isEnded place-is))
@@ -232,7 +232,7 @@ module _ (ps : List ℕ) (b : Reckoning) (m : Model) (h : Good true m) (a : Agre
           (ap (basedOn x p) (sym (calm z)) ∙ sym moved))
           (at-same (λ (v : TaskRecord). v .place) blank (m .tasks) t (withBase (taskAt m t) p) t refl low ∙ place-is)
 
-      sets : (c : Bool) → inside (taskAt m t) ≡ c → Agree (withStatus b t (setTo x p)) (rebase m t p .now) (rebase m t p .tasks) ps
+      sets : (c : Bool) → inside (taskAt m t) ≡ c → Agree (withStatus b t (afterSet x p)) (rebase m t p .now) (rebase m t p .tasks) ps
       sets true f =
           at-model ps _ (rebase m t p) _ (rebase-inside m t p f)
           (passed-by _ _ ps b t (eqb (length (x .inside)) 0) _ _

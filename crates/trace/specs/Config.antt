@@ -93,14 +93,14 @@ advance c t k r =
 abbrev pub nextStep : Roster → ℕ → ℕ → Step
 nextStep r t k = stepIn (scriptOf r t) k
 
-abbrev pub positionOf : Config → ℕ → ℕ
-positionOf c t = getD (c .positions) t 0
+abbrev pub positionAt : Config → ℕ → ℕ
+positionAt c t = getD (c .positions) t 0
 
 -- a Step is taken by the running task; answer 5 where nobody runs
 unfoldable pub stepBy : Roster → Config → Runner → Outcome
 stepBy r c Nobody = record { answer = NobodyRuns; config = c }
 stepBy r c (Task t) =
-    advance c t (positionAfter (positionOf c t) (nextStep r t (positionOf c t))) (perform (c .model) (nextStep r t (positionOf c t)))
+    advance c t (positionAfter (positionAt c t) (nextStep r t (positionAt c t))) (perform (c .model) (nextStep r t (positionAt c t)))
 
 -- Clock, Release and Set are the rules' own, and move no position
 unfoldable pub outside : Config → Moved → Outcome
