@@ -205,7 +205,7 @@ uint8_t dispatch_finish(uint8_t *state, size_t length);
 
 /* 0, or 10 for a state that is not sound. */
 uint8_t dispatch_sound(const uint8_t *state, size_t length);
-/* The running task, or 255 for nobody, for too few bytes and where the state names no task of its own. */
+/* The running task, or 255 for nobody, for too few bytes or a number out of range in them, and where they name no task of theirs. */
 uint8_t dispatch_running(const uint8_t *state, size_t length);
 
 /* Fills the first rows, one per task, and no others: 0; or 10, then 13 for too few rows, and nothing is written. */

@@ -67,9 +67,9 @@ answers! {
     BadCounts = 13,
     /// A start or a length off the roster's layout.
     BadLayout = 14,
-    /// A base or ceiling outside 1 to 32, or a byte of a roster that has to be 0.
+    /// A base or ceiling outside 1 to 32, or a byte of a roster that has to be 0 and is not.
     BadValues = 15,
-    /// A step that is none, has an unused operand, or names no listed task or object.
+    /// A step that is none, has an unused operand that is not 0, or names no listed task or object.
     BadStep = 16,
     /// Delay, Suspend, Again or the script's end while something is held, or Enter of a held object.
     WhileHeld = 17,
