@@ -94,7 +94,8 @@ module _ (s : State) (t : ℕ) where
       let c : Core false (view s) taskLimit = sound-good (view s) (view-sound s good) .pending .core in
       bounds-in (active (view s) t) (act-low (view s) taskLimit c t h) (act-high (view s) taskLimit c t h)
 
-  row-is : soundOf s ≡ true → t < length (view s .tasks) → rowFrom (kindOf (taskRecordOf s t .place)) (activePriorityOf s t) ≡ rowOf (view s) t
+  row-is : soundOf s ≡ true → t < length (view s .tasks) →
+      rowFrom (kindOf (taskRecordOf s t .place)) (activePriorityOf s t) ≡ rowOf (view s) t
   unfolding rowOf queuePosition taskRecordOf activePriorityOf queueOf
   row-is good h =
       ap (λ (q : List ℕ). rowWith kind (activePriorityOf s t) (cond (isReadyKind kind) (placeIn t q) 0))

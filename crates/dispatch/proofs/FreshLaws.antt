@@ -37,7 +37,8 @@ module _ (s : Setup) where
   none-13 h = counts-bad (rw (lt-leb 1 (length (s .bases)) h))
 
   pub many-13 : taskLimit < length (s .bases) → beside (record { answer = BadCounts; model = refusedFresh }) ≡ freshOf s
-  many-13 h = counts-bad (rw (and-false (leb 1 (length (s .bases))) (leb (length (s .bases)) taskLimit) (lt-leb (length (s .bases)) taskLimit h)))
+  many-13 h =
+      counts-bad (rw (and-false (leb 1 (length (s .bases))) (leb (length (s .bases)) taskLimit) (lt-leb (length (s .bases)) taskLimit h)))
 
   pub objects-13 : objectLimit < length (s .ceilings) → beside (record { answer = BadCounts; model = refusedFresh }) ≡ freshOf s
   objects-13 h =
@@ -46,7 +47,8 @@ module _ (s : Setup) where
 
   module _ (some : 1 ≤ length (s .bases)) (most : length (s .bases) ≤ taskLimit) (few : length (s .ceilings) ≤ objectLimit) where
     counts-good : setupCounted s ≡ true
-    counts-good = rw (le-leb 1 (length (s .bases)) some, le-leb (length (s .bases)) taskLimit most, le-leb (length (s .ceilings)) objectLimit few)
+    counts-good =
+        rw (le-leb 1 (length (s .bases)) some, le-leb (length (s .bases)) taskLimit most, le-leb (length (s .ceilings)) objectLimit few)
 
     values-bad : setupInRange s ≡ false →
         beside (record { answer = BadBases; model = refusedFresh }) ≡ freshOf s

@@ -22,7 +22,8 @@ unfolding Model.highestOf Lists.timesIn Lists.without Lists.allOf Lists.below Wo
     Format.trailer Format.taskCount Format.objectCount Format.objectTable Format.taskTable Format.taskRow Format.baseAt Format.startAt
     Format.lengthAt Format.objectRow Format.ceilingAt Format.partAt Steps.setStep Steps.stepOf Steps.codeAt Steps.aAt Steps.bAt
     Steps.stepAt Steps.stepsOf Roster.rosterOf Form.lengthGood Form.markGood Form.countsKept Form.tablesGood Form.scriptsEnd Form.laidFrom
-    Form.scriptLaid Form.scriptsLaid Form.layoutGood Form.taskRowGood Form.objectRowGood Form.valuesGood Form.isStep Form.unusedZero Form.namesListed
+    Form.scriptLaid Form.scriptsLaid Form.layoutGood Form.taskRowGood Form.objectRowGood Form.valuesGood Form.isStep Form.unusedZero
+    Form.namesListed
     Form.standsRight Form.stepGood Form.stepForm Form.stepsForm Form.scriptForm Form.scriptsForm Form.formOf Form.scriptAnswer
     Form.scriptPart Check.heldAfter Check.heldBefore Check.ownSet Check.topOf Check.whileHeld Check.lowCeiling Check.notInnermost
     Check.otherTask Check.faultOf Check.faultIn Check.stepsFault Check.topAt Check.scriptFault Check.rosterFault Check.checkOf Cases.cases
@@ -34,7 +35,8 @@ unfolding Model.highestOf Lists.timesIn Lists.without Lists.allOf Lists.below Wo
     Format.trailer Format.taskCount Format.objectCount Format.objectTable Format.taskTable Format.taskRow Format.baseAt Format.startAt
     Format.lengthAt Format.objectRow Format.ceilingAt Format.partAt Steps.setStep Steps.stepOf Steps.codeAt Steps.aAt Steps.bAt
     Steps.stepAt Steps.stepsOf Roster.rosterOf Form.lengthGood Form.markGood Form.countsKept Form.tablesGood Form.scriptsEnd Form.laidFrom
-    Form.scriptLaid Form.scriptsLaid Form.layoutGood Form.taskRowGood Form.objectRowGood Form.valuesGood Form.isStep Form.unusedZero Form.namesListed
+    Form.scriptLaid Form.scriptsLaid Form.layoutGood Form.taskRowGood Form.objectRowGood Form.valuesGood Form.isStep Form.unusedZero
+    Form.namesListed
     Form.standsRight Form.stepGood Form.stepForm Form.stepsForm Form.scriptForm Form.scriptsForm Form.formOf Form.scriptAnswer
     Form.scriptPart Check.heldAfter Check.heldBefore Check.ownSet Check.topOf Check.whileHeld Check.lowCeiling Check.notInnermost
     Check.otherTask Check.faultOf Check.faultIn Check.stepsFault Check.topAt Check.scriptFault Check.rosterFault Check.checkOf Cases.cases
@@ -46,10 +48,12 @@ unfolding Model.highestOf Lists.timesIn Lists.without Lists.allOf Lists.below Wo
     Format.trailer Format.taskCount Format.objectCount Format.objectTable Format.taskTable Format.taskRow Format.baseAt Format.startAt
     Format.lengthAt Format.objectRow Format.ceilingAt Format.partAt Steps.setStep Steps.stepOf Steps.codeAt Steps.aAt Steps.bAt
     Steps.stepAt Steps.stepsOf Roster.rosterOf Form.lengthGood Form.markGood Form.countsKept Form.tablesGood Form.scriptsEnd Form.laidFrom
-    Form.scriptLaid Form.scriptsLaid Form.layoutGood Form.taskRowGood Form.objectRowGood Form.valuesGood Form.isStep Form.unusedZero Form.namesListed
+    Form.scriptLaid Form.scriptsLaid Form.layoutGood Form.taskRowGood Form.objectRowGood Form.valuesGood Form.isStep Form.unusedZero
+    Form.namesListed
     Form.standsRight Form.stepGood Form.stepForm Form.stepsForm Form.scriptForm Form.scriptsForm Form.formOf Form.scriptAnswer
     Form.scriptPart Readers.objectAnswer
-    Readers.baseFound Readers.ceilingFound Readers.countFound Readers.stepFound Check.heldAfter Check.heldBefore Check.ownSet Check.topOf Check.whileHeld Check.lowCeiling Check.notInnermost
+    Readers.baseFound Readers.ceilingFound Readers.countFound Readers.stepFound
+    Check.heldAfter Check.heldBefore Check.ownSet Check.topOf Check.whileHeld Check.lowCeiling Check.notInnermost
     Check.otherTask Check.faultOf Check.faultIn Check.stepsFault Check.topAt Check.scriptFault Check.rosterFault Check.checkOf Cases.cases
     Cases.lookups
 read = record {
@@ -71,7 +75,8 @@ unfolding Model.highestOf Lists.timesIn Lists.without Lists.allOf Lists.below Wo
     Format.trailer Format.taskCount Format.objectCount Format.objectTable Format.taskTable Format.taskRow Format.baseAt Format.startAt
     Format.lengthAt Format.objectRow Format.ceilingAt Format.partAt Steps.setStep Steps.stepOf Steps.codeAt Steps.aAt Steps.bAt
     Steps.stepAt Steps.stepsOf Roster.rosterOf Form.lengthGood Form.markGood Form.countsKept Form.tablesGood Form.scriptsEnd Form.laidFrom
-    Form.scriptLaid Form.scriptsLaid Form.layoutGood Form.taskRowGood Form.objectRowGood Form.valuesGood Form.isStep Form.unusedZero Form.namesListed
+    Form.scriptLaid Form.scriptsLaid Form.layoutGood Form.taskRowGood Form.objectRowGood Form.valuesGood Form.isStep Form.unusedZero
+    Form.namesListed
     Form.standsRight Form.stepGood Form.stepForm Form.stepsForm Form.scriptForm Form.scriptsForm Form.formOf Form.scriptAnswer
     Form.scriptPart Check.heldAfter Check.heldBefore Check.ownSet Check.topOf Check.whileHeld Check.lowCeiling Check.notInnermost
     Check.otherTask Check.faultOf Check.faultIn Check.stepsFault Check.topAt Check.scriptFault Check.rosterFault Check.checkOf Cases.cases

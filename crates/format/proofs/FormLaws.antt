@@ -111,12 +111,13 @@ module _ (n m : ℕ) (last : Bool) (a b : ℕ) (x : Step) where
   unfolding stepGood
   good-unused u e f = three-first _ _ _ (sym e ∙ f)
 
-  pub good-unlisted : (u v : Bool) → u ≡ (isStep x && unusedZero a b x) → u ≡ true → v ≡ namesListed n m x → v ≡ false → false ≡ stepGood n m last a b x
+  pub good-unlisted : (u v : Bool) → u ≡ (isStep x && unusedZero a b x) → u ≡ true → v ≡ namesListed n m x → v ≡ false →
+      false ≡ stepGood n m last a b x
   unfolding stepGood
   good-unlisted u v e f g h = three-second _ _ _ (sym e ∙ f) (sym g ∙ h)
 
-  pub good-rest : (u v w : Bool) → u ≡ (isStep x && unusedZero a b x) → u ≡ true → v ≡ namesListed n m x → v ≡ true → w ≡ standsRight last x →
-      w ≡ stepGood n m last a b x
+  pub good-rest : (u v w : Bool) → u ≡ (isStep x && unusedZero a b x) → u ≡ true → v ≡ namesListed n m x → v ≡ true →
+      w ≡ standsRight last x → w ≡ stepGood n m last a b x
   unfolding stepGood
   good-rest u v w e f g h i = three-third _ _ _ _ (sym e ∙ f) (sym g ∙ h) i
 

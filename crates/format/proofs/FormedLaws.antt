@@ -16,7 +16,8 @@ use Rattle.words.specs.Words.{byteAt}
 use Rattle.format.specs.Format.{taskRow, objectRow, taskCount, objectCount, baseAt, ceilingAt, startAt, lengthAt, partAt}
 use Rattle.format.specs.Steps.{aAt, bAt, stepAt, stepCount, stepsOf, stepIn}
 use Rattle.format.specs.Form.{lengthGood, markGood, countsKept, layoutGood, valuesGood, taskRowGood, objectRowGood}
-use Rattle.format.specs.Form.{isStep, unusedZero, namesListed, standsRight, stepGood, stepForm, stepsForm, scriptForm, scriptsForm, formOf}
+use Rattle.format.specs.Form.{isStep, unusedZero, namesListed, standsRight, stepGood, stepForm, stepsForm}
+use Rattle.format.specs.Form.{scriptForm, scriptsForm, formOf}
 use Rattle.format.specs.declared.Verdict.the-variants.{Passed, BadLength, BadMark, BadCounts, BadLayout, BadValues, BadStep}
 use Rattle.format.proofs.TestLaws.{truth, past, by-test, below-at, first-at}
 use Rattle.format.proofs.StepLaws.{steps-at, steps-past}

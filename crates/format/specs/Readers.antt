@@ -30,7 +30,8 @@ baseFound s t =
 
 unfoldable pub ceilingFound : List ℕ → ℕ → PriorityFound
 ceilingFound s o =
-    cond (passed (objectAnswer s o)) (Priority.Found (record { 0 = ceilingOf (rosterOf s .ceilings) o })) (Priority.Refused (objectAnswer s o))
+    cond (passed (objectAnswer s o)) (Priority.Found (record { 0 = ceilingOf (rosterOf s .ceilings) o }))
+    (Priority.Refused (objectAnswer s o))
 
 -- how many steps the script of a task has; the step at position k, "at the script's end .. Finish"
 unfoldable pub countFound : List ℕ → ℕ → CountFound

@@ -51,7 +51,8 @@ fresh-head (a ∷ (b ∷ (c ∷ (x ∷ [])))) n k e = refl
 fresh-head (a ∷ (b ∷ (c ∷ (x ∷ (y ∷ l))))) n k e = absurd (omega arith)
 
 -- blank slices with newcomers, ceilings and counts written: nobody has started
-module _ (bs given h ts₀ ts hd cs₀ cs qs : List ℕ) (s : Startable (record { bases = bs; ceilings = given })) (head : h ≡ 0 ∷ (0 ∷ (length bs ∷ (length given ∷ []))))
+module _ (bs given h ts₀ ts hd cs₀ cs qs : List ℕ) (s : Startable (record { bases = bs; ceilings = given }))
+    (head : h ≡ 0 ∷ (0 ∷ (length bs ∷ (length given ∷ []))))
     (empty : ts₀ ≡ replicate (taskLimit * taskWidth) 0) (new : Enrolled ts₀ ts bs) (held : hd ≡ replicate (taskLimit * heldWidth) 0)
     (none : cs₀ ≡ replicate objectLimit 0) (ceilings : cs ≡ given ++ drop (length given) cs₀)
     (queues : qs ≡ replicate (lastPriority * queueWidth) 0) where

@@ -30,7 +30,8 @@ unfolding Lists.timesIn Lists.without Lists.allOf Lists.below Model.highestOf Mo
     Format.taskTable Format.taskRow Format.baseAt Format.startAt Format.lengthAt Format.objectRow Format.ceilingAt Format.partAt
     Steps.setStep Steps.stepOf Steps.codeAt Steps.aAt Steps.bAt Steps.stepAt Steps.stepsOf Roster.rosterOf Form.lengthGood Form.markGood
     Form.countsKept Form.tablesGood Form.scriptsEnd Form.laidFrom Form.scriptLaid Form.scriptsLaid Form.layoutGood Form.taskRowGood
-    Form.objectRowGood Form.valuesGood Form.isStep Form.unusedZero Form.namesListed Form.standsRight Form.stepGood Form.stepForm Form.stepsForm
+    Form.objectRowGood Form.valuesGood Form.isStep Form.unusedZero Form.namesListed Form.standsRight Form.stepGood Form.stepForm
+    Form.stepsForm
     Form.scriptForm Form.scriptsForm Form.formOf Form.scriptAnswer Form.scriptPart Check.heldAfter Check.heldBefore Check.ownSet
     Check.topOf Check.whileHeld Check.lowCeiling Check.notInnermost Check.otherTask Check.faultOf Check.faultIn Check.stepsFault
     Check.topAt Check.scriptFault Check.rosterFault Check.checkOf Config.startOf Config.eventOf Config.answerTo Config.perform

@@ -187,7 +187,8 @@ module _ (s : Setup) (ok : Startable s) where
 module _ (s : Setup) where
   -- with counts in range, with bases and ceilings in range too
   counted : Moved
-  counted = cond (not (setupInRange s)) (record { answer = BadBases; model = refusedFresh }) (record { answer = Done; model = freshModel s })
+  counted =
+      cond (not (setupInRange s)) (record { answer = BadBases; model = refusedFresh }) (record { answer = Done; model = freshModel s })
 
   pub fresh-13 : setupCounted s ≡ false → fresh s ≡ record { answer = BadCounts; model = refusedFresh }
   unfolding fresh counted

@@ -14,7 +14,8 @@ use Rattle.rules.specs.Model.{Model, TaskRecord, NextBase, none, waits, 
 use Rattle.rules.specs.Moves.{highestTo, highest}
 use Rattle.rules.specs.Events.{noTask, inside}
 use Rattle.rules.specs.Sound.{sizesGood, waitingGood, recordGood, runnerGood, numbersGood, isRunning, isReady, runs, queued}
-use Rattle.rules.specs.Sound.{standsIn, inOnePlace, onePlace, ownQueue, dueGood, dueAhead, highestRuns, distinct, rising, heldGood, holdersHere, isNone}
+use Rattle.rules.specs.Sound.{standsIn, inOnePlace, onePlace, ownQueue, dueGood, dueAhead, highestRuns}
+use Rattle.rules.specs.Sound.{distinct, rising, heldGood, holdersHere, isNone}
 use Rattle.rules.specs.Sound.{waitingInside, sound}
 use Rattle.rules.specs.declared.Place.{Place}
 use Rattle.rules.specs.declared.Place.the-variants.{Running, Ready, Delayed, Suspended, Ended}

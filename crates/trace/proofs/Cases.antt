@@ -35,7 +35,8 @@ unfolding Lists.timesIn Lists.without Lists.allOf Lists.below Model.highestOf Mo
     Format.taskTable Format.taskRow Format.baseAt Format.startAt Format.lengthAt Format.objectRow Format.ceilingAt Format.partAt
     Steps.setStep Steps.stepOf Steps.codeAt Steps.aAt Steps.bAt Steps.stepAt Steps.stepsOf Roster.rosterOf Form.lengthGood Form.markGood
     Form.countsKept Form.tablesGood Form.scriptsEnd Form.laidFrom Form.scriptLaid Form.scriptsLaid Form.layoutGood Form.taskRowGood
-    Form.objectRowGood Form.valuesGood Form.isStep Form.unusedZero Form.namesListed Form.standsRight Form.stepGood Form.stepForm Form.stepsForm
+    Form.objectRowGood Form.valuesGood Form.isStep Form.unusedZero Form.namesListed Form.standsRight Form.stepGood Form.stepForm
+    Form.stepsForm
     Form.scriptForm Form.scriptsForm Form.formOf Form.scriptAnswer Form.scriptPart Check.heldAfter Check.heldBefore Check.ownSet
     Check.topOf Check.whileHeld Check.lowCeiling Check.notInnermost Check.otherTask Check.faultOf Check.faultIn Check.stepsFault
     Check.topAt Check.scriptFault Check.rosterFault Check.checkOf Config.startOf Config.eventOf Config.answerTo Config.perform
@@ -54,14 +55,16 @@ unfolding Lists.timesIn Lists.without Lists.allOf Lists.below Model.highestOf Mo
     Format.taskTable Format.taskRow Format.baseAt Format.startAt Format.lengthAt Format.objectRow Format.ceilingAt Format.partAt
     Steps.setStep Steps.stepOf Steps.codeAt Steps.aAt Steps.bAt Steps.stepAt Steps.stepsOf Roster.rosterOf Form.lengthGood Form.markGood
     Form.countsKept Form.tablesGood Form.scriptsEnd Form.laidFrom Form.scriptLaid Form.scriptsLaid Form.layoutGood Form.taskRowGood
-    Form.objectRowGood Form.valuesGood Form.isStep Form.unusedZero Form.namesListed Form.standsRight Form.stepGood Form.stepForm Form.stepsForm
+    Form.objectRowGood Form.valuesGood Form.isStep Form.unusedZero Form.namesListed Form.standsRight Form.stepGood Form.stepForm
+    Form.stepsForm
     Form.scriptForm Form.scriptsForm Form.formOf Form.scriptAnswer Form.scriptPart Check.heldAfter Check.heldBefore Check.ownSet
     Check.topOf Check.whileHeld Check.lowCeiling Check.notInnermost Check.otherTask Check.faultOf Check.faultIn Check.stepsFault
     Check.topAt Check.scriptFault Check.rosterFault Check.checkOf Config.startOf Config.eventOf Config.answerTo Config.perform
     Config.positionAfter Config.advance Config.stepBy Config.outside Config.happen Inputs.decode Inputs.valueAt Inputs.decodedAt
     Inputs.eventGood Inputs.eventsGood Inputs.inputAt Inputs.inputsOf Run.answerOf Run.runningByte Run.pairOf Run.pairsFrom Run.pairsOf
     Run.bufferOf Cases.cases
-long-events-refused events h = sym (and-no _ _ (and-none (eqb (length events % 8) 0) (leb (length events) 32768) (lt-leb (length events) 32768 h)))
+long-events-refused events h =
+    sym (and-no _ _ (and-none (eqb (length events % 8) 0) (leb (length events) 32768) (lt-leb (length events) 32768 h)))
   where
     and-none : (a b : Bool) → b ≡ false → (a && b) ≡ false
     and-none true b e = e

@@ -24,7 +24,8 @@ fresh-requires c κs = search needs
 store-requires : tie.Need-store-requires
 store-requires c κs =
     let a = c .before .before .before .before .before .before .before .before .before .before .before .before in
-    fresh-valid (record { bases = a .args .bases .now; ceilings = a .args .given .now }) (a .pre) (c .before .before .before .before .fresh .ensures)
+    fresh-valid (record { bases = a .args .bases .now; ceilings = a .args .given .now }) (a .pre)
+    (c .before .before .before .before .fresh .ensures)
 
 returns : tie.Need-returns
 returns c = c .store .ensures ∙ ap encode (c .before .before .before .before .before .fresh .ensures .same)

@@ -60,7 +60,8 @@ put-rows-requires c κs =
     let a = t .before .before .before .args in
     let ok = sym (t .readable .ensures) ∙ not-false _ (j .if1 .left) in
     let room = fill-room (a .bytes .now) (a .board .now) ok _ (r .read .ensures) blankRows refl _ (l .lent .ensures) in
-    room (f .fill-first .result .answer) (f .fill-first .result .rows) (f .fill-first .ensures) _ (n .number2 .ensures) (omega (arith, i .if2 .left))
+    room (f .fill-first .result .answer) (f .fill-first .result .rows) (f .fill-first .ensures) _ (n .number2 .ensures)
+    (omega (arith, i .if2 .left))
 
 same-length : tie.Need-same-length
 same-length c = search needs

@@ -43,8 +43,8 @@ returns-2 : tie.Need-returns-2 Inv-loop μ-loop
 returns-2 c =
     let l = c .before .before .before in
     let b = l .before .before in
-    rows-fail (b .before .before .args .s .now) _ (b .byte-at .ensures) (l .loop .t) _ (l .loop .inv .1) (c .before .before .loop-test .taken)
-    (c .before .row-in-range .ensures) (not-true _ (c .if2 .taken))
+    rows-fail (b .before .before .args .s .now) _ (b .byte-at .ensures) (l .loop .t) _ (l .loop .inv .1)
+    (c .before .before .loop-test .taken) (c .before .row-in-range .ensures) (not-true _ (c .if2 .taken))
 
 add-t : tie.Need-add-t Inv-loop μ-loop
 add-t c = search needs
@@ -56,7 +56,8 @@ loop-again : tie.Need-loop-again Inv-loop μ-loop
 loop-again c =
     let l = c .before .before .before in
     let s = l .before .before .before .before .args .s .now in
-    (omega arith, l .loop .inv .1, rows-more s (l .loop .t) _ (l .loop .inv .2) (c .before .row-in-range .ensures) (not-false _ (c .if2 .left)))
+    let more = rows-more s (l .loop .t) _ (l .loop .inv .2) (c .before .row-in-range .ensures) (not-false _ (c .if2 .left)) in
+    (omega arith, l .loop .inv .1, more)
 
 returns-3 : tie.Need-returns-3 Inv-loop μ-loop
 returns-3 c =

@@ -19,7 +19,8 @@ use Rattle.roster.proofs.checks.steps_fault.Tie as tie
 
 abbrev Inv-loop : tie.InvT-loop
 Inv-loop roster part top t n held₀ k₀ held k =
-    (k ≤ n) × (Holds held (heldBefore (stepsOf part) k)) × (first k (faultIn (rosterOf roster .ceilings) (top .0) t (stepsOf part)) ≡ Passed)
+    (k ≤ n) × (Holds held (heldBefore (stepsOf part) k)) ×
+    (first k (faultIn (rosterOf roster .ceilings) (top .0) t (stepsOf part)) ≡ Passed)
 
 abbrev μ-loop : tie.MeasureT-loop
 μ-loop roster part top t n held₀ k₀ held k = n - k

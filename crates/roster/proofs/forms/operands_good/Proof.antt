@@ -45,15 +45,21 @@ enum-told-9 c = search needs
 
 returns : tie.Need-returns
 unfolding isStep unusedZero
-returns c = sym (ap (λ (x : Step). isStep x && unusedZero (c .before .before .args .a) (c .before .before .args .b) x) (c .enum-told .given .1))
+returns c =
+    let c2 = c .before .before in
+    sym (ap (λ (x : Step). isStep x && unusedZero (c2 .args .a) (c2 .args .b) x) (c .enum-told .given .1))
 
 returns-2 : tie.Need-returns-2
 unfolding isStep unusedZero
-returns-2 c = sym (ap (λ (x : Step). isStep x && unusedZero (c .before .before .args .a) (c .before .before .args .b) x) (c .enum-told2 .given .1))
+returns-2 c =
+    let c2 = c .before .before in
+    sym (ap (λ (x : Step). isStep x && unusedZero (c2 .args .a) (c2 .args .b) x) (c .enum-told2 .given .1))
 
 returns-3 : tie.Need-returns-3
 unfolding isStep unusedZero
-returns-3 c = sym (ap (λ (x : Step). isStep x && unusedZero (c .before .before .args .a) (c .before .before .args .b) x) (c .enum-told3 .given .1))
+returns-3 c =
+    let c2 = c .before .before in
+    sym (ap (λ (x : Step). isStep x && unusedZero (c2 .args .a) (c2 .args .b) x) (c .enum-told3 .given .1))
 
 returns-4 : tie.Need-returns-4
 unfolding isStep unusedZero
@@ -69,11 +75,15 @@ returns-5 c =
 
 returns-6 : tie.Need-returns-6
 unfolding isStep unusedZero
-returns-6 c = sym (ap (λ (x : Step). isStep x && unusedZero (c .before .before .args .a) (c .before .before .args .b) x) (c .enum-told6 .given .1))
+returns-6 c =
+    let c2 = c .before .before in
+    sym (ap (λ (x : Step). isStep x && unusedZero (c2 .args .a) (c2 .args .b) x) (c .enum-told6 .given .1))
 
 returns-7 : tie.Need-returns-7
 unfolding isStep unusedZero
-returns-7 c = sym (ap (λ (x : Step). isStep x && unusedZero (c .before .before .args .a) (c .before .before .args .b) x) (c .enum-told7 .given .1))
+returns-7 c =
+    let c2 = c .before .before in
+    sym (ap (λ (x : Step). isStep x && unusedZero (c2 .args .a) (c2 .args .b) x) (c .enum-told7 .given .1))
 
 returns-8 : tie.Need-returns-8
 unfolding isStep unusedZero
@@ -83,7 +93,9 @@ returns-8 c =
 
 returns-9 : tie.Need-returns-9
 unfolding isStep unusedZero
-returns-9 c = sym (ap (λ (x : Step). isStep x && unusedZero (c .before .before .args .a) (c .before .before .args .b) x) (c .enum-told9 .given .1))
+returns-9 c =
+    let c2 = c .before .before in
+    sym (ap (λ (x : Step). isStep x && unusedZero (c2 .args .a) (c2 .args .b) x) (c .enum-told9 .given .1))
 
 pub operands-good-spec : {M : Type 1} → statement M
 operands-good-spec =
