@@ -79,6 +79,7 @@ package Dispatcher with Preelaborate is
    procedure Suspend (S : in out State; Result : out Answer);
    procedure Release (S : in out State; T : Task_Number; Result : out Answer);
    procedure Clock (S : in out State; Now : Reading; Result : out Answer);
+   --  A ready or running task goes to the tail of its queue whatever the value; inside an action the base waits.
    procedure Set_Base (S : in out State; T : Task_Number; Base : Priority; Result : out Answer);
    procedure Work (S : in out State; Result : out Answer);
    procedure Finish (S : in out State; Result : out Answer);

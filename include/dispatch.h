@@ -199,6 +199,7 @@ uint8_t dispatch_delay(uint8_t *state, size_t length, uint16_t ticks);
 uint8_t dispatch_suspend(uint8_t *state, size_t length);
 uint8_t dispatch_release(uint8_t *state, size_t length, uint64_t task);
 uint8_t dispatch_clock(uint8_t *state, size_t length, uint64_t reading);
+/* A ready or running task goes to the tail of its queue whatever the value; inside an action the base waits. */
 uint8_t dispatch_set(uint8_t *state, size_t length, uint64_t task, uint64_t priority);
 uint8_t dispatch_work(uint8_t *state, size_t length);
 uint8_t dispatch_finish(uint8_t *state, size_t length);

@@ -359,9 +359,6 @@ impl Machine {
             self.waiting[t] = p;
             return 0;
         }
-        if p == self.base[t] {
-            return 0;
-        }
         match self.place[t] {
             Place::Ready => {
                 self.take_out(t);

@@ -98,11 +98,8 @@ fn the_whole_case_runs() {
     assert_eq!(buffer[..], bytes_of(pairs));
 }
 
-/// What a real Ada run-time did: tests/second/tests/vectors/README.md says how it was recorded.
-#[test]
-fn the_recordings_of_an_ada_run_time_are_met() {
-    let recorded = include_str!("../second/tests/vectors/ada-base.txt");
-    let mut runs = 0;
+/// Plays recorded runs of a real Ada run-time, and gives their number.
+fn met(recorded: &str) -> usize {
     for line in recorded.lines() {
         let fields: Vec<&str> = line.split_whitespace().collect();
         let [name, roster, events, pairs] = fields[..] else {
@@ -113,8 +110,14 @@ fn the_recordings_of_an_ada_run_time_are_met() {
         let answer = raw::run(&bytes_of(roster), &bytes_of(events), &mut buffer);
         assert_eq!(answer, (0, 0, 0), "{name}");
         assert_eq!(buffer, wanted, "{name}");
-        runs += 1;
     }
-    println!("{runs} recorded runs");
-    assert_eq!(runs, 182);
+    recorded.lines().count()
+}
+
+/// What a real Ada run-time did, Sets to the same base included: tests/second/tests/vectors/README.md says how it was recorded.
+#[test]
+fn the_recordings_of_an_ada_run_time_are_met() {
+    let base = include_str!("../second/tests/vectors/ada-base.txt");
+    let set = include_str!("../second/tests/vectors/ada-set.txt");
+    assert_eq!((met(base), met(set)), (182, 15));
 }

@@ -61,6 +61,7 @@ impl State {
     }
 
     /// A task's base becomes this, or waits until the task leaves its outermost object: 0, 1, 3, 6, 10.
+    /// A ready or running task goes to the tail of its queue, whatever the value.
     pub fn set(&mut self, task: Task, priority: Priority) -> Answer {
         Answer::from_library(raw::set(&mut self.bytes, task.0, priority.0))
     }

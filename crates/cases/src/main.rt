@@ -82,7 +82,7 @@ fn case_b() {
     end();
 }
 
-// "A then Set 0, 10: nothing moves"
+// "A then Set 0, 10", since 2026-04: "1 runs, queue 10 is 2, 0"
 fn case_c() {
     let s = begin(b"C", &[10, 20, 10], &[]);
     let s = print_answer(b", set(0, 10)", s.set(0, Priority(10)));

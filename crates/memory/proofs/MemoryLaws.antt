@@ -96,9 +96,6 @@ module _ {h ts hd cs qs : List ℕ} (d : LaidOut h ts hd cs qs) where
   pub waiting-is : (t : ℕ) → t < taskCountIn h → taskAt (modelOf h ts hd cs qs) t .waiting ≡ waitingIn (taskIn ts t .waiting)
   waiting-is t g = ap (λ (k : TaskRecord). k .waiting) (task-is t g)
 
-  pub base-is : (t : ℕ) → t < taskCountIn h → taskAt (modelOf h ts hd cs qs) t .base ≡ taskIn ts t .base .0
-  base-is t g = ap (λ (k : TaskRecord). k .base) (task-is t g)
-
   pub permit-is : (t : ℕ) → t < taskCountIn h → taskAt (modelOf h ts hd cs qs) t .permit ≡ taskIn ts t .permit
   permit-is t g = ap (λ (k : TaskRecord). k .permit) (task-is t g)
 

@@ -241,23 +241,12 @@ module _ (m : Model) (t p : ℕ) where
   unfolding known
   set-0 e g h = on-known e g ∙ cond-false (isEnded (taskAt m t .place)) (refused m EndedTask) _ h
 
-  -- inside an action the base waits; outside, the base it has moves nobody, and another one moves the task
+  -- inside an action the base waits; outside, the base changes and the task moves
   pub rebase-inside : inside (taskAt m t) ≡ true → rebase m t p ≡ withTask m t (withWaiting (taskAt m t) (waits p))
   unfolding rebase
   rebase-inside e = cond-true (inside (taskAt m t)) (withTask m t (withWaiting (taskAt m t) (waits p))) _ e
 
-  outer : Model
-  outer = cond (eqb (taskAt m t .base) p) m (requeue (withTask m t (withBase (taskAt m t) p)) t (active m t) (taskAt m t .place))
-
-  on-outer : inside (taskAt m t) ≡ false → rebase m t p ≡ outer
-  unfolding rebase outer
-  on-outer e = cond-false (inside (taskAt m t)) (withTask m t (withWaiting (taskAt m t) (waits p))) outer e
-
-  pub rebase-same : inside (taskAt m t) ≡ false → eqb (taskAt m t .base) p ≡ true → rebase m t p ≡ m
-  unfolding outer
-  rebase-same e b = on-outer e ∙ cond-true (eqb (taskAt m t .base) p) m _ b
-
-  pub rebase-other : inside (taskAt m t) ≡ false → eqb (taskAt m t .base) p ≡ false →
+  pub rebase-outside : inside (taskAt m t) ≡ false →
       rebase m t p ≡ requeue (withTask m t (withBase (taskAt m t) p)) t (active m t) (taskAt m t .place)
-  unfolding outer
-  rebase-other e b = on-outer e ∙ cond-false (eqb (taskAt m t .base) p) m _ b
+  unfolding rebase
+  rebase-outside e = cond-false (inside (taskAt m t)) (withTask m t (withWaiting (taskAt m t) (waits p))) _ e

@@ -445,8 +445,7 @@ pub pending-rebase : {ord : Bool} (m : Model) (t p : ℕ) → Pending ord m → 
 unfolding rebase waitingGood
 pending-rebase {ord} m t p h l g =
     both-ways (Pending ord) (inside (taskAt m t)) _ _ (λ z. later (ltb-true 0 (depth (taskAt m t)) z))
-    (λ z. both-ways (Pending ord) (eqb (taskAt m t .base) p) _ _ (λ i. h)
-    (λ i. pending-based m t p h l (hold-none (taskAt m t) z) g (taskAt m t .place) refl))
+    (λ z. pending-based m t p h l (hold-none (taskAt m t) z) g (taskAt m t .place) refl)
   where
     later : 0 < depth (taskAt m t) → Pending ord (withTask m t (withWaiting (taskAt m t) (waits p)))
     later z =

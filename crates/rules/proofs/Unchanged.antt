@@ -90,8 +90,7 @@ module _ (P : Model → Type 0)
   unfolding rebase
   on-rebase m t p h =
       both-ways P (inside (taskAt m t)) _ _ (λ e. put m t _ h)
-      (λ e. both-ways P (eqb (taskAt m t .base) p) m _ (λ i. h)
-      (λ i. on-requeue _ t (active m t) (taskAt m t .place) (put m t _ h)))
+      (λ e. on-requeue _ t (active m t) (taskAt m t .place) (put m t _ h))
 
   on-put : (m : Model) (t d : ℕ) → P m → P (putOff m t d)
   unfolding putOff

@@ -81,8 +81,8 @@ markedCases =
     case A (10 ∷ 20 ∷ 10 ∷ []) [] [] [] (Task 1) (at 10 (0 ∷ 2 ∷ [])) ∷
     -- "A then Set 1, 10: 0 runs, queue 2, 1"
     case B (10 ∷ 20 ∷ 10 ∷ []) [] (Set 1 (to 10) ∷ []) (0 ∷ []) (Task 0) (at 10 (2 ∷ 1 ∷ [])) ∷
-    -- "A then Set 0, 10: nothing moves"
-    case C (10 ∷ 20 ∷ 10 ∷ []) [] (Set 0 (to 10) ∷ []) (0 ∷ []) (Task 1) (at 10 (0 ∷ 2 ∷ [])) ∷
+    -- "A then Set 0, 10": since 2026-04 "1 runs, queue 10 is 2, 0"
+    case C (10 ∷ 20 ∷ 10 ∷ []) [] (Set 0 (to 10) ∷ []) (0 ∷ []) (Task 1) (at 10 (2 ∷ 0 ∷ [])) ∷
     -- "Enter at the ceiling: 0; one above: 8"
     case D (10 ∷ []) (10 ∷ []) (Enter 0 ∷ []) (0 ∷ []) (Task 0) [] ∷
     case D (11 ∷ []) (10 ∷ []) (Enter 0 ∷ []) (8 ∷ []) (Task 0) [] ∷

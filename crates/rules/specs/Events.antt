@@ -166,14 +166,13 @@ requeue m t stood (Delayed d) = m
 requeue m t stood Suspended = m
 requeue m t stood Ended = m
 
--- "Set t, p: outside a protected action the base becomes p"; "Setting a base to the value it already has moves nobody.
--- Inside an action p waits, a later one replacing it"
+-- "Set t, p: outside a protected action the base becomes p", and t moves whatever the value (2026-04: source 002, D.2.3, note 15 for a
+-- ready task, and its rule for a running one, 6/2, which has no exception); "Inside an action p waits, a later one replacing it"
 unfoldable pub rebase : Model → ℕ → ℕ → Model
 rebase m t p =
     cond (inside (taskAt m t))
     (withTask m t (withWaiting (taskAt m t) (waits p)))
-    (cond (eqb (taskAt m t .base) p) m
-    (requeue (withTask m t (withBase (taskAt m t) p)) t (active m t) (taskAt m t .place)))
+    (requeue (withTask m t (withBase (taskAt m t) p)) t (active m t) (taskAt m t .place))
 
 unfoldable pub isEnded : Place → Bool
 isEnded Running = false

@@ -4,7 +4,7 @@ use mathlib.Core.Bool.{Bool, true, false, cond}
 use mathlib.Core.List.{List, [], _∷_, _++_, map}
 use Prim.Native.Nat.{ℕ, _+_, _-_, _≤_, _<_}
 use native.Mathlib.Omega.{arith}
-use borrow.Author.Tests.{eq-eqb, ne-eqb, eqb-true, lt-leb, le-ltb, ltb-true}
+use borrow.Author.Tests.{eq-eqb, ne-eqb, lt-leb, le-ltb, ltb-true}
 use lib.Dec.{eqb, leb}
 use lib.ListN.{length, getD, take, length-set, length-map, List·getD-map}
 use Rattle.rules.specs.Limits.{lastDelay}
@@ -30,8 +30,7 @@ use Rattle.rules.proofs.Pending.{Pending, Good, hold-none, t-in, pending-enter,
 use Rattle.rules.proofs.Pending.{pending-release, pending-clock, pending-rebase}
 use Rattle.rules.proofs.Kept.{good-dispatch}
 use Rattle.rules.proofs.EventLaws.{enter-0, leave-0, settle-inside, settle-none, settle-due, delay-0, put-tail, put-until, suspend-0}
-use Rattle.rules.proofs.EventLaws.{rest-permit, rest-none, finish-0, work-0, release-0, clock-0, set-0, rebase-inside, rebase-same}
-use Rattle.rules.proofs.EventLaws.{rebase-other}
+use Rattle.rules.proofs.EventLaws.{rest-permit, rest-none, finish-0, work-0, release-0, clock-0, set-0, rebase-inside, rebase-outside}
 use Rattle.rules.proofs.Readings.{reading-early, reading-low}
 use Rattle.safety.specs.Reckon.{Away, here, until, resting, gone, Status, Reckoning, unknown, statusAt, withStatus, insideOf}
 use Rattle.safety.specs.Reckon.{basedOn}
@@ -214,12 +213,6 @@ module _ (ps : List ℕ) (b : Reckoning) (m : Model) (h : Good true m) (a : Agre
       calm : length (taskAt m t .held) ≡ 0 → taskAt m t .waiting ≡ none
       calm = h .pending .fair t low .calm
 
-      same-base : taskAt m t .base ≡ p → length (taskAt m t .held) ≡ 0 → basedOn x p none ≡ x
-      same-base f z =
-          ap (λ (v : Status). basedOn v p none) is ∙
-          ap (λ (v : ℕ). basedOn (statusOf (taskAt m t) (getD ps t 0)) v none) (sym f) ∙
-          ap (basedOn (statusOf (taskAt m t) (getD ps t 0)) (taskAt m t .base)) (sym (calm z)) ∙ sym is
-
       moved : statusOf (withBase (taskAt m t) p) (getD ps t 0) ≡ basedOn x p (taskAt m t .waiting)
       moved = ap (λ (v : Status). basedOn v p (taskAt m t .waiting)) (sym is)
 
@@ -241,16 +234,8 @@ module _ (ps : List ℕ) (b : Reckoning) (m : Model) (h : Good true m) (a : Agre
       sets false f =
           let z : length (taskAt m t .held) ≡ 0 = hold-none (taskAt m t) f in
           chosen _ _ ps b t (eqb (length (x .inside)) 0) _ _ (eq-eqb (length (x .inside)) 0 (depth-is ∙ z))
-          (by-base (eqb (taskAt m t .base) p) refl z)
-        where
-          by-base : (c : Bool) → eqb (taskAt m t .base) p ≡ c → length (taskAt m t .held) ≡ 0 →
-              Agree (withStatus b t (basedOn x p none)) (rebase m t p .now) (rebase m t p .tasks) ps
-          by-base true i z =
-              at-model ps _ (rebase m t p) m (rebase-same m t p f i)
-              (agree-same b (m .now) (m .tasks) ps a t _ (same-base (eqb-true (taskAt m t .base) p i) z))
-          by-base false i z =
-              at-model ps _ (rebase m t p) _
-              (rebase-other m t p f i ∙ ap (requeue (withTask m t (withBase (taskAt m t) p)) t (active m t)) place-is) (other z)
+          (at-model ps _ (rebase m t p) _
+          (rebase-outside m t p f ∙ ap (requeue (withTask m t (withBase (taskAt m t) p)) t (active m t)) place-is) (other z))
 
   -- Leave: the status gives up o, its innermost
   pub fine-leave : (o : ℕ) → o < length (m .ceilings) → innermost (taskAt m t) o ≡ true →

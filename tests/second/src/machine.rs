@@ -86,14 +86,14 @@ fn release(state: &mut State, t: usize) {
     }
 }
 
+/// A Set that takes effect sends a ready or running task to the tail, whatever the value: request
+/// 2026-04, by D.2.3 note 15 (whether or not the active priority of a ready task changes) and by
+/// D.2.3 paragraph 6, which makes no exception for a running task either.
 fn set(state: &mut State, t: usize, p: u64) {
     let task = &mut state.tasks[t];
     if !task.held.is_empty() {
         // A base changed inside an action would let an equal task enter the same object.
         task.waiting = Some(p);
-        return;
-    }
-    if task.base == p {
         return;
     }
     task.base = p;
@@ -105,6 +105,7 @@ fn set(state: &mut State, t: usize, p: u64) {
             }
             state.join_tail(t);
         }
+        // A delayed or suspended task stands in no ready queue, and an ended one is refused.
         Place::Delayed { .. } | Place::Suspended | Place::Ended => {}
     }
 }

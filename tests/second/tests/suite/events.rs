@@ -341,13 +341,6 @@ fn set_on_the_running_task_sends_it_to_the_tail() {
 }
 
 #[test]
-fn set_to_the_same_base_moves_neither_running_nor_ready() {
-    let state = fresh(&[20, 20, 20], &[]);
-    assert_eq!(play(state.clone(), &[Set(0, 20)]), state);
-    assert_eq!(play(state.clone(), &[Set(1, 20)]), state);
-}
-
-#[test]
 fn set_on_a_blocked_task_changes_its_base_alone() {
     let state = play(
         fresh(&[10, 20, 20], &[]),

@@ -9,6 +9,7 @@ mod marked_cases;
 mod program;
 mod random;
 mod run;
+mod same_base;
 mod soundness;
 mod support;
 mod vectors;

@@ -1,4 +1,4 @@
-//! The marked cases A to L of document 01.
+//! The marked cases A to L of document 01, C as request 2026-04 mends it.
 
 use crate::support::{answer, fresh, play, queue};
 use second::machine::Event::{Clock, Delay, Enter, Leave, Release, Set, Suspend};
@@ -24,8 +24,10 @@ fn b_set_to_the_equals_priority_goes_behind_them() {
 }
 
 #[test]
-fn c_set_to_the_same_base_moves_nobody() {
-    assert_eq!(play(case_a(), &[Set(0, 10)]), case_a());
+fn c_set_to_the_same_base_goes_behind_the_equals() {
+    let state = play(case_a(), &[Set(0, 10)]);
+    assert_eq!(state.running, Some(1));
+    assert_eq!(queue(&state, 10), [2, 0]);
 }
 
 #[test]

@@ -1,14 +1,12 @@
 -- `moves::effects::rebase` meets its contract.
-use mathlib.Core.Path.{ap, _∙_, sym}
+use mathlib.Core.Path.{_∙_, sym}
 use Prim.Native.Nat.{_-_}
 use borrow.Author.Needs.{needs}
-use borrow.Author.Tests.{eq-eqb, ne-eqb}
 use Rattle.rules.specs.Events.{requeue}
 use Rattle.rules.specs.Model.{Model}
-use Rattle.rules.specs.declared.Priority.{Priority}
-use Rattle.rules.proofs.EventLaws.{rebase-inside, rebase-same, rebase-other}
+use Rattle.rules.proofs.EventLaws.{rebase-inside, rebase-outside}
 use Rattle.moves.proofs.EffectLaws.{readable, holdable, wait-law, inside-is, outside-is}
-use Rattle.memory.proofs.MemoryLaws.{as-laid, means-by, then-means, place-is, base-is, base-law}
+use Rattle.memory.proofs.MemoryLaws.{means-by, then-means, place-is, base-law}
 use Rattle.moves.proofs.MoveLaws.{counted}
 use Rattle.moves.proofs.effects.rebase.Statement.{statement}
 use Rattle.moves.proofs.effects.rebase.Tie as tie
@@ -41,49 +39,23 @@ returns c =
     let in-action = inside-is d _ _ g (at-depth .depth .ensures) (at-if1 .if1 .taken) in
     means-by (wait-law d _ _ g (at-set-waiting .set-waiting .ensures)) (sym (rebase-inside _ _ _ in-action))
 
-base-requires : tie.Need-base-requires
-base-requires c κs =
-    let entry = c .before .before .before .before .before .before .before in
-    let d = entry .pre .0 in
-    let g = counted d (entry .pre .1 .there) in
-    readable d _ g
-
-same-length-2 : tie.Need-same-length-2
-same-length-2 c = search needs
-
-returns-2 : tie.Need-returns-2
-returns-2 c =
-    let at-base = c .before .before .before in
-    let at-if1 = at-base .before .before in
-    let at-depth = at-if1 .before in
-    let entry = at-depth .before .before .before .before .before in
-    let d = entry .pre .0 in
-    let g = counted d (entry .pre .1 .there) in
-    let bare = outside-is d _ _ g (at-depth .depth .ensures) (at-if1 .if1 .left) in
-    let same = base-is d _ g ∙ (ap (λ (p : Priority). p .0) (sym (at-base .base .ensures)) ∙ c .if2 .taken) in
-    means-by (as-laid d) (sym (rebase-same _ _ _ bare (eq-eqb _ _ same)))
-
 active-requires : tie.Need-active-requires
 active-requires c κs =
-    let entry = c .before .before .before .before .before .before .before .before .before .before .before .before .before .before in
+    let entry = c .before .before .before .before .before .before .before .before .before in
     let d = entry .pre .0 in
     let g = counted d (entry .pre .1 .there) in
     (d, g)
 
 place-requires : tie.Need-place-requires
 place-requires c κs =
-    let entry =
-    c .before .before .before .before .before .before .before .before .before .before .before .before .before .before .before
-    .before in
+    let entry = c .before .before .before .before .before .before .before .before .before .before .before in
     let d = entry .pre .0 in
     let g = counted d (entry .pre .1 .there) in
     readable d _ g
 
 set-base-requires : tie.Need-set-base-requires
 set-base-requires c κs =
-    let entry =
-    c .before .before .before .before .before .before .before .before .before .before .before .before .before .before .before
-    .before .before .before in
+    let entry = c .before .before .before .before .before .before .before .before .before .before .before .before .before in
     let d = entry .pre .0 in
     let g = counted d (entry .pre .1 .there) in
     readable d _ g
@@ -93,7 +65,7 @@ requeue-requires c κs =
     let at-set-base = c .before .before .before .before .before in
     let at-place = at-set-base .before .before in
     let at-active = at-place .before .before in
-    let at-if1 = at-active .before .before .before .before .before .before .before .before .before in
+    let at-if1 = at-active .before .before .before .before in
     let at-depth = at-if1 .before in
     let entry = at-depth .before .before .before .before .before in
     let d = entry .pre .0 in
@@ -103,21 +75,19 @@ requeue-requires c κs =
     let place = at-place .place .ensures ∙ sym (place-is d _ g) in
     (x .laid, rw (x .same, at-active .active .ensures, place) (entry .pre .1 .outside bare))
 
+same-length-2 : tie.Need-same-length-2
+same-length-2 c = search needs
+
 same-length-3 : tie.Need-same-length-3
 same-length-3 c = search needs
 
-same-length-4 : tie.Need-same-length-4
-same-length-4 c = search needs
-
-returns-3 : tie.Need-returns-3
-returns-3 c =
+returns-2 : tie.Need-returns-2
+returns-2 c =
     let at-requeue = c .before .before .before .before in
     let at-set-base = at-requeue .before .before .before .before .before .before in
     let at-place = at-set-base .before .before in
     let at-active = at-place .before .before in
-    let at-if2 = at-active .before .before .before .before in
-    let at-base = at-if2 .before .before .before in
-    let at-if1 = at-base .before .before in
+    let at-if1 = at-active .before .before .before .before in
     let at-depth = at-if1 .before in
     let entry = at-depth .before .before .before .before .before in
     let d = entry .pre .0 in
@@ -126,12 +96,10 @@ returns-3 c =
     let t = entry .args .t in
     let x = base-law d _ _ g (at-set-base .set-base .ensures) in
     let place = at-place .place .ensures ∙ sym (place-is d _ g) in
-    let base = ap (λ (p : Priority). p .0) (at-base .base .ensures) ∙ sym (base-is d _ g) in
-    let other = ne-eqb _ _ (λ e. at-if2 .if2 .left (base ∙ e)) in
     let y =
     then-means (λ (m : Model). requeue m t (at-active .active .result .0) (at-place .place .result)) x
     (at-requeue .requeue .ensures) in
-    means-by y (rw (at-active .active .ensures, place) (sym (rebase-other _ t _ bare other)))
+    means-by y (rw (at-active .active .ensures, place) (sym (rebase-outside _ t _ bare)))
 
 pub rebase-spec : {M : Type 1} → statement M
 rebase-spec =
@@ -141,13 +109,10 @@ rebase-spec =
     set-waiting-requires
     same-length
     returns
-    base-requires
-    same-length-2
-    returns-2
     active-requires
     place-requires
     set-base-requires
     requeue-requires
+    same-length-2
     same-length-3
-    same-length-4
-    returns-3)
+    returns-2)

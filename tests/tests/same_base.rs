@@ -1,0 +1,200 @@
+//! A Set to the base that a task already has, by where the task stands: the library, the second program, and D.2.3 written out.
+
+use std::collections::BTreeMap;
+
+use dispatch::raw;
+use harness::calls;
+use harness::compare::compare_event;
+use harness::layout::bytes_of;
+use harness::random::Random;
+use harness::report::save;
+use harness::rosters::passing;
+use harness::states::sound_state;
+use second::machine::Event;
+use second::roster::{read, Step};
+use second::run::{Command, Run};
+use second::state::{Place, State};
+
+const STATES: u64 = 4_000;
+const RUNS: u64 = 3_000;
+const LEAST: usize = 200;
+
+/// Where the task stands that is given its own base.
+#[derive(Clone, Copy, Debug, PartialEq, Eq, PartialOrd, Ord)]
+enum Standing {
+    RunningWithEquals,
+    RunningWithoutEquals,
+    HeadOfQueue,
+    MiddleOfQueue,
+    TailOfQueue,
+    AloneInQueue,
+    Delayed,
+    Suspended,
+    Ended,
+    RunningInside,
+    PreemptedInside,
+}
+
+use Standing::*;
+
+const STANDINGS: [Standing; 11] = [
+    RunningWithEquals,
+    RunningWithoutEquals,
+    HeadOfQueue,
+    MiddleOfQueue,
+    TailOfQueue,
+    AloneInQueue,
+    Delayed,
+    Suspended,
+    Ended,
+    RunningInside,
+    PreemptedInside,
+];
+
+fn standing(state: &State, t: usize) -> Standing {
+    let task = &state.tasks[t];
+    let equals = &state.queues[task.base as usize - 1];
+    let position = equals.iter().position(|other| *other == t);
+    match (task.place, task.held.is_empty()) {
+        (Place::Running, false) => RunningInside,
+        (_, false) => PreemptedInside,
+        (Place::Running, _) if equals.is_empty() => RunningWithoutEquals,
+        (Place::Running, _) => RunningWithEquals,
+        (Place::Ready, _) if equals.len() == 1 => AloneInQueue,
+        (Place::Ready, _) if position == Some(0) => HeadOfQueue,
+        (Place::Ready, _) if position == Some(equals.len() - 1) => TailOfQueue,
+        (Place::Ready, _) => MiddleOfQueue,
+        (Place::Delayed { .. }, _) => Delayed,
+        (Place::Suspended, _) => Suspended,
+        (Place::Ended, _) => Ended,
+    }
+}
+
+/// D.2.3 written out for a sound state: a ready or running task goes to the tail of its queue; inside an action the base waits.
+fn wanted(state: &State, t: usize) -> (u8, State) {
+    let mut next = state.clone();
+    let base = state.tasks[t].base;
+    let queue = &mut next.queues[base as usize - 1];
+    match standing(state, t) {
+        HeadOfQueue | MiddleOfQueue | TailOfQueue | AloneInQueue => {
+            queue.retain(|other| *other != t);
+            queue.push_back(t);
+        }
+        RunningWithEquals => {
+            let first = queue.pop_front();
+            queue.push_back(t);
+            next.running = first;
+            next.tasks[t].place = Place::Ready;
+            first.into_iter().for_each(|u| next.tasks[u].place = Place::Running);
+        }
+        RunningInside | PreemptedInside => next.tasks[t].waiting = Some(base),
+        Ended => return (6, next),
+        RunningWithoutEquals | Delayed | Suspended => {}
+    }
+    (0, next)
+}
+
+#[derive(Default)]
+struct Counts(BTreeMap<Standing, usize>);
+
+impl Counts {
+    fn count(&mut self, standing: Standing) {
+        *self.0.entry(standing).or_insert(0) += 1;
+    }
+
+    /// Prints the counts, and fails where one of these is below the least.
+    fn require(&self, title: &str, standings: &[Standing]) {
+        println!("{title}");
+        for standing in standings {
+            let times = self.0.get(standing).copied().unwrap_or(0);
+            println!("  {standing:?} {times}");
+            assert!(times >= LEAST, "{standing:?} came {times} times");
+        }
+    }
+}
+
+#[test]
+fn a_set_to_the_same_base_agrees_with_the_second_program_and_with_the_rule() {
+    let mut counts = Counts::default();
+    for seed in 0..STATES {
+        let state = sound_state(&mut Random::new(seed));
+        let before = bytes_of(&state);
+        for (t, task) in state.tasks.iter().enumerate() {
+            let event = Event::Set(t, task.base);
+            let input = format!("seed {seed}");
+            compare_event(&before, event, &input);
+            let mut after = before.clone();
+            let answer = calls::event(&mut after, event);
+            let (number, next) = wanted(&state, t);
+            assert_eq!(answer, number, "answer, {input}, {event:?}, {state:?}");
+            assert_eq!(after, bytes_of(&next), "{input}, {event:?}, {state:?}");
+            counts.count(standing(&state, t));
+        }
+    }
+    counts.require("Sets to the same base, by where the task stands", &STANDINGS);
+}
+
+/// The next event of a run: mostly a Step or a Set from outside of some task's present base.
+fn next_command(random: &mut Random, run: &Run) -> Command {
+    let t = random.below(run.state.tasks.len());
+    match random.below(8) {
+        0 => Command::Clock(run.state.now + random.below(5) as u64),
+        1 => Command::Release(t),
+        2 | 3 => Command::Set(t, run.state.tasks[t].base),
+        _ => Command::Step,
+    }
+}
+
+fn record(command: Command) -> [u8; 8] {
+    let (kind, a, value) = match command {
+        Command::Clock(reading) => (1, 0, reading),
+        Command::Release(t) => (2, t as u8, 0),
+        Command::Step => (3, 0, 0),
+        Command::Set(t, p) => (4, t as u8, p),
+    };
+    let v = value.to_le_bytes();
+    [kind, a, v[0], v[1], v[2], v[3], v[4], v[5]]
+}
+
+/// The task that the next event would set to its own base: by a Set from outside, or by a step of its own script.
+fn from_outside(command: Command) -> Option<usize> {
+    match command {
+        Command::Set(t, _) => Some(t),
+        _ => None,
+    }
+}
+
+fn by_own_step(run: &Run, command: Command) -> Option<usize> {
+    let t = run.state.running?;
+    let step = run.roster.tasks[t].script.get(run.places[t])?;
+    let same = matches!(*step, Step::Set(_, p) if p == run.state.tasks[t].base);
+    (command == Command::Step && same).then_some(t)
+}
+
+#[test]
+fn a_run_with_sets_to_the_same_base_agrees_with_the_second_program() {
+    let mut outside = Counts::default();
+    let mut own = Counts::default();
+    for seed in 0..RUNS {
+        let mut random = Random::new(seed);
+        let roster = passing(&mut random).bytes();
+        let mut run = Run::start(read(&roster).expect("a roster that passes"));
+        let (mut events, mut pairs) = (Vec::new(), Vec::new());
+        for _ in 0..random.within(1, 80) {
+            let command = next_command(&mut random, &run);
+            let by_step = by_own_step(&run, command);
+            from_outside(command).iter().for_each(|t| outside.count(standing(&run.state, *t)));
+            by_step.iter().for_each(|t| own.count(standing(&run.state, *t)));
+            events.extend(record(command));
+            pairs.extend([run.take(command), run.running_byte()]);
+        }
+        let mut buffer = vec![0xA5; pairs.len()];
+        let answer = raw::run(&roster, &events, &mut buffer);
+        let input = || format!("seed {seed}, {}", save("same-base", seed, &roster, &events));
+        assert_eq!(answer, (0, 0, 0), "answer, {}", input());
+        assert!(buffer == pairs, "buffer, {}", input());
+    }
+    outside.require("Sets to the same base from outside, in runs", &STANDINGS);
+    let steps = [RunningWithEquals, RunningWithoutEquals, RunningInside];
+    own.require("Sets to the same base by a script's own step", &steps);
+}
