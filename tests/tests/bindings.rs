@@ -44,7 +44,7 @@ fn events_move_a_state() {
     );
     assert_eq!(
         (state.suspend(), state.running()),
-        (Answer::Done, Some(Task(0)))
+        (Answer::Done, Some(Task(2)))
     );
     assert_eq!(
         (state.clock(5), state.clock(4)),
@@ -52,12 +52,12 @@ fn events_move_a_state() {
     );
     assert_eq!(
         (state.delay(0), state.running()),
-        (Answer::Done, Some(Task(2)))
+        (Answer::Done, Some(Task(0)))
     );
     assert_eq!((state.work(), state.delay(7)), (Answer::Done, Answer::Done));
     assert_eq!((state.finish(), state.running()), (Answer::Done, None));
     assert_eq!(state.finish(), Answer::NobodyRuns);
-    assert_eq!(state.set(Task(0), Priority::DEFAULT), Answer::EndedTask);
+    assert_eq!(state.set(Task(2), Priority::DEFAULT), Answer::EndedTask);
     assert!(state.is_sound());
 }
 
