@@ -216,10 +216,10 @@ module _ (ps : List ℕ) (b : Reckoning) (m : Model) (h : Good true m) (a : Agre
       moved : statusOf (withBase (taskAt m t) p) (getD ps t 0) ≡ basedOn x p (taskAt m t .waiting)
       moved = ap (λ (v : Status). basedOn v p (taskAt m t .waiting)) (sym is)
 
-      other : length (taskAt m t .held) ≡ 0 →
+      requeued : length (taskAt m t .held) ≡ 0 →
           Agree (withStatus b t (basedOn x p none)) (requeue (withTask m t (withBase (taskAt m t) p)) t (active m t) Running .now)
           (requeue (withTask m t (withBase (taskAt m t) p)) t (active m t) Running .tasks) ps
-      other z =
+      requeued z =
           rejoins ps (withStatus b t (basedOn x p none)) (withTask m t (withBase (taskAt m t) p)) t (active m t)
           (agree-task b (m .now) (m .tasks) ps a t (withBase (taskAt m t) p) (basedOn x p none) low
           (ap (basedOn x p) (sym (calm z)) ∙ sym moved))
@@ -235,7 +235,7 @@ module _ (ps : List ℕ) (b : Reckoning) (m : Model) (h : Good true m) (a : Agre
           let z : length (taskAt m t .held) ≡ 0 = hold-none (taskAt m t) f in
           chosen _ _ ps b t (eqb (length (x .inside)) 0) _ _ (eq-eqb (length (x .inside)) 0 (depth-is ∙ z))
           (at-model ps _ (rebase m t p) _
-          (rebase-outside m t p f ∙ ap (requeue (withTask m t (withBase (taskAt m t) p)) t (active m t)) place-is) (other z))
+          (rebase-outside m t p f ∙ ap (requeue (withTask m t (withBase (taskAt m t) p)) t (active m t)) place-is) (requeued z))
 
   -- Leave: the status gives up o, its innermost
   pub fine-leave : (o : ℕ) → o < length (m .ceilings) → innermost (taskAt m t) o ≡ true →
