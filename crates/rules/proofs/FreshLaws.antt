@@ -25,17 +25,17 @@ use Rattle.rules.proofs.Counts.{queued-empty}
 use Rattle.rules.proofs.TaskLaws.{entry, ready, running, depth, at-same, at-other}
 use Rattle.rules.proofs.Core.{Core, core-wake, core-ready}
 use Rattle.rules.proofs.DispatchLaws.{unplaced, upright, alike-dispatch}
-use Rattle.rules.proofs.Pending.{Fair, Good, fair-bare}
+use Rattle.rules.proofs.Pending.{Fair, Pending, Good, fair-bare}
 use Rattle.rules.proofs.Kept.{good-dispatch}
 use Rattle.rules.proofs.Soundness.{ceilings-high, good-sound}
 
 -- the tasks before they join
-new-length : (bs : List ℕ) → length (newTasks bs) ≡ length bs
+pub new-length : (bs : List ℕ) → length (newTasks bs) ≡ length bs
 unfolding newTasks
 new-length [] = refl
 new-length (b ∷ bs) = ap suc (new-length bs)
 
-new-at : (bs : List ℕ) (u : ℕ) → u < length bs → entry (newTasks bs) u ≡ newTask (getD bs u 0)
+pub new-at : (bs : List ℕ) (u : ℕ) → u < length bs → entry (newTasks bs) u ≡ newTask (getD bs u 0)
 unfolding newTasks
 new-at [] u h = absurd (not-suc-le-zero h)
 new-at (b ∷ bs) zero h = refl
@@ -145,13 +145,13 @@ module _ (s : Setup) (ok : Startable s) where
     left = λ u g. refl;
   }
 
-  joined : Joined (length (s .bases)) (joinFrom 0 (length (s .bases)) (unstarted s))
+  pub joined : Joined (length (s .bases)) (joinFrom 0 (length (s .bases)) (unstarted s))
   joined = join-all (length (s .bases)) 0 (unstarted s) (omega arith) joined-none
 
-  -- sound, in ceiling order, and each task as document 01 says
-  pub fresh-good : Good true (freshModel s)
-  unfolding freshModel dueGood
-  fresh-good = good-dispatch m (record {
+  -- the Model whose dispatch is the fresh one
+  pub joined-pending : Pending true (joinFrom 0 (length (s .bases)) (unstarted s))
+  unfolding dueGood
+  joined-pending = record {
     core = joined .core;
     sizes = record {
       some = omega (arith, ok .some, joined .size);
@@ -161,10 +161,15 @@ module _ (s : Setup) (ok : Startable s) where
     };
     fair = λ u h. subst (Fair (m .ceilings) (m .now)) (sym (joined .done u (omega (arith, h, joined .size))))
         (fair-bare (m .ceilings) (m .now) (withPlace (newTask (getD (s .bases) u 0)) Ready) refl refl refl);
-  })
+  }
     where
       m : Model
       m = joinFrom 0 (length (s .bases)) (unstarted s)
+
+  -- sound, in ceiling order, and each task as document 01 says
+  pub fresh-good : Good true (freshModel s)
+  unfolding freshModel
+  fresh-good = good-dispatch (joinFrom 0 (length (s .bases)) (unstarted s)) joined-pending
 
   -- what is fresh: now 0, the ceilings given, and each task at its base, ready or running, with no permit, holding nothing
   pub fresh-now : freshModel s .now ≡ 0

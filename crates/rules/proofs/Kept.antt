@@ -14,6 +14,7 @@ use Rattle.rules.specs.Moved.{Moved, accepted}
 use Rattle.rules.specs.Events.{apply}
 use Rattle.rules.specs.declared.Runner.{Runner}
 use Rattle.rules.specs.declared.Runner.the-variants.{Nobody, Task}
+use Rattle.rules.specs.declared.Answer.the-variants.{Done}
 use Rattle.rules.specs.declared.Event.{Event}
 use Rattle.rules.specs.declared.Event.the-variants.{Enter, Leave, Delay, Suspend, Release, Clock, Set, Work, Finish}
 use Rattle.rules.specs.Effect.{effect, forRunner}
@@ -29,7 +30,7 @@ use Rattle.rules.proofs.HeldLaws.{rising-covers}
 use Rattle.rules.proofs.Pending.{Fair, Pending, Good, fair-unplaced, fair-placed, pending-enter, pending-leave, pending-delay}
 use Rattle.rules.proofs.Pending.{pending-rest, pending-end, pending-release, pending-clock, pending-rebase}
 use Rattle.rules.proofs.Readings.{reading-early, reading-low}
-use Rattle.rules.proofs.Refusals.{each-done, of-task}
+use Rattle.rules.proofs.Refusals.{done-only-when, each-done, of-task}
 
 -- a dispatch
 pub good-dispatch : {ord : Bool} (m : Model) → Pending ord m → Good ord (dispatch m)
@@ -92,6 +93,11 @@ pending-effect m (Set t p) f h none =
     pending-rebase m t (p .0) (h .pending) (leb-false (length (m .tasks)) t (none 0)) (not-false (inRange (p .0)) (none 2))
 pending-effect m Work f h none = h .pending
 pending-effect m Finish f h none = for-runner m _ (h .pending) (λ t e. pending-end m t h e (of-task _ _ t e (none 6)))
+
+-- .. which is one that answers 0
+pub pending-done : {ord : Bool} (m : Model) (e : Event) → delayFits e ≡ true → Good ord m → apply m e .answer ≡ Done →
+    Pending ord (effect m e)
+pending-done m e f h d = pending-effect m e f h (done-only-when m e d)
 
 -- every event
 pub keep : {ord : Bool} (m : Model) (e : Event) → delayFits e ≡ true → Good ord m → Keeps ord (apply m e)

@@ -18,10 +18,11 @@ use Rattle.rules.specs.declared.Event.{Event}
 use Rattle.rules.specs.declared.Event.the-variants.{Enter, Leave, Delay, Suspend, Release, Clock, Set, Work, Finish}
 use Rattle.rules.specs.declared.Answer.{Answer}
 use Rattle.rules.specs.declared.Answer.the-variants.{Done, NoSuchTask, NoSuchObject, BadPriority, BadReading, NobodyRuns, EndedTask}
+use Rattle.rules.specs.declared.Answer.the-variants.{InsideAction, AboveCeiling, NotInnermost, Unsound, BadCounts, BadBases}
 use Rattle.rules.specs.Effect.{effect}
 use Rattle.rules.specs.Refusals.{noSuchTask, noSuchObject, badPriority, badClock, nobodyRuns, endedTask, insideAction, aboveCeiling}
 use Rattle.rules.specs.Refusals.{notInnermost, ofRunner, isNobody, table, lowest, appliesAt, First, Row, RefusalsClaim}
-use Rattle.rules.proofs.Choices.{both-ways, cond-true, cond-false}
+use Rattle.rules.proofs.Choices.{split, both-ways, cond-true, cond-false}
 use Rattle.rules.proofs.Ways.{each-way}
 
 -- the answer of a choice
@@ -198,3 +199,23 @@ each-done P m e bad good =
 pub of-task : (w : Runner) (f : ℕ → Bool) (t : ℕ) → w ≡ Task t → ofRunner w f ≡ false → f t ≡ false
 unfolding ofRunner
 of-task w f t e h = sym (ap (λ (v : Runner). ofRunner v f) e) ∙ h
+
+-- 0 is Done's number alone
+pub number-done : (a : Answer) → numberOf a ≡ 0 → a ≡ Done
+number-done Done e = refl
+number-done NoSuchTask e = absurd (omega arith)
+number-done NoSuchObject e = absurd (omega arith)
+number-done BadPriority e = absurd (omega arith)
+number-done BadReading e = absurd (omega arith)
+number-done NobodyRuns e = absurd (omega arith)
+number-done EndedTask e = absurd (omega arith)
+number-done InsideAction e = absurd (omega arith)
+number-done AboveCeiling e = absurd (omega arith)
+number-done NotInnermost e = absurd (omega arith)
+number-done Unsound e = absurd (omega arith)
+number-done BadCounts e = absurd (omega arith)
+number-done BadBases e = absurd (omega arith)
+
+-- done or not
+pub by-answer : {C : Type 0} (a : Answer) → (a ≡ Done → C) → ((a ≡ Done → ⊥) → C) → C
+by-answer a f g = split (numberOf a) 0 (λ z. f (number-done a z)) (λ n. g (λ d. n (ap numberOf d)))

@@ -7,21 +7,20 @@ use Prim.Native.Nat.{ℕ, suc, _+_, _*_, _<_}
 use native.Mathlib.Omega.{arith}
 use lib.ListN.{length, getD, drop, length-append, length-map, List·getD-append}
 use Rattle.rules.specs.Answers.{numberOf}
-use Rattle.rules.specs.declared.Answer.{Answer}
-use Rattle.rules.specs.declared.Answer.the-variants.{Done, NoSuchTask, NoSuchObject, BadPriority, BadReading, NobodyRuns, EndedTask}
-use Rattle.rules.specs.declared.Answer.the-variants.{InsideAction, AboveCeiling, NotInnermost, Unsound, BadCounts, BadBases}
 use Rattle.rules.proofs.Choices.{cond-true}
+use Rattle.rules.proofs.Refusals.{number-done}
 use Rattle.format.specs.Answers.{passed}
 use Rattle.format.specs.Roster.{Roster, rosterOf}
 use Rattle.format.specs.Check.{checkOf}
 use Rattle.trace.specs.Config.{Config, startOf, happen}
 use Rattle.trace.specs.Answers as run
+use Rattle.trace.specs.Inputs.{inputsOf}
 use Rattle.trace.specs.Run.{answerOf, runningByte, pairOf, pairsFrom, pairsOf, bufferOf}
 use Rattle.trace.proofs.RunLaws.{pairs-count}
 use Rattle.trace.specs.declared.Input.{Input}
 use Rattle.trace.specs.declared.RunAnswer.{RunAnswer}
 use Rattle.trace.specs.declared.RunAnswer.the-variants.{Done as Ran, BadRoster}
-use Rattle.safety.specs.History.{Event, step, inputOf, afterFrom}
+use Rattle.safety.specs.History.{Event, step, inputOf, afterFrom, after}
 use Rattle.safety.specs.Safe.{running, stepAnswer, Idle}
 use Rattle.safety.specs.RunWrites.{RunWrites}
 use Rattle.safety.proofs.Theorem.{safe}
@@ -49,7 +48,7 @@ module _ (r : Roster) where
       task-byte (happen r c (inputOf x) .config) before e behind
 
 -- a run that is not refused has a roster that passes
-ran-passes : (s ev : List ℕ) (size : ℕ) → answerOf s ev size ≡ Ran → passed (checkOf s) ≡ true
+pub ran-passes : (s ev : List ℕ) (size : ℕ) → answerOf s ev size ≡ Ran → passed (checkOf s) ≡ true
 unfolding answerOf
 ran-passes s ev size e = go (passed (checkOf s)) refl _ e
   where
@@ -57,64 +56,55 @@ ran-passes s ev size e = go (passed (checkOf s)) refl _ e
     go true f w g = f
     go false f w g = absurd (let z : _≡_ {A = ℕ} 0 1 = cc in omega arith)
 
--- 0 is Done's number alone
-number-done : (a : Answer) → numberOf a ≡ 0 → a ≡ Done
-number-done Done e = refl
-number-done NoSuchTask e = absurd (omega arith)
-number-done NoSuchObject e = absurd (omega arith)
-number-done BadPriority e = absurd (omega arith)
-number-done BadReading e = absurd (omega arith)
-number-done NobodyRuns e = absurd (omega arith)
-number-done EndedTask e = absurd (omega arith)
-number-done InsideAction e = absurd (omega arith)
-number-done AboveCeiling e = absurd (omega arith)
-number-done NotInnermost e = absurd (omega arith)
-number-done Unsound e = absurd (omega arith)
-number-done BadCounts e = absurd (omega arith)
-number-done BadBases e = absurd (omega arith)
+-- the two bytes of an event in the buffer of a run that is not refused
+module _ (s ev buffer : List ℕ) (es : List Event) (e : answerOf s ev (length buffer) ≡ Ran) (f : inputsOf ev ≡ map inputOf es) where
+  r : Roster
+  r = rosterOf s
+
+  pairs : List ℕ
+  pairs = pairsFrom r (startOf r) (map inputOf es)
+
+  whole : bufferOf s ev buffer ≡ pairs ++ drop (length pairs) buffer
+  unfolding bufferOf pairsOf r pairs
+  whole =
+      cond-true (run.ran (answerOf s ev (length buffer))) (pairsOf s ev ++ drop (length (pairsOf s ev)) buffer) buffer (ap run.ran e) ∙
+      ap (λ (is : List Input). pairsFrom r (startOf r) is ++ drop (length (pairsFrom r (startOf r) is)) buffer) f
+
+  at : (i : ℕ) → i < 2 * length es → getD (bufferOf s ev buffer) i 0 ≡ getD pairs i 0
+  unfolding pairs
+  at i h =
+      ap (λ (l : List ℕ). getD l i 0) whole ∙
+      List·getD-append pairs (drop (length pairs) buffer) 0 i
+      (omega (arith, h, pairs-count r (startOf r) (map inputOf es), length-map es inputOf))
+
+  module _ (before behind : List Event) (x : Event) (q : es ≡ before ++ (x ∷ behind)) where
+    size : length es ≡ length before + suc (length behind)
+    size = ap length q ∙ length-append before (x ∷ behind)
+
+    pub answer-written :
+        getD (bufferOf s ev buffer) (2 * length before) 0 ≡ numberOf (happen (rosterOf s) (after (rosterOf s) before) (inputOf x) .answer)
+    unfolding r pairs
+    answer-written =
+        at (2 * length before) (omega (arith, size)) ∙
+        ap (λ (l : List Event). getD (pairsFrom r (startOf r) (map inputOf l)) (2 * length before) 0) q ∙
+        answer-byte r (startOf r) before x behind
+
+    pub task-written :
+        getD (bufferOf s ev buffer) (2 * length before + 1) 0 ≡ runningByte (running (rosterOf s) (before ++ (x ∷ [])))
+    unfolding r pairs
+    task-written =
+        at (2 * length before + 1) (omega (arith, size)) ∙
+        ap (λ (l : List Event). getD (pairsFrom r (startOf r) (map inputOf l)) (2 * length before + 1) 0) q ∙
+        task-byte r (startOf r) before x behind
 
 pub run-writes : RunWrites
-unfolding bufferOf pairsOf happen inputOf
-run-writes s ev buffer es y e f = record { answer = answer; task = task }
+run-writes s ev buffer es y e f = record { answer = answer; task = task-written s ev buffer es e f }
   where
-    r : Roster
-    r = rosterOf s
-
-    pairs : List ℕ
-    pairs = pairsFrom r (startOf r) (map inputOf es)
-
-    whole : bufferOf s ev buffer ≡ pairs ++ drop (length pairs) buffer
-    whole =
-        cond-true (run.ran (answerOf s ev (length buffer))) (pairsOf s ev ++ drop (length (pairsOf s ev)) buffer) buffer (ap run.ran e) ∙
-        ap (λ (is : List Input). pairsFrom r (startOf r) is ++ drop (length (pairsFrom r (startOf r) is)) buffer) f
-
-    at : (i : ℕ) → i < 2 * length es → getD (bufferOf s ev buffer) i 0 ≡ getD pairs i 0
-    at i h =
-        ap (λ (l : List ℕ). getD l i 0) whole ∙
-        List·getD-append pairs (drop (length pairs) buffer) 0 i
-        (omega (arith, h, pairs-count r (startOf r) (map inputOf es), length-map es inputOf))
-
-    size : (before behind : List Event) (x : Event) → es ≡ before ++ (x ∷ behind) → length es ≡ length before + suc (length behind)
-    size before behind x q = ap length q ∙ length-append before (x ∷ behind)
-
-    first : (before behind : List Event) → es ≡ before ++ (step ∷ behind) →
-        getD (bufferOf s ev buffer) (2 * length before) 0 ≡ numberOf (stepAnswer r before)
-    first before behind q =
-        at (2 * length before) (omega (arith, size before behind step q)) ∙
-        ap (λ (l : List Event). getD (pairsFrom r (startOf r) (map inputOf l)) (2 * length before) 0) q ∙ answer-byte r (startOf r)
-        before step behind
-
     answer : (before behind : List Event) → es ≡ before ++ (step ∷ behind) →
         (getD (bufferOf s ev buffer) (2 * length before) 0 ≡ 0 → ⊥) ↔ Idle (rosterOf s) before
     answer before behind q =
-        let refusal = safe s y (ran-passes s ev (length buffer) e) es .refused before behind q in (
-          λ n. refusal .0 (record { is = λ d. n (first before behind q ∙ ap numberOf d) }),
-          λ i z. refusal .1 i .is (number-done (stepAnswer r before) (sym (first before behind q) ∙ z)),
+        let refusal = safe s y (ran-passes s ev (length buffer) e) es .refused before behind q in
+        let byte = answer-written s ev buffer es e f before behind step q in (
+          λ n. refusal .0 (record { is = λ d. n (byte ∙ ap numberOf d) }),
+          λ i z. refusal .1 i .is (number-done (stepAnswer (rosterOf s) before) (sym byte ∙ z)),
         )
-
-    task : (before behind : List Event) (x : Event) → es ≡ before ++ (x ∷ behind) →
-        getD (bufferOf s ev buffer) (2 * length before + 1) 0 ≡ runningByte (running (rosterOf s) (before ++ (x ∷ [])))
-    task before behind x q =
-        at (2 * length before + 1) (omega (arith, size before behind x q)) ∙
-        ap (λ (l : List Event). getD (pairsFrom r (startOf r) (map inputOf l)) (2 * length before + 1) 0) q ∙ task-byte r
-        (startOf r) before x behind

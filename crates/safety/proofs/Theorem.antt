@@ -52,7 +52,7 @@ opened-at [] u h = absurd (not-suc-le-zero h)
 opened-at (b ∷ bs) zero h = refl
 opened-at (b ∷ bs) (suc u) h = opened-at bs u (omega arith)
 
-all-zero : (n u : ℕ) → getD {A = ℕ} (replicate n 0) u 0 ≡ 0
+pub all-zero : (n u : ℕ) → getD {A = ℕ} (replicate n 0) u 0 ≡ 0
 all-zero zero u = refl
 all-zero (suc n) zero = refl
 all-zero (suc n) (suc u) = all-zero n u
