@@ -1,0 +1,13 @@
+pub mod View
+pub mod Layers
+pub mod Dispatching
+pub mod Waking
+pub mod Effects
+pub mod Sorting
+pub mod Answering
+pub mod Courses
+pub mod Starting
+pub mod Events
+pub mod Theorem
+pub mod Bridges
+pub mod Cases

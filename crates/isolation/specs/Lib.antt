@@ -1,0 +1,4 @@
+pub mod Sharing
+pub mod Isolated
+pub mod Bridges
+pub mod Cases
