@@ -1,6 +1,20 @@
-//! Made events of a run: 8 bytes each, mostly good ones.
+//! The events of a run, 8 bytes each: of a command, and made ones, mostly good.
+
+use second::run::Command;
 
 use crate::random::Random;
+
+/// The bytes of one event.
+pub fn record_of(command: Command) -> [u8; 8] {
+    let (kind, a, value) = match command {
+        Command::Clock(reading) => (1, 0, reading),
+        Command::Release(t) => (2, t as u8, 0),
+        Command::Step => (3, 0, 0),
+        Command::Set(t, p) => (4, t as u8, p),
+    };
+    let [v0, v1, v2, v3, v4, v5, ..] = value.to_le_bytes();
+    [kind, a, v0, v1, v2, v3, v4, v5]
+}
 
 /// One record: mostly a Step; readings go on by little, and now and then by much or backwards.
 fn record(random: &mut Random, now: &mut u64) -> [u8; 8] {

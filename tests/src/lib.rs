@@ -4,6 +4,8 @@ pub mod calls;
 pub mod compare;
 pub mod events;
 pub mod layout;
+pub mod levels;
+pub mod premises;
 pub mod random;
 pub mod report;
 pub mod rosters;

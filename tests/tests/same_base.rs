@@ -5,6 +5,7 @@ use std::collections::BTreeMap;
 use dispatch::raw;
 use harness::calls;
 use harness::compare::compare_event;
+use harness::events::record_of;
 use harness::layout::{bytes_of, state_of};
 use harness::random::Random;
 use harness::report::save;
@@ -177,17 +178,6 @@ fn next_command(random: &mut Random, run: &Run) -> Command {
     }
 }
 
-fn record(command: Command) -> [u8; 8] {
-    let (kind, a, value) = match command {
-        Command::Clock(reading) => (1, 0, reading),
-        Command::Release(t) => (2, t as u8, 0),
-        Command::Step => (3, 0, 0),
-        Command::Set(t, p) => (4, t as u8, p),
-    };
-    let v = value.to_le_bytes();
-    [kind, a, v[0], v[1], v[2], v[3], v[4], v[5]]
-}
-
 /// The running task, where this is a Step and the task's script sets its base to what it is.
 fn by_own_step(run: &Run, command: Command) -> Option<usize> {
     let t = run.state.running?;
@@ -213,7 +203,7 @@ fn a_run_with_sets_to_the_same_base_agrees_with_the_second_program() {
             if let Some(t) = by_own_step(&run, command) {
                 own.count(standing(&run.state, t));
             }
-            events.extend(record(command));
+            events.extend(record_of(command));
             pairs.extend([run.take(command), run.running_byte()]);
         }
         let mut buffer = vec![0xA5; pairs.len()];
