@@ -204,7 +204,8 @@ pub pair-agrees : PairAgrees
 pair-agrees = record {
   bytes = both-bytes;
   pass = computed .pass;
-  agree = subst (λ (x : Roster). Agree level x (rosterOf two)) (sym (computed .read .0)) (subst (Agree level first) (sym (computed .read .1)) agree);
+  agree = subst (λ (x : Roster). Agree level x (rosterOf two)) (sym (computed .read .0))
+      (subst (Agree level first) (sym (computed .read .1)) agree);
 }
 
 pub worked : Worked
