@@ -10,4 +10,5 @@ pub mod Starting
 pub mod Events
 pub mod Theorem
 pub mod Bridges
+pub mod TestLaws
 pub mod Cases

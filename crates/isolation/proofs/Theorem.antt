@@ -29,7 +29,7 @@ use Rattle.safety.specs.History.{Event, clock, release, step, inputOf, afterFro
 use Rattle.safety.proofs.Invariant.{step-done}
 use Rattle.safety.proofs.Theorem.{all-zero}
 use Rattle.isolation.specs.Sharing.{Above, Agree, Agreeing}
-use Rattle.isolation.specs.Isolated.{Same, Apart, Excepted, answer, Isolated, Claim}
+use Rattle.isolation.specs.Isolated.{Same, Apart, Excepted, answer, Isolated, IsolationClaim}
 use Rattle.isolation.proofs.View.{view-sym}
 use Rattle.isolation.proofs.Layers.{Layer, up-active, is-high, view-active}
 use Rattle.isolation.proofs.Sorting.{Sorts, above-high, isAbove, sorts-first, sorts-second}
@@ -221,5 +221,5 @@ second-orderly : (p : ℕ) (a b : List ℕ) → Agreeing p a b → Orderly (rost
 second-orderly p a b g = orderly b (passed-is (checkOf b) (g .pass .1)) (g .bytes .1)
 
 -- the theorem
-pub isolated : Claim
+pub isolated : IsolationClaim
 isolated p a b g es = isolated-of p (rosterOf a) (rosterOf b) (first-orderly p a b g) (second-orderly p a b g) (g .agree) es

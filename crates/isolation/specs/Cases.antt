@@ -1,14 +1,13 @@
--- Pairs of rosters worked out at the level 10: two that agree above it, and for each premise two that keep all the others and still part.
+-- Pairs of rosters worked out at the level 10: two that agree above it, and for each premise two that keep all the others and part.
 use mathlib.Core.Path.{_≡_}
 use mathlib.Core.List.{List, [], _∷_, _++_, map}
 use Prim.Native.Nat.{ℕ, _+_}
 use lib.ListN.{length}
-use Rattle.format.specs.Answers.{numberOf}
-use Rattle.format.specs.Check.{checkOf}
 use Rattle.format.specs.Cases.{stepBytes, enter, leave, delay, work, suspend, setTo, again}
 use Rattle.trace.specs.Run.{pairsOf}
 use Rattle.trace.specs.Cases.{clock, release, step, set}
 use Rattle.isolation.specs.Sharing.{Agreeing}
+use Rattle.isolation.specs.Tests.{lacking}
 
 abbrev pub level : ℕ
 level = 10
@@ -51,17 +50,17 @@ roster x b y c ceiling =
     x ++ y ++ (b ∷ 0 ∷ 0 ∷ 0 ∷ length x ∷ 0 ∷ c ∷ 0 ∷ length x ∷ 0 ∷ length y ∷ 0 ∷ ceiling ∷ 0 ∷
     82 ∷ 53 ∷ 2 ∷ 1 ∷ (length x + length y + 12) ∷ 0 ∷ (length x + length y) ∷ 0 ∷ [])
 
--- two rosters under the same events: the check's number of each, and the bytes that each then writes
+-- two rosters under the same events: what of 1 to 7 (specs/Tests.antt) they lack, and the bytes that each writes
 pub record Case : Type 0 where
   pub first : List ℕ
   pub second : List ℕ
   pub events : List ℕ
-  pub says : List (List ℕ)
+  pub lacks : List ℕ
+  pub writes : List (List ℕ)
 
 abbrev pub shown : Case → List (List ℕ)
 shown x =
-    (numberOf (checkOf (x .first)) ∷ pairsOf (x .first) (x .events)) ∷
-    (numberOf (checkOf (x .second)) ∷ pairsOf (x .second) (x .events)) ∷ []
+    lacking level (x .first) (x .second) (x .events) ∷ pairsOf (x .first) (x .events) ∷ pairsOf (x .second) (x .events) ∷ []
 
 unfoldable pub cases : List Case
 cases =
@@ -70,86 +69,97 @@ cases =
       first = one;
       second = two;
       events = events;
-      says =
-          (0 ∷ 0 ∷ 0 ∷ 0 ∷ 0 ∷ 0 ∷ 0 ∷ 0 ∷ 1 ∷
+      lacks = [];
+      writes =
+          (0 ∷ 0 ∷ 0 ∷ 0 ∷ 0 ∷ 0 ∷ 0 ∷ 1 ∷
           0 ∷ 1 ∷ 0 ∷ 1 ∷ 0 ∷ 1 ∷ 0 ∷ 1 ∷ 0 ∷ 1 ∷ 0 ∷ 1 ∷ 0 ∷ 1 ∷
           1 ∷ 1 ∷ 0 ∷ 0 ∷ 0 ∷ 0 ∷ []) ∷
-          (0 ∷ 0 ∷ 0 ∷ 0 ∷ 0 ∷ 0 ∷ 0 ∷ 0 ∷ 1 ∷
+          (0 ∷ 0 ∷ 0 ∷ 0 ∷ 0 ∷ 0 ∷ 0 ∷ 1 ∷
           0 ∷ 1 ∷ 0 ∷ 1 ∷ 0 ∷ 2 ∷ 0 ∷ 2 ∷ 0 ∷ 1 ∷ 0 ∷ 255 ∷ 5 ∷ 255 ∷
           0 ∷ 255 ∷ 0 ∷ 0 ∷ 0 ∷ 0 ∷ []) ∷ [];
     } ∷
-    -- the others part: the last byte, who runs, is 0 in one and 1 in the other. Each has all that the claim asks for but
-    -- "two rosters that pass": the first does not (20), its task 1 sets the base of task 0
+    -- the others part: the last byte, who runs, is 0 in one and 1 in the other. Each lacks one thing and keeps the rest
+    -- 1 "two rosters that pass": the first does not (20), its task 1 sets the base of task 0
     record {
       first = roster (delay 1) 20 (setTo 0 1) 5 25;
       second = roster (delay 1) 20 work 5 25;
       events = step ++ step ++ clock 1;
-      says = (20 ∷ 0 ∷ 1 ∷ 0 ∷ 1 ∷ 0 ∷ 1 ∷ []) ∷ (0 ∷ 0 ∷ 1 ∷ 0 ∷ 1 ∷ 0 ∷ 0 ∷ []) ∷ [];
+      lacks = 1 ∷ [];
+      writes = (0 ∷ 1 ∷ 0 ∷ 1 ∷ 0 ∷ 1 ∷ []) ∷ (0 ∷ 1 ∷ 0 ∷ 1 ∷ 0 ∷ 0 ∷ []) ∷ [];
     } ∷
-    -- "agree .. on every task above P": the base of task 1 is 30 or 15
+    -- 2 "agree .. on every task above P": the base of task 1 is 30 or 15
     record {
       first = roster work 20 work 30 25;
       second = roster work 20 work 15 25;
       events = clock 0;
-      says = (0 ∷ 0 ∷ 1 ∷ []) ∷ (0 ∷ 0 ∷ 0 ∷ []) ∷ [];
+      lacks = 2 ∷ [];
+      writes = (0 ∷ 1 ∷ []) ∷ (0 ∷ 0 ∷ []) ∷ [];
     } ∷
     -- .. the script of task 0 is a Delay or a Work
     record {
       first = roster (delay 1) 20 work 5 25;
       second = roster work 20 work 5 25;
       events = step;
-      says = (0 ∷ 0 ∷ 1 ∷ []) ∷ (0 ∷ 0 ∷ 0 ∷ []) ∷ [];
+      lacks = 2 ∷ [];
+      writes = (0 ∷ 1 ∷ []) ∷ (0 ∷ 0 ∷ []) ∷ [];
     } ∷
-    -- "and every object with a ceiling above P": the ceiling is 25 or 30, between which task 1 wakes
+    -- 3 "and every object with a ceiling above P": the ceiling is 25 or 30, between which task 1 wakes
     record {
       first = roster (enter 0 ++ leave 0) 20 (delay 1) 28 25;
       second = roster (enter 0 ++ leave 0) 20 (delay 1) 28 30;
       events = step ++ step ++ clock 1;
-      says = (0 ∷ 0 ∷ 0 ∷ 0 ∷ 0 ∷ 0 ∷ 1 ∷ []) ∷ (0 ∷ 0 ∷ 0 ∷ 0 ∷ 0 ∷ 0 ∷ 0 ∷ []) ∷ [];
+      lacks = 3 ∷ [];
+      writes = (0 ∷ 0 ∷ 0 ∷ 0 ∷ 0 ∷ 1 ∷ []) ∷ (0 ∷ 0 ∷ 0 ∷ 0 ∷ 0 ∷ 0 ∷ []) ∷ [];
     } ∷
-    -- "Above P means the base and all own Set values are higher": task 0 of base 20 sets itself to 5, where task 1 of base 8 or 3 meets it
+    -- 4 "Above P means the base and all own Set values are higher": task 0 of base 20 sets itself to 5, and task 1 has the base 8 or 3
     record {
       first = roster (setTo 0 5) 20 work 8 25;
       second = roster (setTo 0 5) 20 work 3 25;
       events = step;
-      says = (0 ∷ 0 ∷ 1 ∷ []) ∷ (0 ∷ 0 ∷ 0 ∷ []) ∷ [];
+      lacks = 4 ∷ [];
+      writes = (0 ∷ 1 ∷ []) ∷ (0 ∷ 0 ∷ []) ∷ [];
     } ∷
-    -- "every other task has them all at P or lower": task 1, which sets itself to 5, has the base 30
+    -- 4 "every other task has them all at P or lower": task 1, which sets itself to 5, has the base 30
     record {
       first = roster work 20 (setTo 1 5) 30 32;
       second = roster work 20 (setTo 1 5) 5 32;
       events = clock 0;
-      says = (0 ∷ 0 ∷ 1 ∷ []) ∷ (0 ∷ 0 ∷ 0 ∷ []) ∷ [];
+      lacks = 4 ∷ [];
+      writes = (0 ∷ 1 ∷ []) ∷ (0 ∷ 0 ∷ []) ∷ [];
     } ∷
     -- .. task 1 of base 5 sets itself to 30
     record {
       first = roster (delay 1) 20 (setTo 1 30) 5 25;
       second = roster (delay 1) 20 work 5 25;
       events = step ++ step ++ clock 1;
-      says = (0 ∷ 0 ∷ 1 ∷ 0 ∷ 1 ∷ 0 ∷ 1 ∷ []) ∷ (0 ∷ 0 ∷ 1 ∷ 0 ∷ 1 ∷ 0 ∷ 0 ∷ []) ∷ [];
+      lacks = 4 ∷ [];
+      writes = (0 ∷ 1 ∷ 0 ∷ 1 ∷ 0 ∷ 1 ∷ []) ∷ (0 ∷ 1 ∷ 0 ∷ 1 ∷ 0 ∷ 0 ∷ []) ∷ [];
     } ∷
-    -- "releases no task above P": task 1 releases task 0
+    -- 5 "releases no task above P": task 1 releases task 0
     record {
       first = roster suspend 20 work 5 25;
       second = roster suspend 20 (free 0) 5 25;
       events = step ++ step;
-      says = (0 ∷ 0 ∷ 1 ∷ 0 ∷ 1 ∷ []) ∷ (0 ∷ 0 ∷ 1 ∷ 0 ∷ 0 ∷ []) ∷ [];
+      lacks = 5 ∷ [];
+      writes = (0 ∷ 1 ∷ 0 ∷ 1 ∷ []) ∷ (0 ∷ 1 ∷ 0 ∷ 0 ∷ []) ∷ [];
     } ∷
-    -- "and uses no object with a ceiling above P": task 1 is inside one when task 0 wakes
+    -- 6 "and uses no object with a ceiling above P": task 1 is inside one when task 0 wakes
     record {
       first = roster (delay 1) 20 (enter 0 ++ leave 0) 5 25;
       second = roster (delay 1) 20 work 5 25;
       events = step ++ step ++ clock 1;
-      says = (0 ∷ 0 ∷ 1 ∷ 0 ∷ 1 ∷ 0 ∷ 1 ∷ []) ∷ (0 ∷ 0 ∷ 1 ∷ 0 ∷ 1 ∷ 0 ∷ 0 ∷ []) ∷ [];
+      lacks = 6 ∷ [];
+      writes = (0 ∷ 1 ∷ 0 ∷ 1 ∷ 0 ∷ 1 ∷ []) ∷ (0 ∷ 1 ∷ 0 ∷ 1 ∷ 0 ∷ 0 ∷ []) ∷ [];
     } ∷
-    -- "with no Set from outside": of task 1, which has ended in the second
+    -- 7 "with no Set from outside": of task 1, which has ended in the second
     record {
       first = roster (delay 1) 20 work 5 25;
       second = roster (delay 1) 20 [] 5 25;
       events = step ++ step ++ set 1 30 ++ clock 1;
-      says = (0 ∷ 0 ∷ 1 ∷ 0 ∷ 1 ∷ 0 ∷ 1 ∷ 0 ∷ 1 ∷ []) ∷ (0 ∷ 0 ∷ 1 ∷ 0 ∷ 255 ∷ 6 ∷ 255 ∷ 0 ∷ 0 ∷ []) ∷ [];
+      lacks = 7 ∷ [];
+      writes = (0 ∷ 1 ∷ 0 ∷ 1 ∷ 0 ∷ 1 ∷ 0 ∷ 1 ∷ []) ∷ (0 ∷ 1 ∷ 0 ∷ 255 ∷ 6 ∷ 255 ∷ 0 ∷ 0 ∷ []) ∷ [];
     } ∷
     []
 
 abbrev pub Worked : Type 0
-Worked = map shown cases ≡ map (λ (x : Case). x .says) cases
+Worked = map shown cases ≡ map (λ (x : Case). x .lacks ∷ x .writes) cases

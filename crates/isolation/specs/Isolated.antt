@@ -50,7 +50,7 @@ answer r es e = happen r (after r es) (inputOf e) .answer
 
 -- "Give both the same events, with no Set from outside. Then after each event ..": every list of Clock, Release and Step with any
 -- numbers, so also each part of one from its start, and the empty one
-abbrev pub Claim : Type 0
-Claim =
+abbrev pub IsolationClaim : Type 0
+IsolationClaim =
     (p : ℕ) (a b : List ℕ) → Agreeing p a b → (es : List Event) →
     Isolated p (rosterOf a) (rosterOf b) (after (rosterOf a) es) (after (rosterOf b) es) (answer (rosterOf a) es) (answer (rosterOf b) es)

@@ -1,4 +1,5 @@
 pub mod Sharing
 pub mod Isolated
 pub mod Bridges
+pub mod Tests
 pub mod Cases
