@@ -21,6 +21,7 @@ const LEAST_AT_LEVEL: usize = 50;
 /// The boards are compared after every so many events, the last included: after each would take half as long again.
 const BOARD_EACH: usize = 8;
 const BROKEN_PAIRS: u64 = 800;
+const APART_PAIRS: u64 = 1_000;
 const LEAST_BROKEN: usize = 20;
 
 /// The code under which a step at the script's end comes.
@@ -472,6 +473,67 @@ fn each_broken_premise_makes_a_difference() {
             "{premise:?} made {least} differences"
         );
     }
+}
+
+/// An event that is not seen from above, if one comes: a Step while no task above runs, or a Release of another number.
+fn unseen(random: &mut Random, caller: &Caller, above: &[usize]) -> Option<Command> {
+    let runs_above = caller.state.running.is_some_and(|t| above.contains(&t));
+    let number = random.below(caller.positions.len() + 2);
+    match random.below(4) {
+        0 | 1 if !runs_above => Some(Command::Step),
+        2 if !above.contains(&number) => Some(Command::Release(number)),
+        _ => None,
+    }
+}
+
+/// Gives both callers the events of a pair, and before each of them, to either alone, some that are not seen; compares as ever.
+/// Those alone are counted by their answers, Steps and Releases apart.
+fn folded_apart(
+    pair: &Pair,
+    random: &mut Random,
+    counts: &mut [Histogram; 2],
+) -> Result<(), String> {
+    let above = above(&pair.rosters[0], pair.level);
+    let [mut a, mut b] = [0, 1].map(|r| Caller::start(&pair.rosters[r]));
+    for (i, &command) in pair.events[0].iter().enumerate() {
+        for caller in [&mut a, &mut b] {
+            for _ in 0..random.below(4) {
+                let Some(alone) = unseen(random, caller, &above) else {
+                    continue;
+                };
+                caller.take(alone);
+                counts[(alone != Command::Step) as usize].count(caller.last_answer());
+            }
+        }
+        compare(pair.level, &above, [&a, &b])
+            .map_err(|text| format!("before event {i}, {text}"))?;
+        let runs_above = a.state.running.is_some_and(|t| above.contains(&t));
+        a.take(command);
+        b.take(command);
+        let after = |text| format!("after event {i}, {command:?}, {text}");
+        compare(pair.level, &above, [&a, &b]).map_err(after)?;
+        if !excepted(pair, command, runs_above) {
+            same("answers", i, a.last_answer(), b.last_answer()).map_err(after)?;
+        }
+    }
+    Ok(())
+}
+
+#[test]
+fn what_is_not_seen_from_above_may_come_in_one_run_alone() {
+    let mut counts = [Histogram::new(), Histogram::new()];
+    for seed in 0..APART_PAIRS {
+        let mut random = Random::new(seed);
+        let pair = agreeing(&mut random);
+        let input = || input("isolation-apart", seed, &pair);
+        folded_apart(&pair, &mut random, &mut counts)
+            .unwrap_or_else(|text| panic!("{text}, {}", input()));
+    }
+    let [steps, releases] = counts;
+    steps.print("Steps of one run alone, by answer");
+    steps.require(&[0, 5], LEAST);
+    releases.print("Releases in one run alone, by answer");
+    releases.require(&[0, 1], LEAST);
 }
 
 /// The bytes that docs/ISOLATION.md gives for a roster, and the lines that it says the program prints of it.

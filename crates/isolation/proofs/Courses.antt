@@ -26,7 +26,8 @@ use Rattle.safety.specs.Reckon.{Status, Reckoning, statusAt, stepDue, noted}
 use Rattle.safety.proofs.Discipline.{set-own, release-listed}
 use Rattle.safety.proofs.Invariant.{Inv, by-event, step-done}
 use Rattle.isolation.specs.Sharing.{Above, Under}
-use Rattle.isolation.proofs.View.{seen, seen-high, View, view-self, apart}
+use Rattle.isolation.specs.Unseen.{Unseen}
+use Rattle.isolation.proofs.View.{seen, seen-low, seen-high, View, view-self, apart}
 use Rattle.isolation.proofs.Layers.{Layer, Firm}
 use Rattle.isolation.proofs.Effects.{stepEffect, Taken, taken, Ruled, release-low, low-effect}
 use Rattle.isolation.proofs.Sorting.{Sorts, listed-above, Floors, task-in, floors-event, layer-of}
@@ -142,6 +143,14 @@ module _ (p : ℕ) (high : ℕ → Bool) (r : Roster) (c : Config) (u : Course p
         cond-true (isDone (perform (c .model) x .answer)) (set (c .positions) t (positionAfter (positionAt c t) x)) (c .positions)
         (ap isDone done)
 
+  -- who is not above is not high
+  not-high : (v : ℕ) → (Above p r v → ⊥) → high v ≡ false
+  not-high v f = go (high v) refl
+    where
+      go : (d : Bool) → high v ≡ d → d ≡ false
+      go true i = absurd (f (u .sorts .above v i))
+      go false i = refl
+
   -- of a low task, or with nobody running: not seen
   low-step : (t : ℕ) → c .model .running ≡ Task t → high t ≡ false → View p high (c .model) (next step .model)
   low-step t e h =
@@ -150,14 +159,7 @@ module _ (p : ℕ) (high : ℕ → Bool) (r : Roster) (c : Config) (u : Course p
       one-end p high (c .model) (next step .model) (stepEffect (c .model) t x) good layer (step-model t e x refl) (took t e x refl .pending)
       (layer-next step)
       (λ f. low-effect p high (c .model) t good e h self x (ruled t e x refl)
-      (λ v i. frees v (y .releases (positionAt c t) v i)) now-firm f)
-    where
-      frees : (v : ℕ) → (Above p r v → ⊥) → high v ≡ false
-      frees v f = go (high v) refl
-        where
-          go : (d : Bool) → high v ≡ d → d ≡ false
-          go true i = absurd (f (u .sorts .above v i))
-          go false i = refl
+      (λ v i. not-high v (y .releases (positionAt c t) v i)) now-firm f)
 
   nobody-step : c .model .running ≡ Nobody → next step ≡ c
   unfolding happen inputOf stepBy
@@ -185,3 +187,17 @@ module _ (p : ℕ) (high : ℕ → Bool) (r : Roster) (c : Config) (u : Course p
             λ v i. ap (λ (l : List ℕ). getD l v 0) (step-places t e (nextStep r t (positionAt c t)) refl) ∙
                 at-other (λ (y : ℕ). y) 0 (c .positions) t _ v (apart high t v i h),
           )
+
+  -- where no task above runs, none is seen to run
+  none-seen : Unseen p r c step → (w : Runner) → c .model .running ≡ w → seen high w ≡ Nobody
+  unfolding Unseen seen
+  none-seen n Nobody e = refl
+  none-seen n (Task t) e = seen-low high t (not-high t (λ a. n t a e))
+
+  -- an event that is not seen changes nothing above p
+  pub unseen-event : (e : Event) → Unseen p r c e →
+      View p high (c .model) (next e .model) × ((v : ℕ) → high v ≡ true → positionAt (next e) v ≡ positionAt c v)
+  unfolding Unseen
+  unseen-event (clock x) n = absurd n
+  unseen-event (release t) n = (release-unseen t (not-high t n), λ v h. ap (λ (l : List ℕ). getD l v 0) (release-places t))
+  unseen-event step n = step-unseen (none-seen n (c .model .running) refl)

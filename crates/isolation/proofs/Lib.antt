@@ -8,6 +8,7 @@ pub mod Answering
 pub mod Courses
 pub mod Starting
 pub mod Events
+pub mod Pairs
 pub mod Theorem
 pub mod Bridges
 pub mod TestLaws

@@ -53,32 +53,32 @@ above-high p high r s t a = go (high t) refl
     go true e = refl
     go false e = absurd (omega (arith, a .base, s .below t e (listed-above p r t (a .base)) .base))
 
--- the one test for both rosters
+-- the one test for both rosters: where every task is above or under, the base tells
 module _ (p : ℕ) (r s : Roster) (a : Agree p r s) where
-  abbrev pub isAbove : ℕ → Bool
-  isAbove t = ltb p (baseOf r t)
+  abbrev pub highBase : ℕ → Bool
+  highBase t = ltb p (baseOf r t)
 
-  pub sorts-first : Sorts p isAbove r
+  pub sorts-first : Sorts p highBase r
   sorts-first = record { above = above; below = below }
     where
-      above : (t : ℕ) → isAbove t ≡ true → Above p r t
+      above : (t : ℕ) → highBase t ≡ true → Above p r t
       above t h = go (a .first t (listed-above p r t (ltb-true p (baseOf r t) h)))
         where
           go : Above p r t ⊎ Under p r t → Above p r t
           go (inl x) = x
           go (inr y) = absurd (omega (arith, y .base, ltb-true p (baseOf r t) h))
 
-      below : (t : ℕ) → isAbove t ≡ false → t < length (r .bases) → Under p r t
+      below : (t : ℕ) → highBase t ≡ false → t < length (r .bases) → Under p r t
       below t h l = go (a .first t l)
         where
           go : Above p r t ⊎ Under p r t → Under p r t
           go (inl x) = absurd (omega (arith, x .base, ltb-false p (baseOf r t) h))
           go (inr y) = y
 
-  pub sorts-second : Sorts p isAbove s
+  pub sorts-second : Sorts p highBase s
   sorts-second = record { above = above; below = below }
     where
-      above : (t : ℕ) → isAbove t ≡ true → Above p s t
+      above : (t : ℕ) → highBase t ≡ true → Above p s t
       above t h =
           let x : Above p r t = sorts-first .above t h in
           let e = a .tasks t (inl x) in
@@ -87,7 +87,7 @@ module _ (p : ℕ) (r s : Roster) (a : Agree p r s) where
             sets = λ k q i. x .sets k q (ap (λ (l : List Step). stepIn l k) (e .1) ∙ i);
           }
 
-      below : (t : ℕ) → isAbove t ≡ false → t < length (s .bases) → Under p s t
+      below : (t : ℕ) → highBase t ≡ false → t < length (s .bases) → Under p s t
       below t h l = go (a .second t l)
         where
           go : Above p s t ⊎ Under p s t → Under p s t

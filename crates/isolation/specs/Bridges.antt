@@ -8,7 +8,7 @@ use Rattle.rules.specs.declared.Answer.{Answer}
 use Rattle.words.specs.Words.{Bytes}
 use Rattle.format.specs.Roster.{Roster, rosterOf}
 use Rattle.trace.specs.Limits.{pairSize}
-use Rattle.trace.specs.Config.{Config}
+use Rattle.trace.specs.Config.{Config, startOf}
 use Rattle.trace.specs.Inputs.{inputsOf}
 use Rattle.trace.specs.Run.{answerOf, bufferOf}
 use Rattle.trace.specs.declared.RunAnswer.the-variants.{Done}
@@ -17,6 +17,7 @@ use Rattle.safety.specs.History.{Event, inputOf, after}
 use Rattle.safety.specs.Host.{Host, host, call}
 use Rattle.isolation.specs.Sharing.{Above, Agree, Agreeing}
 use Rattle.isolation.specs.Isolated.{Excepted, Isolated}
+use Rattle.isolation.specs.Unseen.{Turn, firsts, seconds, Unnoticed}
 
 -- two buffers after runs of the events es: at each event the task byte of one names a task above p exactly if that of the other names
 -- the same, and the answer bytes are equal unless the event is excepted
@@ -40,9 +41,16 @@ heldBy h = record { model = view (h .state); positions = h .positions }
 abbrev pub reply : Roster → List Event → Event → Answer
 reply r es e = call r (host r es) e .answer
 
--- two callers that start fresh and make the same calls
+-- two callers that start fresh and make the same calls; or the calls that turns give them, those of one alone not being seen
 abbrev pub HostsIsolated : Type 0
 HostsIsolated =
     (p : ℕ) (a b : List ℕ) → Agreeing p a b → (es : List Event) →
     Isolated p (rosterOf a) (rosterOf b) (heldBy (host (rosterOf a) es)) (heldBy (host (rosterOf b) es)) (reply (rosterOf a) es)
     (reply (rosterOf b) es)
+
+abbrev pub HostsUnseen : Type 0
+HostsUnseen =
+    (p : ℕ) (a b : List ℕ) → Agreeing p a b → (ts : List Turn) →
+    Unnoticed p (rosterOf a) (rosterOf b) (startOf (rosterOf a)) (startOf (rosterOf b)) ts →
+    Isolated p (rosterOf a) (rosterOf b) (heldBy (host (rosterOf a) (firsts ts))) (heldBy (host (rosterOf b) (seconds ts)))
+    (reply (rosterOf a) (firsts ts)) (reply (rosterOf b) (seconds ts))

@@ -1,5 +1,6 @@
 pub mod Sharing
 pub mod Isolated
+pub mod Unseen
 pub mod Bridges
 pub mod Tests
 pub mod Cases
