@@ -32,11 +32,15 @@ pub record Apart (p : ℕ) (r : Roster) (m : Model) : Type 0 where
   pub ready : (t : ℕ) → Above p r t → taskAt m t .place ≡ Ready → (p < active m t) × (timesIn t (queue m (active m t)) ≡ 1)
   pub below : (t q : ℕ) → Above p r t → firstPriority ≤ q → q ≤ p → timesIn t (queue m q) ≡ 0
 
+-- "none of them runs"
+abbrev pub NoneRuns : ℕ → Roster → Config → Type 0
+NoneRuns p r c = (t : ℕ) → Above p r t → c .model .running ≡ Task t → ⊥
+
 -- "Answers to steps taken while none of them runs, and to releases of a task that only one roster has, may differ"
 unfoldable pub Excepted : ℕ → Roster → Roster → Config → Event → Type 0
 Excepted p r s c (clock x) = ⊥
 Excepted p r s c (release t) = (Listed r t × (Listed s t → ⊥)) ⊎ (Listed s t × (Listed r t → ⊥))
-Excepted p r s c step = (t : ℕ) → Above p r t → c .model .running ≡ Task t → ⊥
+Excepted p r s c step = NoneRuns p r c
 
 -- of two configurations, and of what the next event answers in each
 pub record Isolated (p : ℕ) (r s : Roster) (c d : Config) (one two : Event → Answer) : Type 0 where

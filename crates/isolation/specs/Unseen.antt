@@ -1,19 +1,17 @@
 -- The claim for runs that do not even get the same events: what is not seen from above the level may come in one of them alone.
-use mathlib.Core.Path.{_≡_}
 use mathlib.Core.List.{List, [], _∷_}
 use Prim.Native.Nat.{ℕ}
-use Rattle.rules.specs.declared.Runner.the-variants.{Task}
 use Rattle.format.specs.Roster.{Roster, rosterOf}
 use Rattle.trace.specs.Config.{Config, startOf, happen}
 use Rattle.safety.specs.History.{Event, clock, release, step, inputOf, after}
 use Rattle.isolation.specs.Sharing.{Above, Agreeing}
-use Rattle.isolation.specs.Isolated.{Isolated, answer}
+use Rattle.isolation.specs.Isolated.{NoneRuns, Isolated, answer}
 
 -- steps taken while none of the tasks above p runs, and releases of others
 unfoldable pub Unseen : ℕ → Roster → Config → Event → Type 0
 Unseen p r c (clock x) = ⊥
 Unseen p r c (release t) = Above p r t → ⊥
-Unseen p r c step = (t : ℕ) → Above p r t → c .model .running ≡ Task t → ⊥
+Unseen p r c step = NoneRuns p r c
 
 -- an event of both runs, of the first alone, of the second alone; and the events that each gets
 pub data Turn : Type 0 where
