@@ -45,9 +45,10 @@ package Dispatcher with Preelaborate is
    Last_Priority    : constant Priority := 32;
    Default_Priority : constant Priority := 15;
 
-   --  A clock reading, in ticks.
+   --  A clock reading, in ticks. Bad_Reading is one below now, more than the longest advance past it, or above the last.
    type Reading is mod 2**64;
-   Last_Reading : constant Reading := 281_474_976_710_655;
+   Last_Reading    : constant Reading := 281_474_976_710_655;
+   Longest_Advance : constant Reading := 86_400_000;
 
    --  How long a Delay is. A larger number raises Constraint_Error, and as a static value is told by the compiler.
    type Ticks is range 0 .. 65_535;

@@ -46,7 +46,7 @@ procedure Example is
          & ", a" & Unsigned_8'Image (Found.A) & ", b" & Unsigned_16'Image (Found.B));
    end Show_Step;
 
-   --  The marked cases A and B, a base that is none, and a reading that goes backwards.
+   --  The marked cases A and B, a base that is none, and readings that go backwards, too far and as far as may be.
    procedure State_And_Board is
       B    : Board (0 .. 2);
       Head : Row_Number;
@@ -61,6 +61,10 @@ procedure Example is
       Show ("clock 5");
       Clock (S, 4, Result);
       Show ("clock 4");
+      Clock (S, 5 + Longest_Advance + 1, Result);
+      Show ("clock 86400006");
+      Clock (S, 5 + Longest_Advance, Result);
+      Show ("clock 86400005");
       Finish (S, Result);
       Show ("finish");
 

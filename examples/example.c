@@ -42,7 +42,7 @@ static void show_step(uint64_t step)
     printf("step %" PRIu64 " of task 1: code %u, a %u, b %u\n", step, DISPATCH_CODE(answer), DISPATCH_A(answer), DISPATCH_B(answer));
 }
 
-/* The marked cases A and B, a base that is none, and a reading that goes backwards. */
+/* The marked cases A and B, a base that is none, and readings that go backwards, too far and as far as may be. */
 static void state_and_board(void)
 {
     static uint8_t state[DISPATCH_STATE_SIZE];
@@ -57,6 +57,10 @@ static void state_and_board(void)
     show("clock 5", answer, state);
     answer = dispatch_clock(state, sizeof state, 4);
     show("clock 4", answer, state);
+    answer = dispatch_clock(state, sizeof state, 5 + DISPATCH_LONGEST_ADVANCE + 1);
+    show("clock 86400006", answer, state);
+    answer = dispatch_clock(state, sizeof state, 5 + DISPATCH_LONGEST_ADVANCE);
+    show("clock 86400005", answer, state);
     answer = dispatch_finish(state, sizeof state);
     show("finish", answer, state);
 

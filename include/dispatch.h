@@ -48,6 +48,7 @@ enum dispatch_answer {
 #define DISPATCH_LAST_PRIORITY 32
 #define DISPATCH_DEFAULT_PRIORITY 15
 #define DISPATCH_LAST_READING UINT64_C(281474976710655)
+#define DISPATCH_LONGEST_ADVANCE UINT64_C(86400000)
 #define DISPATCH_LAST_TICKS 65535
 
 /* The running task where nobody runs, and the row where nobody is next. */
@@ -198,6 +199,7 @@ uint8_t dispatch_leave(uint8_t *state, size_t length, uint64_t object);
 uint8_t dispatch_delay(uint8_t *state, size_t length, uint16_t ticks);
 uint8_t dispatch_suspend(uint8_t *state, size_t length);
 uint8_t dispatch_release(uint8_t *state, size_t length, uint64_t task);
+/* 4 is a reading below now, more than DISPATCH_LONGEST_ADVANCE past it, or above DISPATCH_LAST_READING. A fresh start's now is 0. */
 uint8_t dispatch_clock(uint8_t *state, size_t length, uint64_t reading);
 /* A ready or running task goes to the tail of its queue whatever the value; inside an action the base waits. */
 uint8_t dispatch_set(uint8_t *state, size_t length, uint64_t task, uint64_t priority);

@@ -5,6 +5,7 @@
 const MOST_TASKS: usize = 32;
 const MOST_OBJECTS: usize = 16;
 const LARGEST: usize = 32_768;
+const LONGEST_ADVANCE: u64 = 86_400_000;
 const TRAILER: usize = 8;
 const NOBODY: u8 = 255;
 
@@ -299,7 +300,7 @@ impl Machine {
     }
 
     fn clock(&mut self, r: u64) -> u8 {
-        if r < self.now {
+        if r < self.now || r - self.now > LONGEST_ADVANCE {
             return 4;
         }
         self.now = r;

@@ -1,5 +1,6 @@
 //! The events of a run, 8 bytes each: of a command, and made ones, mostly good.
 
+use second::limits::LONGEST_ADVANCE;
 use second::run::Command;
 
 use crate::random::Random;
@@ -16,19 +17,27 @@ pub fn record_of(command: Command) -> [u8; 8] {
     [kind, a, v0, v1, v2, v3, v4, v5]
 }
 
-/// One record: mostly a Step; readings go on by little, and now and then by much or backwards.
+/// A reading: mostly on by little; now and then backwards, past a long Delay, around the longest advance, or a leap. Now goes on
+/// to one that is taken.
+pub fn reading_of(random: &mut Random, now: &mut u64) -> u64 {
+    let reading = match random.below(24) {
+        0 | 1 => now.saturating_sub(random.within(1, 9) as u64),
+        2 => *now + random.pick(&[300, 70_000]),
+        3 => *now + LONGEST_ADVANCE + random.below(2) as u64,
+        4 => random.word() >> 16,
+        _ => *now + random.below(10) as u64,
+    };
+    if (*now..=*now + LONGEST_ADVANCE).contains(&reading) {
+        *now = reading;
+    }
+    reading
+}
+
+/// One record: mostly a Step.
 fn record(random: &mut Random, now: &mut u64) -> [u8; 8] {
     let mut raw = [0; 8];
     match random.below(20) {
-        0..=2 => {
-            *now = match random.below(12) {
-                0 => now.saturating_sub(1),
-                1 => random.word() >> 16,
-                _ => *now + random.below(9) as u64,
-            };
-            raw[0] = 1;
-            raw[2..].copy_from_slice(&now.to_le_bytes()[..6]);
-        }
+        0..=2 => return record_of(Command::Clock(reading_of(random, now))),
         3 | 4 => {
             raw[0] = 2;
             raw[1] = random.below(34) as u8;

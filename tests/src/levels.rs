@@ -4,7 +4,7 @@
 use second::roster::admit;
 use second::run::Command;
 
-use crate::events::record_of;
+use crate::events::{reading_of, record_of};
 use crate::premises::{Pair, Premise};
 use crate::random::Random;
 use crate::rosters::{
@@ -231,22 +231,12 @@ fn events_of(random: &mut Random, counts: [usize; 2]) -> Vec<Command> {
     let mut now = 0;
     let numbers = counts[0].max(counts[1]) + 2;
     let commands = (0..EVENTS).map(|_| match random.below(20) {
-        0..=3 => Command::Clock(reading(random, &mut now)),
+        0..=3 => Command::Clock(reading_of(random, &mut now)),
         4..=6 if random.once_in(40) => Command::Release(random.pick(&[32, 33, 255])),
         4..=6 => Command::Release(random.below(numbers)),
         _ => Command::Step,
     });
     commands.collect()
-}
-
-/// Readings go on by little, and now and then backwards or by much: past a long Delay, or far beyond it.
-fn reading(random: &mut Random, now: &mut u64) -> u64 {
-    *now += match random.below(20) {
-        0 => return now.saturating_sub(random.within(1, 9) as u64),
-        1 => random.pick(&[300, 70_000, 1 << 40]),
-        _ => random.below(10) as u64,
-    };
-    *now
 }
 
 /// The events as a run takes them.

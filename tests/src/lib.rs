@@ -1,4 +1,4 @@
-//! What the tests share: made inputs, the library's calls in the second program's kinds, and reports.
+//! What the tests share: made inputs, the library's calls in the second program's kinds, the programs, and reports.
 
 pub mod calls;
 pub mod compare;
@@ -6,6 +6,7 @@ pub mod events;
 pub mod layout;
 pub mod levels;
 pub mod premises;
+pub mod programs;
 pub mod random;
 pub mod report;
 pub mod rosters;

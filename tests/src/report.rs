@@ -1,6 +1,7 @@
 //! Printing and counting: bytes in hexadecimal, and how often each answer came.
 
 use std::collections::BTreeMap;
+use std::fmt::Debug;
 use std::fs;
 use std::path::PathBuf;
 
@@ -30,40 +31,44 @@ pub fn save(test: &str, seed: u64, roster: &[u8], events: &[u8]) -> String {
     }
 }
 
-/// How often each answer came.
-#[derive(Default)]
-pub struct Histogram {
-    counts: BTreeMap<u8, usize>,
+/// How often each answer, or whatever else is counted, came.
+pub struct Histogram<K = u8> {
+    counts: BTreeMap<K, usize>,
 }
 
-impl Histogram {
-    pub fn new() -> Histogram {
-        Histogram::default()
+impl<K: Copy + Ord + Debug> Histogram<K> {
+    pub fn new() -> Histogram<K> {
+        Histogram {
+            counts: BTreeMap::new(),
+        }
     }
 
-    pub fn count(&mut self, answer: u8) {
-        *self.counts.entry(answer).or_insert(0) += 1;
+    pub fn count(&mut self, key: K) {
+        *self.counts.entry(key).or_insert(0) += 1;
     }
 
-    pub fn of(&self, answer: u8) -> usize {
-        self.counts.get(&answer).copied().unwrap_or(0)
+    pub fn of(&self, key: K) -> usize {
+        self.counts.get(&key).copied().unwrap_or(0)
     }
 
     pub fn print(&self, title: &str) {
         println!("{title}");
-        for (answer, times) in &self.counts {
-            println!("  {answer:3} {times}");
+        for (key, times) in &self.counts {
+            println!("  {key:3?} {times}");
         }
     }
 
-    /// Fails where one of the answers came fewer than `least` times.
-    pub fn require(&self, answers: &[u8], least: usize) {
-        for answer in answers {
-            assert!(
-                self.of(*answer) >= least,
-                "answer {answer} came {} times",
-                self.of(*answer)
-            );
+    /// Fails where one of these came fewer than `least` times.
+    pub fn require(&self, keys: &[K], least: usize) {
+        for key in keys {
+            let times = self.of(*key);
+            assert!(times >= least, "{key:?} came {times} times");
         }
+    }
+}
+
+impl<K: Copy + Ord + Debug> Default for Histogram<K> {
+    fn default() -> Histogram<K> {
+        Histogram::new()
     }
 }

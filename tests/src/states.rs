@@ -1,6 +1,6 @@
 //! Made states: sound ones at the end of made histories, and ones with a planted fault of every kind.
 
-use second::limits::{LARGEST_READING, LONGEST_DELAY};
+use second::limits::{LARGEST_READING, LONGEST_ADVANCE, LONGEST_DELAY};
 use second::machine::{apply_to, Event};
 use second::state::{fresh, Place, State};
 
@@ -35,16 +35,27 @@ fn innermost(state: &State) -> Option<usize> {
 }
 
 fn reading(random: &mut Random, now: u64) -> u64 {
-    match random.below(10) {
+    match random.below(11) {
         0 => now.wrapping_sub(1),
         1 => random.pick(&[LARGEST_READING, LARGEST_READING + 1, u64::MAX]),
         2 => now,
         3 => now.saturating_add(LONGEST_DELAY),
+        4 => now.saturating_add(LONGEST_ADVANCE + random.below(2) as u64),
         _ => now.saturating_add(random.below(8) as u64),
     }
 }
 
-/// A sound state: a fresh start and some accepted events.
+/// Where a history begins: at 0, at any reading, or within some longest advances or Delays of the largest.
+fn first_now(random: &mut Random) -> u64 {
+    match random.below(8) {
+        0 => random.word() >> 16,
+        1 => LARGEST_READING - random.within(0, 3) as u64 * LONGEST_ADVANCE,
+        2 => LARGEST_READING - random.within(0, 3) as u64 * LONGEST_DELAY,
+        _ => 0,
+    }
+}
+
+/// A sound state: a fresh start, though not always at 0, and some accepted events.
 pub fn sound_state(random: &mut Random) -> State {
     let tasks = random.pick(&[1, 2, 3, 4, 5, 8, 32]);
     let objects = random.pick(&[0, 1, 2, 3, 4, 16]);
@@ -56,14 +67,27 @@ pub fn sound_state(random: &mut Random) -> State {
         .map(|_| random.within(33 - spread, 32) as u64)
         .collect();
     let (_, mut state) = fresh(&bases, &ceilings);
+    state.now = first_now(random);
     for _ in 0..random.below(60) {
         let event = event_of(random, &state);
-        // few readings jump to the end, where no clock event can follow
-        if !matches!(event, Event::Clock(r) if r > 1 << 40 && !random.once_in(8)) {
+        // few readings go on to the end, where no other can follow
+        if event != Event::Clock(LARGEST_READING) || random.once_in(8) {
             apply_to(&mut state, event);
         }
     }
     state
+}
+
+/// The same state at another now: due times move along, so a sound state stays sound.
+pub fn at_now(state: &State, now: u64) -> State {
+    let mut moved = state.clone();
+    moved.now = now;
+    for task in &mut moved.tasks {
+        if let Place::Delayed { due } = &mut task.place {
+            *due = now + (*due - state.now);
+        }
+    }
+    moved
 }
 
 fn tasks_at(state: &State, wanted: fn(Place) -> bool) -> Vec<usize> {

@@ -1,7 +1,10 @@
 //! The safe functions of the crate `dispatch`: what a caller sees of states, boards and rosters.
 
 use dispatch::roster::{self, Refusal, Step};
-use dispatch::{next, Answer, Object, Place, Priority, Row, State, Task, MOST_TASKS, STATE_SIZE};
+use dispatch::{
+    next, Answer, Object, Place, Priority, Row, State, Task, LONGEST_ADVANCE, MOST_TASKS,
+    STATE_SIZE,
+};
 use harness::report::bytes_of;
 use harness::rosters::{every_step, WHOLE_CASE};
 
@@ -49,6 +52,11 @@ fn events_move_a_state() {
     assert_eq!(
         (state.clock(5), state.clock(4)),
         (Answer::Done, Answer::BadReading)
+    );
+    let farthest = 5 + LONGEST_ADVANCE;
+    assert_eq!(
+        (state.clock(farthest + 1), state.clock(farthest)),
+        (Answer::BadReading, Answer::Done)
     );
     assert_eq!(
         (state.delay(0), state.running()),

@@ -2,14 +2,17 @@
 
 use harness::calls;
 use harness::compare::{compare_event, compare_parts, compare_roster, compare_run};
+use harness::events::record_of;
 use harness::layout::{bytes_of, put_rows, rows_of, ROW_SIZE};
 use harness::random::Random;
 use harness::report::hex;
 use harness::rosters::{every_step, largest, step, Plan, AGAIN, DELAY, ENTER, LARGEST, WORK};
 use harness::states::sound_state;
 use second::board::{self, Kind, Row};
-use second::limits::LARGEST_READING;
+use second::limits::{LARGEST_READING, LONGEST_ADVANCE};
 use second::machine::Event;
+use second::run::Command;
+use second::state::fresh;
 
 const STEP: [u8; 8] = [3, 0, 0, 0, 0, 0, 0, 0];
 
@@ -104,20 +107,27 @@ fn the_most_events() {
     }
 }
 
+const DELAYS: [u16; 10] = [1, 2, 255, 256, 257, 32_767, 32_768, 32_769, 65_534, 65_535];
+
+/// Around a due time, and with each of its lowest bits turned.
+fn readings_around(due: u64) -> Vec<u64> {
+    let turned = (0..16).map(|bit| due ^ (1 << bit));
+    [due - 1, due, due + 1].into_iter().chain(turned).collect()
+}
+
 /// A task that delays itself by a step, and readings around the time when it is due.
 #[test]
 fn every_length_of_a_delay() {
-    for d in [1, 2, 255, 256, 257, 32_767, 32_768, 32_769, 65_534, 65_535] {
+    let clock = |reading| record_of(Command::Clock(reading));
+    for d in DELAYS {
         let plan = Plan {
             bases: vec![1, 2],
             ceilings: Vec::new(),
             scripts: vec![vec![step(AGAIN, 0, 0)], vec![step(DELAY, 0, d)]],
         };
-        for now in [0, 1, 65_535, LARGEST_READING - 65_536, LARGEST_READING - 1] {
+        for now in [0, 1, 65_535, LONGEST_ADVANCE] {
             let due = now + d as u64;
-            let mut readings = vec![due - 1, due, due + 1];
-            readings.extend((0..16).map(|bit| due ^ (1 << bit)));
-            for reading in readings.into_iter().filter(|r| *r <= LARGEST_READING) {
+            for reading in readings_around(due) {
                 let events = [clock(now), STEP, clock(reading), STEP, clock(due - 1)].concat();
                 compare_run(&plan.bytes(), &events, 10, &format!("{d} from {now}"));
             }
@@ -125,12 +135,23 @@ fn every_length_of_a_delay() {
     }
 }
 
-fn clock(reading: u64) -> [u8; 8] {
-    let value = reading.to_le_bytes();
-    let [a, b, c, d, e, f, 0, 0] = value else {
-        panic!("{reading} has no six bytes");
-    };
-    [1, 0, a, b, c, d, e, f]
+/// The same on states, which no run reaches: at and just below the largest reading.
+#[test]
+fn every_length_of_a_delay_near_the_largest_reading() {
+    for d in DELAYS {
+        for before in [0, 1, 65_534, 65_535, 65_536, 65_537] {
+            let (_, mut state) = fresh(&[1, 2], &[]);
+            state.now = LARGEST_READING - before;
+            let input = format!("{d} from {}", state.now);
+            let due = state.now + d as u64;
+            let mut bytes = bytes_of(&state);
+            assert_eq!(compare_event(&bytes, Event::Delay(d), &input), 0);
+            calls::event(&mut bytes, Event::Delay(d));
+            for reading in readings_around(due).into_iter().chain([LARGEST_READING]) {
+                compare_event(&bytes, Event::Clock(reading), &input);
+            }
+        }
+    }
 }
 
 /// Asks a board; gives whether it is refused.
@@ -223,6 +244,8 @@ fn every_number_of_an_event() {
             events.extend([top - 1, top, top | now, top | (now + 1)].map(Event::Clock));
         }
         events.extend([LARGEST_READING - 1, LARGEST_READING].map(Event::Clock));
+        let farthest = now + LONGEST_ADVANCE;
+        events.extend([farthest - 1, farthest, farthest + 1].map(Event::Clock));
         events.extend([0, 1, 255, 256, 32_767, 32_768, 65_534, 65_535].map(Event::Delay));
         for event in events {
             compare_event(&bytes, event, &format!("seed {seed}"));

@@ -1,10 +1,10 @@
 //! The compiled program against the second program's command: what both print for the same folder and standard input.
 
-use std::fs::{self, File};
-use std::path::{Path, PathBuf};
-use std::process::{Command, Stdio};
+use std::fs;
+use std::path::Path;
 
 use harness::events::events_of;
+use harness::programs::{folder_for, printed, proved, second};
 use harness::random::Random;
 use harness::report::{bytes_of, save, Histogram};
 use harness::rosters::{largest, made, passing, step, LARGEST, WHOLE_CASE, WORK};
@@ -12,49 +12,6 @@ use harness::rosters::{largest, made, passing, step, LARGEST, WHOLE_CASE, WORK};
 const CASES: u64 = 600;
 /// Of each refusal a few are enough: the run's own test has hundreds of each.
 const LEAST: usize = 5;
-
-fn in_repository(path: &str) -> PathBuf {
-    Path::new(env!("CARGO_MANIFEST_DIR")).join("..").join(path)
-}
-
-/// A command that the gate has built; fails with what to do where it has not.
-fn built(path: &str, how: &str) -> PathBuf {
-    let program = in_repository(path);
-    assert!(program.exists(), "{path} is not built: {how}");
-    program.canonicalize().unwrap()
-}
-
-fn proved() -> PathBuf {
-    built("target/bin/dispatcher", "rt check dispatcher")
-}
-
-fn second() -> PathBuf {
-    built(
-        "tests/second/target/release/second",
-        "cargo build --release --manifest-path tests/second/Cargo.toml",
-    )
-}
-
-/// A folder of its own for each case, removed when the test ends well.
-fn folder_for(name: &str) -> PathBuf {
-    let folder = in_repository("target/programs").join(name);
-    let _ = fs::remove_dir_all(&folder);
-    fs::create_dir_all(&folder).unwrap();
-    folder
-}
-
-fn printed(program: &Path, folder: &Path) -> (String, bool) {
-    let events = File::open(folder.join("events.bin")).unwrap();
-    let output = Command::new(program)
-        .current_dir(folder)
-        .stdin(Stdio::from(events))
-        .output()
-        .unwrap();
-    (
-        String::from_utf8(output.stdout).unwrap(),
-        output.status.success(),
-    )
-}
 
 /// The number on a line `refused N ..`, or 0.
 fn number_of(text: &str) -> u8 {

@@ -1,7 +1,7 @@
 //! Every kind of call through the Rust crate: a state, its board, a roster and its run.
 
 use dispatch::roster::{self, Refusal, Step};
-use dispatch::{Answer, Object, Priority, Row, State, Task};
+use dispatch::{Answer, Object, Priority, Row, State, Task, LONGEST_ADVANCE};
 
 /// Two tasks and one protected object; README.md has what each byte says.
 static ROSTER: [u8; 46] = [
@@ -41,7 +41,7 @@ fn show(event: &str, answer: Answer, state: &State) {
     }
 }
 
-/// Marked cases A and B, a priority that is none, and a clock reading that goes backwards.
+/// Marked cases A and B, a priority that is none, and readings that go backwards, too far and as far as may be.
 fn events() -> State {
     let (answer, mut state) = State::fresh(&[10, 20, 10], &[]);
     show("fresh 10 20 10", answer, &state);
@@ -53,6 +53,10 @@ fn events() -> State {
     show("clock 5", answer, &state);
     let answer = state.clock(4);
     show("clock 4", answer, &state);
+    let answer = state.clock(5 + LONGEST_ADVANCE + 1);
+    show("clock 86400006", answer, &state);
+    let answer = state.clock(5 + LONGEST_ADVANCE);
+    show("clock 86400005", answer, &state);
     let answer = state.finish();
     show("finish", answer, &state);
     state

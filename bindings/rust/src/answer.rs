@@ -45,7 +45,7 @@ answers! {
     NoSuchObject = 2,
     /// A priority outside 1 to 32.
     BadPriority = 3,
-    /// A reading below now, or above the largest.
+    /// A reading below now, more than the longest advance past it, or above the largest.
     BadReading = 4,
     /// An event of the running task, and nobody runs.
     NobodyRuns = 5,

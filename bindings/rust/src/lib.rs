@@ -30,7 +30,7 @@ mod state;
 pub use answer::Answer;
 pub use board::{next, Place, Row};
 pub use numbers::{
-    Object, Priority, Task, LARGEST_READING, LARGEST_ROSTER, MOST_EVENTS, MOST_OBJECTS, MOST_TASKS,
-    ROW_SIZE, STATE_SIZE,
+    Object, Priority, Task, LARGEST_READING, LARGEST_ROSTER, LONGEST_ADVANCE, MOST_EVENTS,
+    MOST_OBJECTS, MOST_TASKS, ROW_SIZE, STATE_SIZE,
 };
 pub use state::State;

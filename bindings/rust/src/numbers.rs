@@ -21,6 +21,9 @@ pub const MOST_EVENTS: usize = 4096;
 /// The largest reading of the clock.
 pub const LARGEST_READING: u64 = 281_474_976_710_655;
 
+/// A reading is at most this many ticks past now.
+pub const LONGEST_ADVANCE: u64 = 86_400_000;
+
 /// The number of a task, from 0.
 #[derive(Clone, Copy, Debug, PartialEq, Eq, PartialOrd, Ord, Hash)]
 pub struct Task(pub u64);

@@ -55,7 +55,7 @@ impl State {
         Answer::from_library(raw::release(&mut self.bytes, task.0))
     }
 
-    /// The clock reads this: tasks that are due become ready: 0, 4, 10.
+    /// The clock reads this, from now to the longest advance past it: tasks that are due become ready: 0, 4, 10.
     pub fn clock(&mut self, reading: u64) -> Answer {
         Answer::from_library(raw::clock(&mut self.bytes, reading))
     }

@@ -129,6 +129,16 @@ fn case_g() {
     end();
 }
 
+// 2026-08: a leap, and "Exactly that many is taken"
+fn case_g_leap() {
+    let s = begin(b"G leap", &[10], &[]);
+    let s = print_answer(b", clock(7)", s.clock(7));
+    let s = print_answer(b", clock(86400008)", s.clock(86400008));
+    let s = print_answer(b", clock(86400007)", s.clock(86400007));
+    print_runner(s);
+    end();
+}
+
 // "Delay 0 inside: 7"
 fn case_h() {
     let s = begin(b"H", &[10], &[20]);
@@ -188,6 +198,7 @@ fn main() {
     case_e();
     case_f();
     case_g();
+    case_g_leap();
     case_h();
     case_i();
     case_j();

@@ -7,6 +7,7 @@ use memory::held;
 use memory::priorities;
 use memory::sizes::HEAD_WIDTH;
 use memory::sizes::LAST_READING;
+use memory::sizes::LONGEST_ADVANCE;
 use memory::sizes::NOW_CELL;
 use memory::sizes::OBJECTS_CELL;
 use memory::sizes::RUNNING_CELL;
@@ -177,6 +178,9 @@ fn bad_reading(at: u64, r: u64) -> bool
     ensures { λ x. ⌜ x ≡ badReading at r ⌝ }
 {
     if r < at {
+        return true;
+    }
+    if LONGEST_ADVANCE < r - at {
         return true;
     }
     if LAST_READING < r {

@@ -8,6 +8,9 @@ pub const PRIORITIES: usize = 32;
 // The largest reading of the clock.
 pub const LAST_READING: u64 = 281474976710655;
 
+// The most ticks that a reading may be past now.
+pub const LONGEST_ADVANCE: u64 = 86400000;
+
 // The longest Delay.
 pub const LAST_DELAY: u64 = 65535;
 

@@ -1,17 +1,22 @@
--- What no event changes, shown once over what it is: events replace task records, ready queues, the running task and the reading, and
--- nothing else. So no event changes the ceilings or the number of tasks.
+-- What no event changes, shown once over what it is: events replace task records, ready queues, the running task and now, which becomes
+-- a reading that is taken, and nothing else. So no event changes the ceilings or the number of tasks, and now makes no leap.
 use mathlib.Core.Path.{_≡_, refl, _∙_}
+use mathlib.Core.Bool.{false}
 use mathlib.Core.List.{List}
-use Prim.Native.Nat.{ℕ, zero, suc, _-_}
+use Prim.Native.Nat.{ℕ, zero, suc, _+_, _-_, _≤_}
+use native.Mathlib.Omega.{arith}
 use lib.Dec.{eqb, leb}
 use lib.ListN.{length, length-set}
+use Rattle.rules.specs.Limits.{longestAdvance}
 use Rattle.rules.specs.Model.{Model, NextBase, none, waits, TaskRecord, withRunning, withReady, withNow, taskAt, withTask, withQueue}
 use Rattle.rules.specs.Model.{queue, active}
 use Rattle.rules.specs.Moves.{stopped, becomeReady, preempt, start, highest, dispatchBy, dispatch}
 use Rattle.rules.specs.Moved.{Moved, accepted}
 use Rattle.rules.specs.Events.{inside, giveUp, settleWith, settle, putOff, rest, releaseFrom, Due, nobody, task}
-use Rattle.rules.specs.Events.{firstDue, wake, wakeUp, requeue, rebase, end, apply}
+use Rattle.rules.specs.Events.{firstDue, wake, wakeUp, badReading, requeue, rebase, end, apply}
 use Rattle.rules.specs.Effect.{forRunner, effect}
+use Rattle.rules.specs.Refusals.{badClock, table, appliesAt}
+use Rattle.rules.specs.Histories.{NoLeapClaim}
 use Rattle.rules.specs.declared.Place.{Place}
 use Rattle.rules.specs.declared.Place.the-variants.{Running, Ready, Delayed, Suspended, Ended}
 use Rattle.rules.specs.declared.Event.{Event}
@@ -20,13 +25,13 @@ use Rattle.rules.specs.declared.Runner.{Runner}
 use Rattle.rules.specs.declared.Runner.the-variants.{Nobody, Task}
 use Rattle.rules.specs.Lists.{without}
 use Rattle.rules.proofs.Choices.{both-ways}
-use Rattle.rules.proofs.Ways.{each-way}
+use Rattle.rules.proofs.Readings.{reading-early, reading-near}
+use Rattle.rules.proofs.Refusals.{each-done}
 
 module _ (P : Model → Type 0)
     (put : (m : Model) (t : ℕ) (k : TaskRecord) → P m → P (withTask m t k))
     (line : (m : Model) (qs : List (List ℕ)) → P m → P (withReady m qs))
-    (run : (m : Model) (w : Runner) → P m → P (withRunning m w))
-    (read : (m : Model) (r : ℕ) → P m → P (withNow m r)) where
+    (run : (m : Model) (w : Runner) → P m → P (withRunning m w)) where
   pub on-ready : (m : Model) (t : ℕ) → P m → P (becomeReady m t)
   unfolding becomeReady
   on-ready m t h = put (withQueue m (active m t) _) t _ (line m _ h)
@@ -109,29 +114,36 @@ module _ (P : Model → Type 0)
   on-runner m Nobody f h g = h
   on-runner m (Task t) f h g = g t
 
-  -- up to the dispatch of any event
-  pub on-effect : (m : Model) (e : Event) → P m → P (effect m e)
-  unfolding effect
-  on-effect m (Enter o) h = on-runner m (m .running) _ h (λ t. put m t _ h)
-  on-effect m (Leave o) h = on-runner m (m .running) _ h (λ t. on-settle (giveUp m t) t (put m t _ h))
-  on-effect m (Delay d) h = on-runner m (m .running) _ h (λ t. on-put (stopped m) t d (on-stopped m h))
-  on-effect m Suspend h = on-runner m (m .running) _ h (λ t. on-rest m t h)
-  on-effect m (Release t) h = on-release m t (taskAt m t .place) h
-  on-effect m (Clock r) h = on-wakes r (length (m .tasks)) (withNow m r) (read m r h)
-  on-effect m (Set t p) h = on-rebase m t (p .0) h
-  on-effect m Work h = h
-  on-effect m Finish h = on-runner m (m .running) _ h (λ t. on-end m t h)
+  -- up to the dispatch of any event; `read` is for a Clock
+  pub on-effect : (m : Model) (e : Event) → P m → ((r : ℕ) → badReading (m .now) r ≡ false → P (withNow m r)) →
+      badClock m e ≡ false → P (effect m e)
+  unfolding effect badClock
+  on-effect m (Enter o) h read z = on-runner m (m .running) _ h (λ t. put m t _ h)
+  on-effect m (Leave o) h read z = on-runner m (m .running) _ h (λ t. on-settle (giveUp m t) t (put m t _ h))
+  on-effect m (Delay d) h read z = on-runner m (m .running) _ h (λ t. on-put (stopped m) t d (on-stopped m h))
+  on-effect m Suspend h read z = on-runner m (m .running) _ h (λ t. on-rest m t h)
+  on-effect m (Release t) h read z = on-release m t (taskAt m t .place) h
+  on-effect m (Clock r) h read z = on-wakes r (length (m .tasks)) (withNow m r) (read r z)
+  on-effect m (Set t p) h read z = on-rebase m t (p .0) h
+  on-effect m Work h read z = h
+  on-effect m Finish h read z = on-runner m (m .running) _ h (λ t. on-end m t h)
 
   -- every event, refused ones too
-  pub on-apply : (m : Model) (e : Event) → P m → P (apply m e .model)
-  unfolding accepted
-  on-apply m e h = each-way (λ (r : Moved). P (r .model)) m (λ a n. h) e (on-dispatch (effect m e) (on-effect m e h))
+  pub on-apply : (m : Model) (e : Event) → P m → ((r : ℕ) → badReading (m .now) r ≡ false → P (withNow m r)) → P (apply m e .model)
+  unfolding accepted appliesAt table
+  on-apply m e h read =
+      each-done (λ (r : Moved). P (r .model)) m e (λ a n. h) (λ none. on-dispatch (effect m e) (on-effect m e h read (none 3)))
 
 pub ceilings-kept : (m : Model) (e : Event) → apply m e .model .ceilings ≡ m .ceilings
 ceilings-kept m e =
-    on-apply (λ (n : Model). n .ceilings ≡ m .ceilings) (λ n t k h. h) (λ n qs h. h) (λ n w h. h) (λ n r h. h) m e refl
+    on-apply (λ (n : Model). n .ceilings ≡ m .ceilings) (λ n t k h. h) (λ n qs h. h) (λ n w h. h) m e refl (λ r z. refl)
 
 pub count-kept : (m : Model) (e : Event) → length (apply m e .model .tasks) ≡ length (m .tasks)
 count-kept m e =
     on-apply (λ (n : Model). length (n .tasks) ≡ length (m .tasks)) (λ n t k h. length-set (n .tasks) t k ∙ h) (λ n qs h. h)
-    (λ n w h. h) (λ n r h. h) m e refl
+    (λ n w h. h) m e refl (λ r z. refl)
+
+pub no-leap : NoLeapClaim
+no-leap m e =
+    on-apply (λ (n : Model). (m .now ≤ n .now) × (n .now ≤ m .now + longestAdvance)) (λ n t k h. h) (λ n qs h. h) (λ n w h. h) m e
+    (omega arith, omega arith) (λ r z. (reading-early (m .now) r z, reading-near (m .now) r z))

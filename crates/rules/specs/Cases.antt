@@ -93,6 +93,11 @@ markedCases =
     case F (10 ∷ []) [] (Delay 5 ∷ Clock 5 ∷ []) (0 ∷ 0 ∷ []) (Task 0) [] ∷
     -- "Clock now: 0; now - 1: 4"
     case G (10 ∷ []) [] (Clock 5 ∷ Clock 5 ∷ Clock 4 ∷ []) (0 ∷ 0 ∷ 4 ∷ []) (Task 0) [] ∷
+    -- since 2026-08 "more than 86,400,000 ticks past now": 4; "Exactly that many is taken", from a fresh start and later
+    case G (10 ∷ []) [] (Clock 86400001 ∷ Clock 86400000 ∷ []) (4 ∷ 0 ∷ []) (Task 0) [] ∷
+    case G (10 ∷ []) [] (Clock 7 ∷ Clock 86400008 ∷ Clock 86400007 ∷ []) (0 ∷ 4 ∷ 0 ∷ []) (Task 0) [] ∷
+    -- a leap wakes nobody, though one is due
+    case G (10 ∷ []) [] (Delay 5 ∷ Clock 86400001 ∷ []) (0 ∷ 4 ∷ []) Nobody [] ∷
     -- "Delay 0 inside: 7"
     case H (10 ∷ []) (20 ∷ []) (Enter 0 ∷ Delay 0 ∷ []) (0 ∷ 7 ∷ []) (Task 0) [] ∷
     -- "Suspend with permit runs on"

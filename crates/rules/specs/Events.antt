@@ -4,7 +4,7 @@ use mathlib.Core.List.{List, [], _∷_, _++_}
 use Prim.Native.Nat.{ℕ, zero, suc, _+_, _-_}
 use lib.Dec.{eqb, leb, ltb}
 use lib.ListN.{length, getD, take}
-use Rattle.rules.specs.Limits.{lastReading}
+use Rattle.rules.specs.Limits.{lastReading, longestAdvance}
 use Rattle.rules.specs.Priorities.{inRange}
 use Rattle.rules.specs.Model.{TaskRecord, Model, NextBase, none, waits, withPlace, withBase, withWaiting, withPermit, withHeld}
 use Rattle.rules.specs.Model.{withNow, taskAt, withTask, queue, withQueue, ceilingOf, active}
@@ -146,9 +146,9 @@ unfoldable pub wakeUp : ℕ → ℕ → Model → Model
 wakeUp r zero m = m
 wakeUp r (suc n) m = wakeUp r n (wake m (firstDue r nobody 0 (m .tasks)))
 
--- 4: "reading below now or above the largest"
+-- 4: "reading below now or above the largest"; since 2026-08 also "more than 86,400,000 ticks past now"
 unfoldable pub badReading : ℕ → ℕ → Bool
-badReading now r = ltb r now || ltb lastReading r
+badReading now r = ltb r now || ltb (now + longestAdvance) r || ltb lastReading r
 
 -- "Clock r: now is r. Tasks due at or before r become ready"
 abbrev pub takeReading : Model → ℕ → Model

@@ -1,10 +1,11 @@
--- What is promised of every event and of every history: soundness is kept, and from a fresh start an object has one holder.
+-- What is promised of every event and of every history: soundness is kept, now makes no leap, and from a fresh start an object has one
+-- holder.
 use mathlib.Core.Path.{_≡_}
 use mathlib.Core.Bool.{Bool, true, _&&_}
 use mathlib.Core.List.{List, [], _∷_}
-use Prim.Native.Nat.{ℕ, _<_}
+use Prim.Native.Nat.{ℕ, _+_, _≤_, _<_}
 use lib.Dec.{leb}
-use Rattle.rules.specs.Limits.{lastDelay}
+use Rattle.rules.specs.Limits.{lastDelay, longestAdvance}
 use Rattle.rules.specs.Lists.{timesIn}
 use Rattle.rules.specs.Model.{Model, taskAt}
 use Rattle.rules.specs.Fresh.{Setup, fresh}
@@ -28,6 +29,11 @@ delayFits Finish = true
 -- every event, accepted or refused, keeps a sound Model sound
 abbrev pub KeptClaim : Type 0
 KeptClaim = (m : Model) (e : Event) → delayFits e ≡ true → sound m ≡ true → sound (apply m e .model) ≡ true
+
+-- no event, accepted or refused, of any Model sets now back, or on by more than the longest advance
+abbrev pub NoLeapClaim : Type 0
+NoLeapClaim =
+    (m : Model) (e : Event) → (m .now ≤ apply m e .model .now) × (apply m e .model .now ≤ m .now + longestAdvance)
 
 -- each event gets the Model that the last one returned
 unfoldable pub afterAll : Model → List Event → Model

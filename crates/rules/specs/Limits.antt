@@ -1,4 +1,4 @@
--- The sizes of document 01 ("What is built"), each named once.
+-- The sizes of document 01 ("What is built") and of the requests, each named once.
 use Prim.Native.Nat.{ℕ}
 
 -- "tasks 1 to 32"
@@ -12,6 +12,10 @@ objectLimit = 16
 -- "readings 0 to 281474976710655": the clock counts ticks and is not the time of day (001, on D.9)
 abbrev pub lastReading : ℕ
 lastReading = 281474976710655
+
+-- 2026-08: refused is "a reading more than 86,400,000 ticks past now. Exactly that many is taken."
+abbrev pub longestAdvance : ℕ
+longestAdvance = 86400000
 
 -- "Delay d (16 bits, 0 to 65,535)"
 abbrev pub lastDelay : ℕ

@@ -62,7 +62,7 @@ badPriority m (Set t p) = not (inRange (p .0))
 badPriority m Work = false
 badPriority m Finish = false
 
--- 4 a Clock of a "reading below now or above the largest"
+-- 4 a Clock of a "reading below now or above the largest", or "more than 86,400,000 ticks past now"
 unfoldable pub badClock : Model → Event → Bool
 badClock m (Enter o) = false
 badClock m (Leave o) = false

@@ -1,4 +1,4 @@
--- Runs worked out: document 01's whole case, and runs that are refused, wake, release, go back and try a refused step again.
+-- Runs worked out: document 01's whole case, and runs that are refused, wake, leap, release, go back and try a refused step again.
 use mathlib.Core.Path.{_≡_}
 use mathlib.Core.Bool.{false}
 use mathlib.Core.List.{List, [], _∷_, _++_, map}
@@ -22,9 +22,17 @@ step = 3 ∷ 0 ∷ 0 ∷ 0 ∷ 0 ∷ 0 ∷ 0 ∷ 0 ∷ []
 abbrev pub set : ℕ → ℕ → List ℕ
 set t p = 4 ∷ t ∷ p ∷ 0 ∷ 0 ∷ 0 ∷ 0 ∷ 0 ∷ []
 
--- a Clock whose value has the highest of its six bytes
+-- a Clock whose value has the highest of its six bytes: a leap
 abbrev pub lateClock : List ℕ
 lateClock = 1 ∷ 0 ∷ 0 ∷ 0 ∷ 0 ∷ 0 ∷ 0 ∷ 1 ∷ []
+
+-- Clocks of 86,400,000 (05 26 5C 00 hex, lowest byte first), which is the longest advance from 0, and of twice as much; each with
+-- more ticks, below 256
+abbrev pub longest : ℕ → List ℕ
+longest more = 1 ∷ 0 ∷ more ∷ 92 ∷ 38 ∷ 5 ∷ 0 ∷ 0 ∷ []
+
+abbrev pub twice : ℕ → List ℕ
+twice more = 1 ∷ 0 ∷ more ∷ 184 ∷ 76 ∷ 10 ∷ 0 ∷ 0 ∷ []
 
 -- "Events: Step, Step, Clock 5, Step, Step, Step, Clock 4, Step, Step, Step, Step."
 abbrev pub wholeEvents : List ℕ
@@ -83,8 +91,11 @@ cases =
     refused (wholeCase 20) (3 ∷ 1 ∷ 0 ∷ 0 ∷ 0 ∷ 0 ∷ 0 ∷ 0 ∷ []) 2 21 0 0 ∷
     refused (wholeCase 20) (3 ∷ 0 ∷ 0 ∷ 0 ∷ 0 ∷ 0 ∷ 0 ∷ 1 ∷ []) 2 21 0 0 ∷
     -- all six bytes of a value count
-    done (wholeCase 20) (lateClock ++ clock 255) (0 ∷ 1 ∷ 4 ∷ 1 ∷ []) ∷
+    done (wholeCase 20) (lateClock ++ clock 255) (4 ∷ 1 ∷ 0 ∷ 1 ∷ []) ∷
     done (wholeCase 20) (4 ∷ 1 ∷ 10 ∷ 0 ∷ 0 ∷ 0 ∷ 0 ∷ 1 ∷ []) (3 ∷ 1 ∷ []) ∷
+    -- 2026-08: a leap is 4 and wakes nobody, task 1 being due from 5 on; the next reading is measured from the old now
+    done (wholeCase 20) (step ++ longest 1 ++ clock 5 ++ longest 6 ++ longest 5 ++ twice 6 ++ twice 5)
+    (0 ∷ 0 ∷ 4 ∷ 0 ∷ 0 ∷ 1 ∷ 4 ∷ 1 ∷ 0 ∷ 1 ∷ 4 ∷ 1 ∷ 0 ∷ 1 ∷ []) ∷
     -- a Release of the task that it names; of none
     done (two suspend suspend) (step ++ step ++ release 1 ++ release 2) (0 ∷ 1 ∷ 0 ∷ 255 ∷ 0 ∷ 1 ∷ 1 ∷ 1 ∷ []) ∷
     -- Again: "the place goes back to the first step"; "A step asked at the script's end is Finish."

@@ -1,4 +1,4 @@
-//! The sizes of document 01, each named once.
+//! The sizes of document 01 and its requests, each named once.
 
 use std::ops::RangeInclusive;
 
@@ -16,6 +16,9 @@ pub const QUEUES: usize = 32;
 
 /// The largest reading of the clock (48 bits).
 pub const LARGEST_READING: u64 = 281_474_976_710_655;
+
+/// How many ticks past now a reading is at most (request 2026-08).
+pub const LONGEST_ADVANCE: u64 = 86_400_000;
 
 /// The longest Delay (16 bits).
 pub const LONGEST_DELAY: u64 = 65_535;

@@ -1,7 +1,7 @@
 //! When an event is refused: the table of document 01, one function for each number.
 
 use crate::answer;
-use crate::limits::{LARGEST_READING, PRIORITIES};
+use crate::limits::{LARGEST_READING, LONGEST_ADVANCE, PRIORITIES};
 use crate::machine::Event;
 use crate::sound;
 use crate::state::{Place, State};
@@ -48,8 +48,14 @@ fn bad_priority(_: &State, event: Event) -> bool {
     matches!(event, Event::Set(_, p) if !PRIORITIES.contains(&p))
 }
 
+/// A reading below now, more than the longest advance past it, or above the largest.
 fn bad_reading(state: &State, event: Event) -> bool {
-    matches!(event, Event::Clock(r) if r < state.now || r > LARGEST_READING)
+    let Event::Clock(r) = event else {
+        return false;
+    };
+    // A reading below now is 0 past it, so that no number overflows.
+    let is_leap = r.saturating_sub(state.now) > LONGEST_ADVANCE;
+    r < state.now || is_leap || r > LARGEST_READING
 }
 
 fn nobody_runs(state: &State, event: Event) -> bool {

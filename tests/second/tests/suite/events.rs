@@ -1,6 +1,6 @@
 //! The nine events: what each does when accepted, and each number 0 to 9 at its boundaries.
 
-use crate::support::{answer, fresh, play, queue, LARGEST};
+use crate::support::{answer, at, fresh, play, queue, LARGEST};
 use second::machine::apply;
 use second::machine::Event::{
     self, Clock, Delay, Enter, Finish, Leave, Release, Set, Suspend, Work,
@@ -178,7 +178,7 @@ fn delay_1_wakes_at_the_next_reading() {
 
 #[test]
 fn a_delay_past_the_largest_reading_never_wakes_and_is_sound() {
-    let state = play(fresh(&[10], &[]), &[Clock(LARGEST), Delay(65535)]);
+    let state = play(at(LARGEST, fresh(&[10], &[])), &[Delay(65535)]);
     let due = LARGEST + 65535;
     assert_eq!(state.tasks[0].place, Place::Delayed { due });
     assert!(is_sound(&state));
@@ -189,7 +189,7 @@ fn a_delay_past_the_largest_reading_never_wakes_and_is_sound() {
 
 #[test]
 fn a_delay_up_to_the_largest_reading_wakes() {
-    let state = play(fresh(&[10], &[]), &[Clock(LARGEST - 5), Delay(5)]);
+    let state = play(at(LARGEST - 5, fresh(&[10], &[])), &[Delay(5)]);
     assert_eq!(play(state, &[Clock(LARGEST)]).running, Some(0));
 }
 
@@ -200,10 +200,11 @@ fn readings_below_now_or_above_the_largest_are_4() {
     assert_eq!(answer(&state, Clock(0)), 4);
     assert_eq!(answer(&state, Clock(100)), 0);
     assert_eq!(answer(&state, Clock(101)), 0);
-    assert_eq!(answer(&state, Clock(LARGEST)), 0);
-    assert_eq!(answer(&state, Clock(LARGEST + 1)), 4);
-    assert_eq!(answer(&state, Clock(u64::MAX)), 4);
-    assert_eq!(play(state, &[Clock(LARGEST)]).now, LARGEST);
+    let late = at(LARGEST - 100, state);
+    assert_eq!(answer(&late, Clock(LARGEST)), 0);
+    assert_eq!(answer(&late, Clock(LARGEST + 1)), 4);
+    assert_eq!(answer(&late, Clock(u64::MAX)), 4);
+    assert_eq!(play(late, &[Clock(LARGEST)]).now, LARGEST);
 }
 
 #[test]

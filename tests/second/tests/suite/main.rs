@@ -5,6 +5,7 @@ mod check;
 mod events;
 mod form;
 mod fresh;
+mod leaps;
 mod marked_cases;
 mod program;
 mod random;

@@ -36,7 +36,7 @@ fn printed(path: &PathBuf, events: &[u8]) -> String {
 }
 
 /// What the command prints for this roster.
-fn printed_for(name: &str, roster: &[u8], events: &[u8]) -> String {
+pub fn printed_for(name: &str, roster: &[u8], events: &[u8]) -> String {
     let path = directory(name);
     fs::write(path.join("roster.bin"), roster).expect("the roster is written");
     printed(&path, events)

@@ -2,7 +2,7 @@
 
 use std::collections::BTreeMap;
 
-use crate::support::{fresh, Random, LARGEST};
+use crate::support::{answer, at, fresh, Random, LARGEST, LONGEST};
 use second::board::{fill, next, Kind, Row};
 use second::machine::{apply, Event};
 use second::roster::{admit, base, ceiling, script};
@@ -31,11 +31,17 @@ fn random_event(random: &mut Random, state: &State) -> Event {
         6 => Event::Delay(random.below(4) as u16),
         7 => Event::Suspend,
         8 | 9 => Event::Release(task),
-        10 | 11 => Event::Clock((state.now + random.below(4)).saturating_sub(1)),
+        10 | 11 => Event::Clock(random.reading(state.now)),
         12 => Event::Set(task, random.below(7)),
         _ if random.below(8) == 0 => Event::Finish,
         _ => Event::Work,
     }
+}
+
+/// Whether a reading is taken, by sums in numbers that are wide enough for them.
+pub fn is_taken(now: u64, reading: u64) -> bool {
+    let (now, reading) = (i128::from(now), i128::from(reading));
+    now <= reading && reading <= now + 86_400_000 && reading <= 281_474_976_710_655
 }
 
 /// No object has two holders.
@@ -50,6 +56,7 @@ fn holders_are_single(state: &State) -> bool {
 #[test]
 fn fresh_histories_stay_sound_with_one_holder_for_each_object() {
     let mut answers = [0; 11];
+    let (mut longest, mut leaps) = (0, 0);
     for seed in 0..2000 {
         let mut random = Random::new(seed);
         let mut state = random_fresh(&mut random);
@@ -60,12 +67,51 @@ fn fresh_histories_stay_sound_with_one_holder_for_each_object() {
             assert_eq!(broken(&after), [""; 0], "seed {seed}, {event:?}");
             assert!(holders_are_single(&after), "seed {seed}, {event:?}");
             answers[usize::from(answer)] += 1;
+            if let Event::Clock(r) = event {
+                assert_eq!(
+                    answer == 0,
+                    is_taken(state.now, r),
+                    "seed {seed}, {event:?}"
+                );
+                longest += u32::from(r == state.now + LONGEST);
+                leaps += u32::from(r == state.now + LONGEST + 1);
+            }
             state = after;
         }
     }
     // Every answer but 10 is met.
     assert!(answers[..10].iter().all(|&count| count > 0), "{answers:?}");
     assert_eq!(answers[10], 0);
+    assert!(
+        longest > 100 && leaps > 100,
+        "{longest} longest, {leaps} leaps"
+    );
+}
+
+#[test]
+fn readings_from_every_now_are_0_or_4() {
+    let ends = [0, LONGEST, LARGEST - LONGEST, LARGEST];
+    let mut answers = [0; 5];
+    for seed in 0..20_000 {
+        let mut random = Random::new(seed);
+        let near = ends[random.index(4)].saturating_sub(2) + random.below(5);
+        let any = random.below(LARGEST + 1);
+        let now = if random.below(2) == 0 {
+            any
+        } else {
+            near.min(LARGEST)
+        };
+        let reading = match random.below(4) {
+            0 => LARGEST - 2 + random.below(4),
+            1 => odd_number(&mut random),
+            _ => random.reading(now),
+        };
+        let given = answer(&at(now, fresh(&[10], &[])), Event::Clock(reading));
+        let expected = if is_taken(now, reading) { 0 } else { 4 };
+        assert_eq!(given, expected, "now {now}, reading {reading}");
+        answers[usize::from(given)] += 1;
+    }
+    assert!(answers[0] > 1000 && answers[4] > 1000, "{answers:?}");
 }
 
 #[test]
@@ -101,6 +147,9 @@ fn odd_number(random: &mut Random) -> u64 {
         33,
         255,
         65535,
+        LONGEST,
+        LONGEST + 1,
+        LARGEST - LONGEST,
         LARGEST,
         LARGEST + 1,
         u64::MAX,
@@ -156,7 +205,10 @@ fn scrambled_states_never_panic_and_unsound_ones_are_refused() {
         for _ in 0..1 + random.below(3) {
             scramble(&mut random, &mut state);
         }
-        let event = random_event(&mut random, &fresh(&[10], &[20]));
+        let event = match random.below(4) {
+            0 => Event::Clock(random.reading(state.now)),
+            _ => random_event(&mut random, &fresh(&[10], &[20])),
+        };
         let (answer, after) = apply(state.clone(), event);
         if is_sound(&state) {
             sound += 1;

@@ -2,7 +2,7 @@
 
 use crate::support::{
     clock_event, delay, enter, leave, pairs, place, record, release, release_event, roster, set,
-    set_event, Record, AGAIN, LARGEST, STEP, SUSPEND, WORK,
+    set_event, Record, AGAIN, LARGEST, LONGEST, STEP, SUSPEND, WORK,
 };
 use second::machine::Event;
 use second::roster::admit;
@@ -152,10 +152,35 @@ fn the_clock_at_its_ends() {
     let events = [
         clock_event(0),
         clock_event(LARGEST),
+        clock_event(LONGEST),
+        clock_event(LONGEST - 1),
+        clock_event(LONGEST),
+    ];
+    let expected = [(0, 0), (4, 0), (0, 0), (4, 0), (0, 0)];
+    assert_eq!(pairs(&worker(), &events), expected);
+}
+
+#[test]
+fn a_reading_is_judged_by_all_its_six_bytes() {
+    // Without their fifth or sixth byte these would be taken.
+    let high = [clock_event(5 + (1 << 32)), clock_event(5 + (1 << 40))];
+    assert_eq!(pairs(&worker(), &high), [(4, 0), (4, 0)]);
+    assert_eq!(
+        pairs(&worker(), &[[1, 0, 255, 255, 255, 255, 255, 255]]),
+        [(4, 0)]
+    );
+    // The events of a run do not reach so far, so it starts there.
+    let mut run = Run::start(admit(&worker()).expect("it passes"));
+    run.state.now = LARGEST - 5;
+    let events = [
+        clock_event(LARGEST - 6),
+        clock_event(LARGEST),
         clock_event(LARGEST - 1),
         clock_event(LARGEST),
     ];
-    assert_eq!(pairs(&worker(), &events), [(0, 0), (0, 0), (4, 0), (0, 0)]);
+    let commands = decode(&events.concat()).expect("good records");
+    let answers: Vec<u8> = commands.into_iter().map(|c| run.take(c)).collect();
+    assert_eq!((answers, run.state.now), (vec![4, 0, 4, 0], LARGEST));
 }
 
 #[test]

@@ -8,6 +8,9 @@ use second::state::{self, State};
 /// The largest reading, written out as in document 01.
 pub const LARGEST: u64 = 281474976710655;
 
+/// The longest advance, written out as in request 2026-08.
+pub const LONGEST: u64 = 86400000;
+
 /// A step as its four bytes.
 pub type RawStep = [u8; 4];
 
@@ -113,6 +116,11 @@ pub fn fresh(bases: &[u64], ceilings: &[u64]) -> State {
     state
 }
 
+/// The same state at another now.
+pub fn at(now: u64, state: State) -> State {
+    State { now, ..state }
+}
+
 /// The state after events that are all accepted.
 pub fn play(state: State, events: &[Event]) -> State {
     events.iter().fold(state, |state, &event| {
@@ -168,5 +176,12 @@ impl Random {
     /// An index below `bound`.
     pub fn index(&mut self, bound: usize) -> usize {
         self.below(bound as u64) as usize
+    }
+
+    /// A reading next to now, or next to the longest advance past it: one before, exactly that,
+    /// one more or two more.
+    pub fn reading(&mut self, now: u64) -> u64 {
+        let advance = if self.below(4) == 0 { LONGEST } else { 0 };
+        now.wrapping_add(advance + self.below(4)).wrapping_sub(1)
     }
 }
