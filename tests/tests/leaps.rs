@@ -252,7 +252,9 @@ fn readings_on_unsound_states_are_refused_with_10() {
         for reading in [farthest, farthest.saturating_add(1), LARGEST, LARGEST + 1] {
             let answer = compare_event(&bytes, Event::Clock(reading), &format!("seed {seed}"));
             assert_eq!(answer, 10, "seed {seed}, Clock {reading}, {state:?}");
-            counts.count(LeapInUnsound);
+            if reading > farthest {
+                counts.count(LeapInUnsound);
+            }
         }
     }
     counts.print("readings on states that are not sound");
