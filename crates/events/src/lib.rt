@@ -173,7 +173,7 @@ pub fn release(
     Answer::Done
 }
 
-// Whether the reading r is refused where now is at.
+// Whether the reading r is refused where now is at. A leap is told by the difference, since a sum could overflow.
 fn bad_reading(at: u64, r: u64) -> bool
     ensures { λ x. ⌜ x ≡ badReading at r ⌝ }
 {

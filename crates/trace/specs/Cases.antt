@@ -26,8 +26,7 @@ set t p = 4 ∷ t ∷ p ∷ 0 ∷ 0 ∷ 0 ∷ 0 ∷ 0 ∷ []
 abbrev pub lateClock : List ℕ
 lateClock = 1 ∷ 0 ∷ 0 ∷ 0 ∷ 0 ∷ 0 ∷ 0 ∷ 1 ∷ []
 
--- Clocks of 86,400,000 (05 26 5C 00 hex, lowest byte first), which is the longest advance from 0, and of twice as much; each with
--- more ticks, below 256
+-- Clocks of 86,400,000 (05265C00 hex), which is the longest advance from 0, and of twice as much; each with more ticks, below 256
 abbrev pub longest : ℕ → List ℕ
 longest more = 1 ∷ 0 ∷ more ∷ 92 ∷ 38 ∷ 5 ∷ 0 ∷ 0 ∷ []
 
