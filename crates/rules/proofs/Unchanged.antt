@@ -128,7 +128,7 @@ module _ (P : Model → Type 0)
   on-effect m Work h read z = h
   on-effect m Finish h read z = on-runner m (m .running) _ h (λ t. on-end m t h)
 
-  -- every event, refused ones too
+  -- every event, refused ones too; row 4 does not apply to an accepted one
   pub on-apply : (m : Model) (e : Event) → P m → ((r : ℕ) → badReading (m .now) r ≡ false → P (withNow m r)) → P (apply m e .model)
   unfolding accepted appliesAt table
   on-apply m e h read =
