@@ -59,68 +59,85 @@ package body Dispatcher is
              (B'Address, size_t (Length_Of (Bases)), C'Address, size_t (Length_Of (Ceilings)), S'Address, S'Length));
    end Fresh;
 
-   procedure Enter (S : in out State; Object : Object_Number; Result : out Answer) is
-      function Call (S : System.Address; Length : size_t; Object : Unsigned_64) return Unsigned_8
+   procedure Enter (S : in out State; Object : Object_Number; Result : out Answer; Change : out Report) is
+      function Call (S : System.Address; Length : size_t; Object : Unsigned_64; Report : System.Address) return Unsigned_8
         with Import, Convention => C, External_Name => "dispatch_enter";
+      Number : aliased Unsigned_8 := 0;
    begin
-      Result := Answered (Call (S'Address, S'Length, Unsigned_64 (Object)));
+      Result := Answered (Call (S'Address, S'Length, Unsigned_64 (Object), Number'Address));
+      Change := Report'Val (Number);
    end Enter;
 
-   procedure Leave (S : in out State; Object : Object_Number; Result : out Answer) is
-      function Call (S : System.Address; Length : size_t; Object : Unsigned_64) return Unsigned_8
+   procedure Leave (S : in out State; Object : Object_Number; Result : out Answer; Change : out Report) is
+      function Call (S : System.Address; Length : size_t; Object : Unsigned_64; Report : System.Address) return Unsigned_8
         with Import, Convention => C, External_Name => "dispatch_leave";
+      Number : aliased Unsigned_8 := 0;
    begin
-      Result := Answered (Call (S'Address, S'Length, Unsigned_64 (Object)));
+      Result := Answered (Call (S'Address, S'Length, Unsigned_64 (Object), Number'Address));
+      Change := Report'Val (Number);
    end Leave;
 
-   procedure Delay_For (S : in out State; Length : Ticks; Result : out Answer) is
-      function Call (S : System.Address; Length : size_t; D : Unsigned_16) return Unsigned_8
+   procedure Delay_For (S : in out State; Length : Ticks; Result : out Answer; Change : out Report) is
+      function Call (S : System.Address; Length : size_t; D : Unsigned_16; Report : System.Address) return Unsigned_8
         with Import, Convention => C, External_Name => "dispatch_delay";
+      Number : aliased Unsigned_8 := 0;
    begin
-      Result := Answered (Call (S'Address, S'Length, Unsigned_16 (Length)));
+      Result := Answered (Call (S'Address, S'Length, Unsigned_16 (Length), Number'Address));
+      Change := Report'Val (Number);
    end Delay_For;
 
-   procedure Suspend (S : in out State; Result : out Answer) is
-      function Call (S : System.Address; Length : size_t) return Unsigned_8
+   procedure Suspend (S : in out State; Result : out Answer; Change : out Report) is
+      function Call (S : System.Address; Length : size_t; Report : System.Address) return Unsigned_8
         with Import, Convention => C, External_Name => "dispatch_suspend";
+      Number : aliased Unsigned_8 := 0;
    begin
-      Result := Answered (Call (S'Address, S'Length));
+      Result := Answered (Call (S'Address, S'Length, Number'Address));
+      Change := Report'Val (Number);
    end Suspend;
 
-   procedure Release (S : in out State; T : Task_Number; Result : out Answer) is
-      function Call (S : System.Address; Length : size_t; T : Unsigned_64) return Unsigned_8
+   procedure Release (S : in out State; T : Task_Number; Result : out Answer; Change : out Report) is
+      function Call (S : System.Address; Length : size_t; T : Unsigned_64; Report : System.Address) return Unsigned_8
         with Import, Convention => C, External_Name => "dispatch_release";
+      Number : aliased Unsigned_8 := 0;
    begin
-      Result := Answered (Call (S'Address, S'Length, Unsigned_64 (T)));
+      Result := Answered (Call (S'Address, S'Length, Unsigned_64 (T), Number'Address));
+      Change := Report'Val (Number);
    end Release;
 
-   procedure Clock (S : in out State; Now : Reading; Result : out Answer) is
-      function Call (S : System.Address; Length : size_t; Now : Unsigned_64) return Unsigned_8
+   procedure Clock (S : in out State; Now : Reading; Result : out Answer; Change : out Report) is
+      function Call (S : System.Address; Length : size_t; Now : Unsigned_64; Report : System.Address) return Unsigned_8
         with Import, Convention => C, External_Name => "dispatch_clock";
+      Number : aliased Unsigned_8 := 0;
    begin
-      Result := Answered (Call (S'Address, S'Length, Unsigned_64 (Now)));
+      Result := Answered (Call (S'Address, S'Length, Unsigned_64 (Now), Number'Address));
+      Change := Report'Val (Number);
    end Clock;
 
-   procedure Set_Base (S : in out State; T : Task_Number; Base : Priority; Result : out Answer) is
-      function Call
-        (S : System.Address; Length : size_t; T : Unsigned_64; P : Unsigned_64) return Unsigned_8
+   procedure Set_Base (S : in out State; T : Task_Number; Base : Priority; Result : out Answer; Change : out Report) is
+      function Call (S : System.Address; Length : size_t; T : Unsigned_64; P : Unsigned_64; Report : System.Address) return Unsigned_8
         with Import, Convention => C, External_Name => "dispatch_set";
+      Number : aliased Unsigned_8 := 0;
    begin
-      Result := Answered (Call (S'Address, S'Length, Unsigned_64 (T), Unsigned_64 (Base)));
+      Result := Answered (Call (S'Address, S'Length, Unsigned_64 (T), Unsigned_64 (Base), Number'Address));
+      Change := Report'Val (Number);
    end Set_Base;
 
-   procedure Work (S : in out State; Result : out Answer) is
-      function Call (S : System.Address; Length : size_t) return Unsigned_8
+   procedure Work (S : in out State; Result : out Answer; Change : out Report) is
+      function Call (S : System.Address; Length : size_t; Report : System.Address) return Unsigned_8
         with Import, Convention => C, External_Name => "dispatch_work";
+      Number : aliased Unsigned_8 := 0;
    begin
-      Result := Answered (Call (S'Address, S'Length));
+      Result := Answered (Call (S'Address, S'Length, Number'Address));
+      Change := Report'Val (Number);
    end Work;
 
-   procedure Finish (S : in out State; Result : out Answer) is
-      function Call (S : System.Address; Length : size_t) return Unsigned_8
+   procedure Finish (S : in out State; Result : out Answer; Change : out Report) is
+      function Call (S : System.Address; Length : size_t; Report : System.Address) return Unsigned_8
         with Import, Convention => C, External_Name => "dispatch_finish";
+      Number : aliased Unsigned_8 := 0;
    begin
-      Result := Answered (Call (S'Address, S'Length));
+      Result := Answered (Call (S'Address, S'Length, Number'Address));
+      Change := Report'Val (Number);
    end Finish;
 
    function Is_Sound (S : State) return Boolean is

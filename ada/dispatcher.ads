@@ -73,17 +73,21 @@ package Dispatcher with Preelaborate is
    --  The fresh start: Done, Bad_Counts or Bad_Values, and the state beside it.
    procedure Fresh (Bases : Priority_List; Ceilings : Priority_List; S : out State; Result : out Answer);
 
-   --  The events.
-   procedure Enter (S : in out State; Object : Object_Number; Result : out Answer);
-   procedure Leave (S : in out State; Object : Object_Number; Result : out Answer);
-   procedure Delay_For (S : in out State; Length : Ticks; Result : out Answer);
-   procedure Suspend (S : in out State; Result : out Answer);
-   procedure Release (S : in out State; T : Task_Number; Result : out Answer);
-   procedure Clock (S : in out State; Now : Reading; Result : out Answer);
+   --  Why the processor changed hands at an event, by who runs before and after it: it did not; another task runs and the dispatch
+   --  sent the old one to the head of its queue; any other change, from or to nobody too. Report'Pos is the number that a run writes.
+   type Report is (Unchanged, Preempted, Changed);
+
+   --  The events. Change is Unchanged with any Result but Done.
+   procedure Enter (S : in out State; Object : Object_Number; Result : out Answer; Change : out Report);
+   procedure Leave (S : in out State; Object : Object_Number; Result : out Answer; Change : out Report);
+   procedure Delay_For (S : in out State; Length : Ticks; Result : out Answer; Change : out Report);
+   procedure Suspend (S : in out State; Result : out Answer; Change : out Report);
+   procedure Release (S : in out State; T : Task_Number; Result : out Answer; Change : out Report);
+   procedure Clock (S : in out State; Now : Reading; Result : out Answer; Change : out Report);
    --  A ready or running task goes to the tail of its queue whatever the value; inside an action the base waits.
-   procedure Set_Base (S : in out State; T : Task_Number; Base : Priority; Result : out Answer);
-   procedure Work (S : in out State; Result : out Answer);
-   procedure Finish (S : in out State; Result : out Answer);
+   procedure Set_Base (S : in out State; T : Task_Number; Base : Priority; Result : out Answer; Change : out Report);
+   procedure Work (S : in out State; Result : out Answer; Change : out Report);
+   procedure Finish (S : in out State; Result : out Answer; Change : out Report);
 
    function Is_Sound (S : State) return Boolean;
 
@@ -140,7 +144,9 @@ package Dispatcher with Preelaborate is
    end record;
    procedure Step_Of (Roster : Bytes; T : Task_Number; K : Step_Number; Found : out Step; Result : out Answer);
 
-   --  Two bytes per event into Buffer: the number of the answer, and the running task or 255. A refused run writes nothing.
+   --  Three bytes per event into Buffer: the number of the answer, the running task or 255, and the number of the report. A refused
+   --  run writes nothing.
+   Reply_Size : constant := 3;
    procedure Run (Roster : Bytes; Events : Bytes; Buffer : in out Bytes; Result : out Verdict);
 
 end Dispatcher;

@@ -20,15 +20,22 @@ procedure Example is
    Events   : constant Bytes :=
      One_Step & One_Step & Clock_5 & One_Step & One_Step & One_Step & Clock_4 & One_Step & One_Step & One_Step & One_Step;
 
-   S : State;
+   S      : State;
    Result : Answer;
+   Change : Report;
 
    procedure Show (Event : String) is
       Runner : constant String :=
         (if Running (S) = Nobody then " nobody" else Task_Number'Image (Running (S)));
    begin
-      Put_Line (Event & ":" & Integer'Image (Answer'Pos (Result)) & ", running" & Runner);
+      Put (Event & ":" & Integer'Image (Answer'Pos (Result)) & ", running" & Runner);
    end Show;
+
+   procedure Show_Event (Event : String) is
+   begin
+      Show (Event);
+      Put_Line (", report" & Integer'Image (Report'Pos (Change)));
+   end Show_Event;
 
    procedure Show (Call : String; V : Verdict) is
    begin
@@ -46,27 +53,30 @@ procedure Example is
          & ", a" & Unsigned_8'Image (Found.A) & ", b" & Unsigned_16'Image (Found.B));
    end Show_Step;
 
-   --  The marked cases A and B, a base that is none, and readings that go backwards, too far and as far as may be.
+   --  The marked cases A and B, a base that is none, one that preempts, and readings that go backwards, too far and as far as may be.
    procedure State_And_Board is
       B    : Board (0 .. 2);
       Head : Row_Number;
    begin
       Fresh ((10, 20, 10), Empty, S, Result);
       Show ("fresh 10 20 10");
-      Set_Base (S, T => 1, Base => 10, Result => Result);
-      Show ("set 1 to 10");
-      Set_Base (S, T => 1, Base => 257, Result => Result);
-      Show ("set 1 to 257");
-      Clock (S, 5, Result);
-      Show ("clock 5");
-      Clock (S, 4, Result);
-      Show ("clock 4");
-      Clock (S, 5 + Longest_Advance + 1, Result);
-      Show ("clock 86400006");
-      Clock (S, 5 + Longest_Advance, Result);
-      Show ("clock 86400005");
-      Finish (S, Result);
-      Show ("finish");
+      New_Line;
+      Set_Base (S, T => 1, Base => 10, Result => Result, Change => Change);
+      Show_Event ("set 1 to 10");
+      Set_Base (S, T => 1, Base => 257, Result => Result, Change => Change);
+      Show_Event ("set 1 to 257");
+      Set_Base (S, T => 1, Base => 20, Result => Result, Change => Change);
+      Show_Event ("set 1 to 20");
+      Clock (S, 5, Result, Change);
+      Show_Event ("clock 5");
+      Clock (S, 4, Result, Change);
+      Show_Event ("clock 4");
+      Clock (S, 5 + Longest_Advance + 1, Result, Change);
+      Show_Event ("clock 86400006");
+      Clock (S, 5 + Longest_Advance, Result, Change);
+      Show_Event ("clock 86400005");
+      Finish (S, Result, Change);
+      Show_Event ("finish");
 
       Fill (S, B, Result);
       Put_Line ("fill:" & Integer'Image (Answer'Pos (Result)));
@@ -86,7 +96,7 @@ procedure Example is
       Count   : Step_Number;
       Start   : Natural;
       Length  : Natural;
-      Pairs   : Bytes (1 .. Events'Length / 4) := (others => 0);
+      Replies : Bytes (1 .. Events'Length / 8 * Reply_Size) := (others => 0);
       V       : Verdict;
    begin
       Low (36) := 19;
@@ -105,11 +115,11 @@ procedure Example is
       Base_Of (Roster, 2, Base, Result);
       Put_Line ("base of task 2:" & Integer'Image (Answer'Pos (Result)));
 
-      Run (Roster, Events, Pairs, V);
+      Run (Roster, Events, Replies, V);
       Show ("run", V);
-      Put ("pairs:");
-      for I in 1 .. Pairs'Length / 2 loop
-         Put ((if I = 1 then "" else ",") & Unsigned_8'Image (Pairs (2 * I - 1)) & Unsigned_8'Image (Pairs (2 * I)));
+      Put ("replies:");
+      for I in Replies'Range loop
+         Put ((if I > 1 and then I mod Reply_Size = 1 then "," else "") & Unsigned_8'Image (Replies (I)));
       end loop;
       New_Line;
    end Roster_And_Run;

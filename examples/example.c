@@ -25,9 +25,15 @@ static void show(const char *event, uint8_t answer, const uint8_t *state)
 {
     uint8_t running = dispatch_running(state, DISPATCH_STATE_SIZE);
     if (running == DISPATCH_NOBODY)
-        printf("%s: %u, running nobody\n", event, answer);
+        printf("%s: %u, running nobody", event, answer);
     else
-        printf("%s: %u, running %u\n", event, answer, running);
+        printf("%s: %u, running %u", event, answer, running);
+}
+
+static void show_event(const char *event, uint8_t answer, const uint8_t *state, uint8_t report)
+{
+    show(event, answer, state);
+    printf(", report %u\n", report);
 }
 
 static void show_fault(const char *call, uint64_t answer)
@@ -42,27 +48,31 @@ static void show_step(uint64_t step)
     printf("step %" PRIu64 " of task 1: code %u, a %u, b %u\n", step, DISPATCH_CODE(answer), DISPATCH_A(answer), DISPATCH_B(answer));
 }
 
-/* The marked cases A and B, a base that is none, and readings that go backwards, too far and as far as may be. */
+/* The marked cases A and B, a base that is none, one that preempts, and readings that go backwards, too far and as far as may be. */
 static void state_and_board(void)
 {
     static uint8_t state[DISPATCH_STATE_SIZE];
     static const uint8_t bases[] = {10, 20, 10}, none[] = {0};
     uint8_t answer = dispatch_fresh(bases, sizeof bases, none, 0, state, sizeof state);
     show("fresh 10 20 10", answer, state);
-    answer = dispatch_set(state, sizeof state, 1, 10);
-    show("set 1 to 10", answer, state);
-    answer = dispatch_set(state, sizeof state, 1, 257);
-    show("set 1 to 257", answer, state);
-    answer = dispatch_clock(state, sizeof state, 5);
-    show("clock 5", answer, state);
-    answer = dispatch_clock(state, sizeof state, 4);
-    show("clock 4", answer, state);
-    answer = dispatch_clock(state, sizeof state, 5 + DISPATCH_LONGEST_ADVANCE + 1);
-    show("clock 86400006", answer, state);
-    answer = dispatch_clock(state, sizeof state, 5 + DISPATCH_LONGEST_ADVANCE);
-    show("clock 86400005", answer, state);
-    answer = dispatch_finish(state, sizeof state);
-    show("finish", answer, state);
+    printf("\n");
+    uint8_t report;
+    answer = dispatch_set(state, sizeof state, 1, 10, &report);
+    show_event("set 1 to 10", answer, state, report);
+    answer = dispatch_set(state, sizeof state, 1, 257, &report);
+    show_event("set 1 to 257", answer, state, report);
+    answer = dispatch_set(state, sizeof state, 1, 20, &report);
+    show_event("set 1 to 20", answer, state, report);
+    answer = dispatch_clock(state, sizeof state, 5, &report);
+    show_event("clock 5", answer, state, report);
+    answer = dispatch_clock(state, sizeof state, 4, &report);
+    show_event("clock 4", answer, state, report);
+    answer = dispatch_clock(state, sizeof state, 5 + DISPATCH_LONGEST_ADVANCE + 1, &report);
+    show_event("clock 86400006", answer, state, report);
+    answer = dispatch_clock(state, sizeof state, 5 + DISPATCH_LONGEST_ADVANCE, &report);
+    show_event("clock 86400005", answer, state, report);
+    answer = dispatch_finish(state, sizeof state, &report);
+    show_event("finish", answer, state, report);
 
     uint8_t board[3][DISPATCH_ROW_SIZE];
     printf("fill: %u\n", dispatch_fill(state, sizeof state, board[0], sizeof board));
@@ -88,10 +98,11 @@ static void roster_and_run(void)
     show_step(3);
     printf("base of task 2: %u\n", DISPATCH_NUMBER(dispatch_base(roster, sizeof roster, 2)));
 
-    uint8_t pairs[EVENTS][DISPATCH_PAIR_SIZE];
-    show_fault("run", dispatch_run(roster, sizeof roster, events[0], sizeof events, pairs[0], sizeof pairs));
+    uint8_t replies[EVENTS][DISPATCH_REPLY_SIZE];
+    show_fault("run", dispatch_run(roster, sizeof roster, events[0], sizeof events, replies[0], sizeof replies));
     for (int i = 0; i < EVENTS; i++)
-        printf("%s%u %u", i == 0 ? "pairs: " : ", ", pairs[i][0], pairs[i][1]);
+        printf("%s%u %u %u", i == 0 ? "replies: " : ", ", replies[i][DISPATCH_REPLY_ANSWER], replies[i][DISPATCH_REPLY_RUNNING],
+               replies[i][DISPATCH_REPLY_REPORT]);
     printf("\n");
 }
 

@@ -41,6 +41,14 @@ enum dispatch_answer {
     DISPATCH_SHORT_BUFFER = 22
 };
 
+/* Why the processor changed hands at an event: it did not; another task runs and the dispatch sent the old one to the head of its
+ * queue; any other change, from or to nobody too. */
+enum dispatch_report {
+    DISPATCH_UNCHANGED = 0,
+    DISPATCH_PREEMPTED = 1,
+    DISPATCH_CHANGED = 2
+};
+
 /* Limits. Priorities 1 to 30 are Ada's Priority, 31 and 32 its Interrupt_Priority. */
 #define DISPATCH_TASK_LIMIT 32
 #define DISPATCH_OBJECT_LIMIT 16
@@ -115,10 +123,13 @@ enum dispatch_step_code {
     DISPATCH_STEP_AGAIN = 8
 };
 
-/* The events of a run, and the bytes that it writes for each. */
+/* The events of a run, and its reply to each: where that has the answer, the running task and the report. */
 #define DISPATCH_EVENT_SIZE 8
 #define DISPATCH_EVENTS_LARGEST 32768
-#define DISPATCH_PAIR_SIZE 2
+#define DISPATCH_REPLY_SIZE 3
+#define DISPATCH_REPLY_ANSWER 0
+#define DISPATCH_REPLY_RUNNING 1
+#define DISPATCH_REPLY_REPORT 2
 enum dispatch_event_kind {
     DISPATCH_EVENT_CLOCK = 1,
     DISPATCH_EVENT_RELEASE = 2,
@@ -181,8 +192,8 @@ uint64_t dispatch_step_count(const uint8_t *roster, size_t length, uint64_t task
 /* A step: number, code, a and b. At and past the script's end it is Finish: code 0, a 0, b 0. */
 uint64_t dispatch_step(const uint8_t *roster, size_t length, uint64_t task, uint64_t step);
 
-/* A run: two bytes per event, answer and running task or 255. A refused run (11 to 22) writes nothing; bytes past the last
- * pair stay. Number, fault task and fault step. */
+/* A run: three bytes per event, answer, running task or 255, and report. A refused run (11 to 22) writes nothing; bytes past the
+ * last reply stay. Number, fault task and fault step. */
 uint64_t dispatch_run(const uint8_t *roster, size_t length, const uint8_t *events, size_t events_length, uint8_t *buffer,
                       size_t buffer_length);
 
@@ -190,21 +201,23 @@ uint64_t dispatch_run(const uint8_t *roster, size_t length, const uint8_t *event
 uint8_t dispatch_fresh(const uint8_t *bases, size_t tasks, const uint8_t *ceilings, size_t objects, uint8_t *state,
                        size_t length);
 
-/* The events. With 0 the state's bytes are those after the event; with any other answer none has changed. Tasks, objects,
- * readings and priorities are any numbers of 64 bits: one out of range is answered 1, 2, 4 or 3, by the table of answers. */
-uint8_t dispatch_enter(uint8_t *state, size_t length, uint64_t object);
-uint8_t dispatch_leave(uint8_t *state, size_t length, uint64_t object);
+/* The events. With 0 the state's bytes are those after the event; with any other answer none has changed. *report is written each
+ * time, one of enum dispatch_report, and with any answer but 0 it is DISPATCH_UNCHANGED; report must not be null, nor point into the
+ * state. Tasks, objects, readings and priorities are any numbers of 64 bits: one out of range is answered 1, 2, 4 or 3, by the table
+ * of answers. */
+uint8_t dispatch_enter(uint8_t *state, size_t length, uint64_t object, uint8_t *report);
+uint8_t dispatch_leave(uint8_t *state, size_t length, uint64_t object, uint8_t *report);
 /* Ticks have 16 bits, and no answer says that there were more: write a constant as DISPATCH_TICKS(n). Without it gcc warns of a
  * constant (-Woverflow, which is on), and of a variable with -Wconversion. */
-uint8_t dispatch_delay(uint8_t *state, size_t length, uint16_t ticks);
-uint8_t dispatch_suspend(uint8_t *state, size_t length);
-uint8_t dispatch_release(uint8_t *state, size_t length, uint64_t task);
+uint8_t dispatch_delay(uint8_t *state, size_t length, uint16_t ticks, uint8_t *report);
+uint8_t dispatch_suspend(uint8_t *state, size_t length, uint8_t *report);
+uint8_t dispatch_release(uint8_t *state, size_t length, uint64_t task, uint8_t *report);
 /* 4 is a reading below now, more than DISPATCH_LONGEST_ADVANCE past it, or above DISPATCH_LAST_READING. A fresh start's now is 0. */
-uint8_t dispatch_clock(uint8_t *state, size_t length, uint64_t reading);
+uint8_t dispatch_clock(uint8_t *state, size_t length, uint64_t reading, uint8_t *report);
 /* A ready or running task goes to the tail of its queue whatever the value; inside an action the base waits. */
-uint8_t dispatch_set(uint8_t *state, size_t length, uint64_t task, uint64_t priority);
-uint8_t dispatch_work(uint8_t *state, size_t length);
-uint8_t dispatch_finish(uint8_t *state, size_t length);
+uint8_t dispatch_set(uint8_t *state, size_t length, uint64_t task, uint64_t priority, uint8_t *report);
+uint8_t dispatch_work(uint8_t *state, size_t length, uint8_t *report);
+uint8_t dispatch_finish(uint8_t *state, size_t length, uint8_t *report);
 
 /* 0, or 10 for a state that is not sound. */
 uint8_t dispatch_sound(const uint8_t *state, size_t length);

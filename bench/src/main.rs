@@ -10,6 +10,7 @@ use std::hint::black_box;
 use std::time::Instant;
 
 use dispatch::raw;
+use harness::events::{room_for, REPLY_SIZE};
 use harness::random::Random;
 use work::{events_of, roster_of, Mix, REALISTIC, STEP_HEAVY};
 
@@ -35,7 +36,7 @@ fn case_of(seed: u64, mix: Mix, tasks: usize, count: usize) -> Case {
 
 /// Both runs give the same answer and bytes, else there is nothing to compare.
 fn same(case: &Case, seed: u64) -> Vec<u8> {
-    let mut proved = vec![0; case.events.len() / 4];
+    let mut proved = vec![0; room_for(&case.events)];
     let mut other = proved.clone();
     let a = raw::run(&case.roster, &case.events, &mut proved);
     let b = plain::run(&case.roster, &case.events, &mut other);
@@ -59,7 +60,7 @@ fn batch(run: Run, case: &Case, buffer: &mut [u8], times: usize) -> u128 {
 /// ns per event of the proved run and of the plain one: the least of the batches.
 fn times_of(case: &Case) -> (f64, f64) {
     let count = (case.events.len() / 8) as f64;
-    let mut buffer = vec![0; case.events.len() / 4];
+    let mut buffer = vec![0; room_for(&case.events)];
     let runs: [Run; 2] = [raw::run, plain::run];
     let mut least = [f64::MAX; 2];
     let once = batch(runs[0], case, &mut buffer, 8) / 8;
@@ -80,13 +81,13 @@ fn line(label: &str, (proved, plain): (f64, f64)) {
     );
 }
 
-fn answers(pairs: &[u8]) -> String {
+fn answers(replies: &[u8]) -> String {
     let mut counts = [0usize; 256];
-    pairs
-        .chunks_exact(2)
-        .for_each(|p| counts[p[0] as usize] += 1);
+    let each = replies.chunks_exact(REPLY_SIZE);
+    let total = each.len();
+    each.for_each(|reply| counts[reply[0] as usize] += 1);
     let told = (0..256).filter(|a| counts[*a] > 0);
-    told.map(|a| format!("{a}: {}%", 100 * counts[a] / (pairs.len() / 2)))
+    told.map(|a| format!("{a}: {}%", 100 * counts[a] / total))
         .collect::<Vec<_>>()
         .join(", ")
 }
@@ -98,11 +99,11 @@ fn main() {
         let mut ratios = Vec::new();
         for seed in 0..SEEDS {
             let case = case_of(seed, mix, TASKS, EVENTS);
-            let pairs = same(&case, seed);
+            let replies = same(&case, seed);
             let times = times_of(&case);
             ratios.push(times.0 / times.1);
             line(
-                &format!("{} seed {seed} ({})", mix.name, answers(&pairs)),
+                &format!("{} seed {seed} ({})", mix.name, answers(&replies)),
                 times,
             );
         }

@@ -8,6 +8,7 @@ const LARGEST: usize = 32_768;
 const LONGEST_ADVANCE: u64 = 86_400_000;
 const TRAILER: usize = 8;
 const NOBODY: u8 = 255;
+const REPLY: usize = 3;
 
 /// Number, task and step.
 pub type Answer = (u8, usize, usize);
@@ -175,6 +176,8 @@ enum Place {
 struct Machine {
     now: u64,
     running: u8,
+    /// Whether the dispatch of this event has sent the running task to the head of its queue.
+    preempted: bool,
     tasks: usize,
     place: [Place; MOST_TASKS],
     base: [u8; MOST_TASKS],
@@ -201,6 +204,7 @@ impl Machine {
         let mut m = Machine {
             now: 0,
             running: NOBODY,
+            preempted: false,
             tasks: shape.tasks,
             place: [Place::Ready; MOST_TASKS],
             base: [0; MOST_TASKS],
@@ -294,6 +298,7 @@ impl Machine {
                 return;
             }
             self.push_head(t);
+            self.preempted = true;
         }
         self.running = self.pop(top);
         self.place[self.running as usize] = Place::Running;
@@ -464,7 +469,7 @@ impl Machine {
     }
 }
 
-/// Two bytes per event: answer, then running task or 255.
+/// Three bytes per event: answer, running task or 255, report.
 pub fn run(roster: &[u8], events: &[u8], buffer: &mut [u8]) -> Answer {
     let shape = match check(roster) {
         Ok(shape) => shape,
@@ -473,18 +478,25 @@ pub fn run(roster: &[u8], events: &[u8], buffer: &mut [u8]) -> Answer {
     if !events_are_good(events) {
         return (21, 0, 0);
     }
-    if buffer.len() < events.len() / 4 {
+    if buffer.len() < events.len() / 8 * REPLY {
         return (22, 0, 0);
     }
     let mut m = Machine::new(roster, &shape);
-    for (e, pair) in events.chunks_exact(8).zip(buffer.chunks_exact_mut(2)) {
-        pair[0] = match e[0] {
+    for (e, reply) in events.chunks_exact(8).zip(buffer.chunks_exact_mut(REPLY)) {
+        let before = m.running;
+        m.preempted = false;
+        reply[0] = match e[0] {
             1 => m.clock(value_of(e)),
             2 => m.release(e[1] as usize),
             3 => m.step(roster),
             _ => m.set(e[1] as usize, value_of(e)),
         };
-        pair[1] = m.running;
+        reply[1] = m.running;
+        reply[2] = if m.preempted {
+            1
+        } else {
+            2 * (m.running != before) as u8
+        };
     }
     (0, 0, 0)
 }

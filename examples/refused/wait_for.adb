@@ -2,7 +2,7 @@
 
 with Dispatcher; use Dispatcher;
 
-procedure Wait_For (S : in out State; Result : out Answer) is
+procedure Wait_For (S : in out State; Result : out Answer; Change : out Report) is
 begin
-   Delay_For (S, $TICKS, Result);
+   Delay_For (S, $TICKS, Result, Change);
 end Wait_For;

@@ -1,11 +1,21 @@
 //! The library's calls in the second program's kinds: an event, a script, a step and the next row of a board.
 
 use dispatch::raw;
-use second::machine::Event;
+use second::machine::{Event, Outcome};
 
-/// One event on a state's bytes.
-pub fn event(state: &mut [u8], event: Event) -> u8 {
-    match event {
+/// What an accepted event gives back.
+pub const fn done(report: u8) -> Outcome {
+    Outcome { answer: 0, report }
+}
+
+/// What a refused event gives back: "A refused event reports 0."
+pub const fn refusal(answer: u8) -> Outcome {
+    Outcome { answer, report: 0 }
+}
+
+/// One event on a state's bytes: its answer and its report.
+pub fn event(state: &mut [u8], event: Event) -> Outcome {
+    let (answer, report) = match event {
         Event::Enter(o) => raw::enter(state, o as u64),
         Event::Leave(o) => raw::leave(state, o as u64),
         Event::Delay(d) => raw::delay(state, d),
@@ -15,7 +25,8 @@ pub fn event(state: &mut [u8], event: Event) -> u8 {
         Event::Set(t, p) => raw::set(state, t as u64, p),
         Event::Work => raw::work(state),
         Event::Finish => raw::finish(state),
-    }
+    };
+    Outcome { answer, report }
 }
 
 /// The part of the roster that is the script of a task, or the number of the refusal, which gives an empty part.

@@ -1,12 +1,12 @@
 //! One comparison of the library with the second program for each of its calls: what both make of the same input.
 
 use dispatch::raw;
-use second::machine::{self, Event};
+use second::machine::{self, Event, Outcome};
 use second::roster::{self, Refusal};
 use second::sound::is_sound;
 use second::{board, run, state};
 
-use crate::calls;
+use crate::calls::{self, refusal};
 use crate::layout::{
     bytes_of, in_range, put_rows, rows_of, running_of, state_of, ROW_SIZE, STATE_SIZE,
 };
@@ -121,23 +121,30 @@ pub fn compare_readers(bytes: &[u8], input: &str) -> bool {
     wanted
 }
 
-/// One event on a state's bytes; gives its answer.
-pub fn compare_event(before: &[u8], event: Event, input: &str) -> u8 {
+/// One event on a state's bytes; gives its answer and its report.
+pub fn compare_event(before: &[u8], event: Event, input: &str) -> Outcome {
+    compare_after(before, event, input).0
+}
+
+/// The same, and the bytes after the event.
+pub fn compare_after(before: &[u8], event: Event, input: &str) -> (Outcome, Vec<u8>) {
     let input = || format!("{input}, {event:?}, state {}", hex(before));
     let (wanted, next) = match in_range(before) {
         true => machine::apply(state_of(before), event),
-        false => (10, state_of(before)),
+        false => (refusal(10), state_of(before)),
     };
     let mut after = [before, &GUARD].concat();
-    let answer = calls::event(&mut after, event);
-    assert_eq!(answer, wanted, "answer, {}", input());
-    let kept = match answer {
-        0 => bytes_of(&next),
-        _ => before.to_vec(),
-    };
-    assert_eq!(after[..STATE_SIZE], kept, "state, {}", input());
-    assert_eq!(after[STATE_SIZE..], GUARD, "guard, {}", input());
-    answer
+    let outcome = calls::event(&mut after, event);
+    assert_eq!(outcome, wanted, "{}", input());
+    let guard = after.split_off(STATE_SIZE);
+    assert_eq!(guard, GUARD, "guard, {}", input());
+    if outcome.answer == 0 {
+        assert_eq!(after, bytes_of(&next), "state, {}", input());
+    } else {
+        assert_eq!(outcome, refusal(outcome.answer), "{}", input());
+        assert_eq!(after, before, "state, {}", input());
+    }
+    (outcome, after)
 }
 
 /// A board filled from a state's bytes, and then asked; gives the answer of the filling.
@@ -172,10 +179,10 @@ pub fn compare_fill(bytes: &[u8], board: &[u8], input: &str) -> u8 {
 /// All of these on one state's bytes; gives whether they are sound.
 pub fn compare_state(bytes: &[u8], event: Event, input: &str) -> bool {
     let sound = compare_readers(bytes, input);
-    let answer = compare_event(bytes, event, input);
+    let outcome = compare_event(bytes, event, input);
     let filled = compare_fill(bytes, &[0xA5; ROW_SIZE * 32 + 1], input);
     assert_eq!(
-        (answer == 10, filled == 10),
+        (outcome.answer == 10, filled == 10),
         (!sound, !sound),
         "{input}, {event:?}"
     );

@@ -1,9 +1,38 @@
-//! The events of a run, 8 bytes each: of a command, and made ones, mostly good.
+//! The events of a run, 8 bytes each: of a command, and made ones, mostly good; and its replies, 3 bytes each.
 
 use second::limits::LONGEST_ADVANCE;
-use second::run::Command;
+use second::machine::Outcome;
+use second::run::{Command, Run};
 
 use crate::random::Random;
+
+/// What a run writes for an event: answer, running task or 255, report.
+pub const REPLY_SIZE: usize = 3;
+
+/// Document 01's events of its whole case: Step, Step, Clock 5, Step, Step, Step, Clock 4, then four Steps.
+pub const WHOLE_CASE_EVENTS: &str = "0300000000000000 0300000000000000 0100050000000000 \
+    0300000000000000 0300000000000000 0300000000000000 0100040000000000 \
+    0300000000000000 0300000000000000 0300000000000000 0300000000000000";
+
+/// How many bytes a run writes for these events.
+pub fn room_for(events: &[u8]) -> usize {
+    events.len() / 8 * REPLY_SIZE
+}
+
+/// The second program's reply to one event.
+pub fn reply_of(run: &mut Run, command: Command) -> [u8; REPLY_SIZE] {
+    let Outcome { answer, report } = run.take(command);
+    [answer, run.running_byte(), report]
+}
+
+/// "0 no change": that a report is 0 exactly where the same task runs as in the reply before, or nobody in both.
+pub fn assert_no_change_is_0(replies: &[u8], input: &dyn Fn() -> String) {
+    let replies: Vec<&[u8]> = replies.chunks_exact(REPLY_SIZE).collect();
+    for (i, two) in replies.windows(2).enumerate() {
+        let (same, unchanged) = (two[0][1] == two[1][1], two[1][2] == 0);
+        assert_eq!(same, unchanged, "reply {}, {}", i + 1, input());
+    }
+}
 
 /// The bytes of one event.
 pub fn record_of(command: Command) -> [u8; 8] {
@@ -15,6 +44,11 @@ pub fn record_of(command: Command) -> [u8; 8] {
     };
     let [v0, v1, v2, v3, v4, v5, ..] = value.to_le_bytes();
     [kind, a, v0, v1, v2, v3, v4, v5]
+}
+
+/// The bytes of some events.
+pub fn records_of(commands: &[Command]) -> Vec<u8> {
+    commands.iter().flat_map(|c| record_of(*c)).collect()
 }
 
 /// A reading: mostly on by little; now and then backwards, past a long Delay, around the longest advance, or a leap. Now goes on

@@ -4,7 +4,7 @@
 use second::roster::admit;
 use second::run::Command;
 
-use crate::events::{reading_of, record_of};
+use crate::events::reading_of;
 use crate::premises::{Pair, Premise};
 use crate::random::Random;
 use crate::rosters::{
@@ -237,11 +237,6 @@ fn events_of(random: &mut Random, counts: [usize; 2]) -> Vec<Command> {
         _ => Command::Step,
     });
     commands.collect()
-}
-
-/// The events as a run takes them.
-pub fn records(events: &[Command]) -> Vec<u8> {
-    events.iter().flat_map(|c| record_of(*c)).collect()
 }
 
 /// A pair in which this premise is broken and no other: planted in pairs until one has room for it and passes.

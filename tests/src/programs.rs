@@ -1,8 +1,10 @@
-//! The compiled program and the second program's command, each run in a folder of its own.
+//! The compiled program and the second program's command, each run in a folder of its own, and the lines that they print.
 
 use std::fs::{self, File};
 use std::path::{Path, PathBuf};
 use std::process::{Command, Stdio};
+
+use crate::events::REPLY_SIZE;
 
 fn in_repository(path: &str) -> PathBuf {
     Path::new(env!("CARGO_MANIFEST_DIR")).join("..").join(path)
@@ -48,4 +50,29 @@ pub fn printed(program: &Path, folder: &Path) -> (String, bool) {
         String::from_utf8(output.stdout).unwrap(),
         output.status.success(),
     )
+}
+
+/// What the compiled program and the second program's command print for a roster and events, and whether they ended well.
+pub fn both_printed(name: &str, roster: &[u8], events: &[u8]) -> [(String, bool); 2] {
+    let folder = folder_for(name);
+    fs::write(folder.join("roster.bin"), roster).unwrap();
+    fs::write(folder.join("events.bin"), events).unwrap();
+    let both = [proved(), second()].map(|program| printed(&program, &folder));
+    fs::remove_dir_all(&folder).unwrap();
+    both
+}
+
+/// The line of a reply: answer, running task or -, report.
+pub fn line_of(reply: &[u8]) -> String {
+    match reply[1] {
+        255 => format!("{} - {}", reply[0], reply[2]),
+        task => format!("{} {task} {}", reply[0], reply[2]),
+    }
+}
+
+/// The lines of a run that is done.
+pub fn lines_of(replies: &[u8]) -> String {
+    let replies = replies.chunks_exact(REPLY_SIZE);
+    let lines: String = replies.map(|reply| line_of(reply) + "\n").collect();
+    format!("passed\n{lines}end\n")
 }

@@ -31,6 +31,12 @@ pub fn save(test: &str, seed: u64, roster: &[u8], events: &[u8]) -> String {
     }
 }
 
+/// Those that are so.
+pub fn seen<K, const N: usize>(all: [(K, bool); N]) -> Vec<K> {
+    let seen = all.into_iter().filter(|(_, seen)| *seen);
+    seen.map(|(what, _)| what).collect()
+}
+
 /// How often each answer, or whatever else is counted, came.
 pub struct Histogram<K = u8> {
     counts: BTreeMap<K, usize>,
@@ -63,6 +69,13 @@ impl<K: Copy + Ord + Debug> Histogram<K> {
         for key in keys {
             let times = self.of(*key);
             assert!(times >= least, "{key:?} came {times} times");
+        }
+    }
+
+    /// Fails where anything but these came.
+    pub fn require_no_other(&self, keys: &[K]) {
+        for (key, times) in &self.counts {
+            assert!(keys.contains(key), "{key:?} came {times} times");
         }
     }
 }

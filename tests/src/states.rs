@@ -90,6 +90,16 @@ pub fn at_now(state: &State, now: u64) -> State {
     moved
 }
 
+/// The due times of the delayed tasks.
+pub fn dues(state: &State) -> Vec<u64> {
+    let due = |place| match place {
+        Place::Delayed { due } => Some(due),
+        _ => None,
+    };
+    let tasks = state.tasks.iter();
+    tasks.filter_map(|task| due(task.place)).collect()
+}
+
 fn tasks_at(state: &State, wanted: fn(Place) -> bool) -> Vec<usize> {
     let tasks = 0..state.tasks.len();
     tasks.filter(|t| wanted(state.tasks[*t].place)).collect()

@@ -2,8 +2,8 @@
 
 use dispatch::roster::{self, Refusal, Step};
 use dispatch::{
-    next, Answer, Object, Place, Priority, Row, State, Task, LONGEST_ADVANCE, MOST_TASKS,
-    STATE_SIZE,
+    next, Answer, Object, Outcome, Place, Priority, Report, Row, State, Task, LONGEST_ADVANCE,
+    MOST_TASKS, REPLY_SIZE, STATE_SIZE,
 };
 use harness::report::bytes_of;
 use harness::rosters::{every_step, WHOLE_CASE};
@@ -21,52 +21,100 @@ fn every_answer_has_its_number() {
     assert!(Answer::Done.is_done() && !Answer::NoSuchTask.is_done());
 }
 
+#[test]
+fn every_report_has_its_number() {
+    let reports = [Report::Unchanged, Report::Preempted, Report::Changed];
+    for (number, report) in (0..).zip(reports) {
+        assert_eq!(
+            (report.number(), Report::of(number)),
+            (number, Some(report))
+        );
+    }
+    assert!((3..=255).all(|number| Report::of(number).is_none()));
+    assert_eq!(done(Report::Changed).done(), Ok(Report::Changed));
+    assert_eq!(refused(Answer::Unsound).done(), Err(Answer::Unsound));
+}
+
+/// What an accepted event gives back.
+fn done(report: Report) -> Outcome {
+    Outcome {
+        answer: Answer::Done,
+        report,
+    }
+}
+
+/// What a refused event gives back.
+fn refused(answer: Answer) -> Outcome {
+    Outcome {
+        answer,
+        report: Report::Unchanged,
+    }
+}
+
 /// The marked cases that take few events: A to E and G to L.
 #[test]
 fn events_move_a_state() {
     let (answer, mut state) = State::fresh(&[10, 20, 10], &[20]);
     assert_eq!((answer, state.running()), (Answer::Done, Some(Task(1))));
-    assert_eq!(state.set(Task(0), Priority(10)), Answer::Done);
+    let (same, other) = (done(Report::Unchanged), done(Report::Changed));
+    assert_eq!(state.set(Task(0), Priority(10)), same);
     assert_eq!(state.running(), Some(Task(1)));
     for priority in [0, 33, 256, 257, u64::MAX] {
-        assert_eq!(state.set(Task(1), Priority(priority)), Answer::BadPriority);
+        let outcome = state.set(Task(1), Priority(priority));
+        assert_eq!(outcome, refused(Answer::BadPriority));
     }
-    assert_eq!(state.set(Task(3), Priority(0)), Answer::NoSuchTask);
-    assert_eq!(state.enter(Object(0)), Answer::Done);
-    assert_eq!(state.enter(Object(0)), Answer::InsideAction);
-    assert_eq!(state.enter(Object(1)), Answer::NoSuchObject);
-    assert_eq!(state.delay(0), Answer::InsideAction);
-    assert_eq!(state.leave(Object(0)), Answer::Done);
-    assert_eq!(state.leave(Object(0)), Answer::NotInnermost);
-    assert_eq!(state.set(Task(1), Priority::LAST), Answer::Done);
-    assert_eq!(state.enter(Object(0)), Answer::AboveCeiling);
-    assert_eq!(state.release(Task(1)), Answer::Done);
-    assert_eq!(
-        (state.suspend(), state.running()),
-        (Answer::Done, Some(Task(1)))
-    );
-    assert_eq!(
-        (state.suspend(), state.running()),
-        (Answer::Done, Some(Task(2)))
-    );
-    assert_eq!(
-        (state.clock(5), state.clock(4)),
-        (Answer::Done, Answer::BadReading)
-    );
+    let outcome = state.set(Task(3), Priority(0));
+    assert_eq!(outcome, refused(Answer::NoSuchTask));
+    assert_eq!(state.enter(Object(0)), same);
+    assert_eq!(state.enter(Object(0)), refused(Answer::InsideAction));
+    assert_eq!(state.enter(Object(1)), refused(Answer::NoSuchObject));
+    assert_eq!(state.delay(0), refused(Answer::InsideAction));
+    assert_eq!(state.leave(Object(0)), same);
+    assert_eq!(state.leave(Object(0)), refused(Answer::NotInnermost));
+    assert_eq!(state.set(Task(1), Priority::LAST), same);
+    assert_eq!(state.enter(Object(0)), refused(Answer::AboveCeiling));
+    assert_eq!(state.release(Task(1)), same);
+    assert_eq!((state.suspend(), state.running()), (same, Some(Task(1))));
+    assert_eq!((state.suspend(), state.running()), (other, Some(Task(2))));
+    let backwards = refused(Answer::BadReading);
+    assert_eq!((state.clock(5), state.clock(4)), (same, backwards));
     let farthest = 5 + LONGEST_ADVANCE;
-    assert_eq!(
-        (state.clock(farthest + 1), state.clock(farthest)),
-        (Answer::BadReading, Answer::Done)
-    );
-    assert_eq!(
-        (state.delay(0), state.running()),
-        (Answer::Done, Some(Task(0)))
-    );
-    assert_eq!((state.work(), state.delay(7)), (Answer::Done, Answer::Done));
-    assert_eq!((state.finish(), state.running()), (Answer::Done, None));
-    assert_eq!(state.finish(), Answer::NobodyRuns);
-    assert_eq!(state.set(Task(2), Priority::DEFAULT), Answer::EndedTask);
+    assert_eq!(state.clock(farthest + 1), refused(Answer::BadReading));
+    assert_eq!(state.clock(farthest), same);
+    assert_eq!((state.delay(0), state.running()), (other, Some(Task(0))));
+    assert_eq!((state.work(), state.delay(7)), (same, other));
+    assert_eq!((state.finish(), state.running()), (other, None));
+    assert_eq!(state.finish(), refused(Answer::NobodyRuns));
+    let outcome = state.set(Task(2), Priority::DEFAULT);
+    assert_eq!(outcome, refused(Answer::EndedTask));
     assert!(state.is_sound());
+}
+
+/// Every event that can preempt does so, and hands out its report; the same with a task that was sent away.
+#[test]
+fn events_report_why_the_processor_changed_hands() {
+    let preempted = (done(Report::Preempted), Some(Task(1)));
+    let changed = |t| (done(Report::Changed), Some(Task(t)));
+    let (_, mut state) = State::fresh(&[10, 15], &[20]);
+    assert_eq!((state.suspend(), state.running()), changed(0));
+    assert_eq!((state.release(Task(1)), state.running()), preempted);
+    assert_eq!((state.delay(5), state.running()), changed(0));
+    assert_eq!((state.clock(5), state.running()), preempted);
+    assert_eq!(
+        (state.set(Task(1), Priority(9)), state.running()),
+        changed(0)
+    );
+    assert_eq!(
+        (state.set(Task(1), Priority(15)), state.running()),
+        preempted
+    );
+    assert_eq!((state.suspend(), state.running()), changed(0));
+    let entered = (state.enter(Object(0)), state.release(Task(1)));
+    assert_eq!(entered, (done(Report::Unchanged), done(Report::Unchanged)));
+    assert_eq!((state.leave(Object(0)), state.running()), preempted);
+    assert_eq!((state.finish(), state.running()), changed(0));
+    let last = (state.finish(), state.running());
+    assert_eq!(last, (done(Report::Changed), None));
 }
 
 #[test]
@@ -81,14 +129,14 @@ fn a_state_is_kept_as_bytes() {
     assert_eq!(State::from_bytes(*state.as_bytes()), state);
     let mut unsound = State::from_bytes([0xFF; STATE_SIZE]);
     assert_eq!((unsound.is_sound(), unsound.running()), (false, None));
-    assert_eq!(unsound.work(), Answer::Unsound);
+    assert_eq!(unsound.work(), refused(Answer::Unsound));
     assert_eq!(unsound, State::from_bytes([0xFF; STATE_SIZE]));
 }
 
 #[test]
 fn a_board_is_filled_and_asked() {
     let (_, mut state) = State::fresh(&[10, 20, 10], &[]);
-    assert_eq!(state.suspend(), Answer::Done);
+    assert_eq!(state.suspend(), done(Report::Changed));
     let blank = Row {
         kind: 9,
         priority: 9,
@@ -124,12 +172,12 @@ fn a_roster_is_read_and_run() {
         Err(Answer::NoSuchObject)
     );
     assert_eq!(roster::step_count(&whole, Task(0)), Ok(3));
-    let mut buffer = [0xA5; 3];
+    let mut buffer = [0xA5; REPLY_SIZE + 1];
     assert_eq!(
         roster::run(&whole, &[3, 0, 0, 0, 0, 0, 0, 0], &mut buffer),
         Ok(())
     );
-    assert_eq!(buffer, [0, 0, 0xA5]);
+    assert_eq!(buffer, [0, 0, 2, 0xA5]);
     whole[36] = 19;
     let refusal = Refusal {
         answer: Answer::LowCeiling,

@@ -1,9 +1,10 @@
-//! Single events and fresh starts through the exported functions, against the second program: the answer and every byte of the state.
+//! Single events and fresh starts through the exported functions, against the second program: the answer, the report and every byte
+//! of the state.
 
 use std::collections::BTreeMap;
 
 use dispatch::raw;
-use harness::calls;
+use harness::calls::{self, refusal};
 use harness::compare::{compare_event, compare_fresh, compare_readers};
 use harness::layout::{bring_in_range, bytes_of, in_range, state_of, STATE_SIZE};
 use harness::random::Random;
@@ -68,8 +69,7 @@ fn an_event_agrees_with_the_second_program() {
         if let ([only], true) = (&faults[..], in_range(&before)) {
             *alone.entry(only).or_insert(0) += 1;
         }
-        let answer = compare_event(&before, event, &input);
-        answers.count(answer);
+        answers.count(compare_event(&before, event, &input).answer);
     }
     answers.print("events by answer");
     answers.require(&[0, 1, 2, 3, 4, 5, 6, 7, 8, 9, 10], LEAST);
@@ -98,16 +98,10 @@ fn a_history_agrees_with_the_second_program() {
             let event = event_of(&mut random, &state);
             let (wanted, next) = machine::apply(state, event);
             state = next;
-            let answer = calls::event(&mut bytes, event);
-            assert_eq!(
-                answer, wanted,
-                "answer, seed {seed}, event {step}, {event:?}"
-            );
-            assert_eq!(
-                bytes,
-                bytes_of(&state),
-                "state, seed {seed}, event {step}, {event:?}"
-            );
+            let outcome = calls::event(&mut bytes, event);
+            let input = format!("seed {seed}, event {step}, {event:?}");
+            assert_eq!(outcome, wanted, "{input}");
+            assert_eq!(bytes, bytes_of(&state), "state, {input}");
         }
     }
 }
@@ -153,8 +147,8 @@ fn a_state_that_is_too_short_is_refused_and_kept() {
         let before = bytes.clone();
         let mut board = [0xA5; 96];
         for event in events {
-            let answer = calls::event(&mut bytes, event);
-            assert_eq!(answer, 10, "length {length}, {event:?}");
+            let outcome = calls::event(&mut bytes, event);
+            assert_eq!(outcome, refusal(10), "length {length}, {event:?}");
         }
         let fresh = raw::fresh(&[10], &[], &mut bytes);
         let fill = raw::fill(&bytes, &mut board);

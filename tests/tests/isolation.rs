@@ -5,9 +5,11 @@ use std::collections::{BTreeMap, VecDeque};
 use std::fmt::Debug;
 
 use dispatch::raw;
+use harness::events::{records_of, room_for, REPLY_SIZE};
 use harness::layout::{rows_of, state_of, ROW_SIZE, STATE_SIZE};
-use harness::levels::{agreeing, breaking, records, EVENTS, HIGHEST};
+use harness::levels::{agreeing, breaking, EVENTS, HIGHEST};
 use harness::premises::{above, broken, Pair, Premise, PREMISES};
+use harness::programs::line_of;
 use harness::random::Random;
 use harness::report::{bytes_of, save, Histogram};
 use harness::rosters::{Plan, AGAIN, DELAY, ENTER, LEAVE, MOST_TASKS, RELEASE, SET, SUSPEND, WORK};
@@ -32,7 +34,7 @@ struct Caller {
     roster: Vec<u8>,
     bytes: Vec<u8>,
     positions: Vec<u64>,
-    /// The answer to each event and the running task after it, as a run writes them.
+    /// The reply to each event, as a run writes it.
     written: Vec<u8>,
     /// What the bytes mean, and what they meant before the last event.
     state: State,
@@ -63,19 +65,19 @@ impl Caller {
     /// Hands one event to the library, and looks at the state that it leaves.
     fn take(&mut self, command: Command) {
         self.code = None;
-        let answer = match command {
+        let (answer, report) = match command {
             Command::Clock(reading) => raw::clock(&mut self.bytes, reading),
             Command::Release(t) => raw::release(&mut self.bytes, t as u64),
             Command::Set(t, p) => raw::set(&mut self.bytes, t as u64, p),
             Command::Step => self.step(),
         };
         self.running = raw::running(&self.bytes);
-        self.written.extend([answer, self.running]);
+        self.written.extend([answer, self.running, report]);
         self.before = std::mem::replace(&mut self.state, state_of(&self.bytes));
     }
 
-    /// The next step of the running task; with nobody running, Work, which answers 5.
-    fn step(&mut self) -> u8 {
+    /// The next step of the running task, its answer and report; with nobody running, Work, which answers 5.
+    fn step(&mut self) -> (u8, u8) {
         let t = self.running;
         if t == raw::NOBODY {
             return raw::work(&mut self.bytes);
@@ -83,16 +85,16 @@ impl Caller {
         let position = self.positions[t as usize];
         let packed = self.step_at(t, position);
         let code = packed as u8;
-        let answer = self.call(packed);
+        let outcome = self.call(packed);
         self.code = Some(code);
-        if answer == 0 {
+        if outcome.0 == 0 {
             self.positions[t as usize] = match code {
                 FINISH => position,
                 AGAIN => 0,
                 _ => position + 1,
             };
         }
-        answer
+        outcome
     }
 
     /// The bytes of a step as a number, from the library; all 0 exactly at the script's end.
@@ -105,7 +107,7 @@ impl Caller {
     }
 
     /// The call that a step is; Again is none.
-    fn call(&mut self, packed: u64) -> u8 {
+    fn call(&mut self, packed: u64) -> (u8, u8) {
         let (a, b) = (packed >> 8 & 0xFF, packed >> 16);
         let state = &mut self.bytes;
         match packed as u8 {
@@ -116,13 +118,17 @@ impl Caller {
             SUSPEND => raw::suspend(state),
             RELEASE => raw::release(state, a),
             SET => raw::set(state, a, b),
-            AGAIN => 0,
+            AGAIN => (0, 0),
             _ => raw::finish(state),
         }
     }
 
     fn last_answer(&self) -> u8 {
-        self.written[self.written.len() - 2]
+        self.written[self.written.len() - REPLY_SIZE]
+    }
+
+    fn last_report(&self) -> u8 {
+        self.written[self.written.len() - 1]
     }
 
     /// The rows of a board, just filled.
@@ -215,8 +221,8 @@ fn folded(pair: &Pair, counts: &mut Counts) -> Result<[Vec<u8>; 2], String> {
 
 /// What a run writes for one roster of a pair.
 fn ran(pair: &Pair, r: usize) -> Vec<u8> {
-    let events = records(&pair.events[r]);
-    let mut buffer = vec![0xA5; events.len() / 4];
+    let events = records_of(&pair.events[r]);
+    let mut buffer = vec![0xA5; room_for(&events)];
     let answer = raw::run(&pair.rosters[r].bytes(), &events, &mut buffer);
     assert_eq!(answer, (0, 0, 0), "{pair:?}");
     buffer
@@ -224,11 +230,12 @@ fn ran(pair: &Pair, r: usize) -> Vec<u8> {
 
 /// The task above that runs after each event, if one does.
 fn moments(written: &[u8], above: &[usize]) -> Vec<Option<u8>> {
-    let runs = |pair: &[u8]| Some(pair[1]).filter(|t| above.contains(&(*t).into()));
-    written.chunks_exact(2).map(runs).collect()
+    let runs = |reply: &[u8]| Some(reply[1]).filter(|t| above.contains(&(*t).into()));
+    written.chunks_exact(REPLY_SIZE).map(runs).collect()
 }
 
-/// The same for two runs: the tasks above run at the same moments, and get the same answers but for the excepted ones.
+/// The same for two runs: the tasks above run at the same moments, and get the same answers but for the excepted ones. The reports
+/// may differ.
 fn compare_runs(pair: &Pair, [a, b]: [&[u8]; 2]) -> Result<(), String> {
     let above = above(&pair.rosters[0], pair.level);
     let runs = moments(a, &above);
@@ -244,11 +251,19 @@ fn compare_runs(pair: &Pair, [a, b]: [&[u8]; 2]) -> Result<(), String> {
         .is_some_and(|t| above.contains(&t));
     for (i, &command) in pair.events[0].iter().enumerate() {
         if !excepted(pair, command, runs_above) {
-            same("answers of the runs", i, a[2 * i], b[2 * i])?;
+            let [in_a, in_b] = [a, b].map(|written| written[REPLY_SIZE * i]);
+            same("answers of the runs", i, in_a, in_b)?;
         }
         runs_above = runs[i].is_some();
     }
     Ok(())
+}
+
+/// Whether one report is 1, from a task that ran before, and the other 2, from nobody.
+fn reports_differ(callers: [&Caller; 2]) -> bool {
+    let ran_before = callers.map(|caller| caller.before.running.is_some());
+    let reports = callers.map(Caller::last_report);
+    ran_before[0] != ran_before[1] && reports == ran_before.map(|ran| if ran { 1 } else { 2 })
 }
 
 /// What came, so that no pair passes for idleness.
@@ -268,6 +283,8 @@ enum Sight {
     EqualsAbove,
     StepAnswersDiffer,
     ReleaseAnswersDiffer,
+    /// one above takes over, from a lower task in one and from nobody in the other
+    TakeoverReportsDiffer,
     OtherTaskCount,
     OtherObjectCount,
     OtherLowerBase,
@@ -329,6 +346,9 @@ impl Counts {
         let differ = callers[0].last_answer() != callers[1].last_answer();
         self.count(StepAnswersDiffer, differ && command == Command::Step);
         self.count(ReleaseAnswersDiffer, differ && command != Command::Step);
+        let takes_over = runs_above && callers[0].before.running != runners[0];
+        let other = takes_over && reports_differ(callers);
+        self.count(TakeoverReportsDiffer, other);
         let took = callers[0].before.running.filter(is_above);
         if let (Some(_), Some(code)) = (took, callers[0].code) {
             self.steps.count(code);
@@ -395,7 +415,7 @@ impl Counts {
 /// Saves both rosters of a pair with their events, and names the seed.
 fn input(test: &str, seed: u64, pair: &Pair) -> String {
     let saved = [("first", 0), ("second", 1)].map(|(name, r)| {
-        let events = records(&pair.events[r]);
+        let events = records_of(&pair.events[r]);
         save(
             &format!("{test}-{name}"),
             seed,
@@ -562,14 +582,10 @@ fn the_example_of_the_page_runs_as_it_says() {
     .concat();
     for name in ["one", "two"] {
         let (roster, printed) = example(page, name);
-        let mut buffer = vec![0xA5; 2 * events.len()];
-        let answer = raw::run(&roster, &records(&events), &mut buffer);
+        let mut buffer = vec![0xA5; REPLY_SIZE * events.len()];
+        let answer = raw::run(&roster, &records_of(&events), &mut buffer);
         assert_eq!(answer, (0, 0, 0), "{name}");
-        let line = |pair: &[u8]| match pair[1] {
-            raw::NOBODY => format!("{} -", pair[0]),
-            t => format!("{} {t}", pair[0]),
-        };
-        let written: Vec<String> = buffer.chunks_exact(2).map(line).collect();
+        let written: Vec<String> = buffer.chunks_exact(REPLY_SIZE).map(line_of).collect();
         assert_eq!(written, printed, "{name}");
     }
 }

@@ -1,22 +1,20 @@
 //! Readings around the longest advance and around the largest reading: the library, the second program, and answer 4 written out.
 
-use std::fs;
-
 use dispatch::raw;
-use harness::calls;
-use harness::compare::{compare_event, compare_readers};
-use harness::events::record_of;
+use harness::calls::refusal;
+use harness::compare::{compare_after, compare_event, compare_readers};
+use harness::events::{record_of, records_of, reply_of, REPLY_SIZE};
 use harness::layout::{bytes_of, state_of};
-use harness::programs::{folder_for, printed, proved, second};
+use harness::programs::{both_printed, lines_of};
 use harness::random::Random;
-use harness::report::{save, Histogram};
+use harness::report::{save, seen, Histogram};
 use harness::rosters::{passing, step, Plan, DELAY};
-use harness::states::{at_now, plant, sound_state};
+use harness::states::{at_now, dues, plant, sound_state};
 use second::machine::Event;
 use second::roster::read;
 use second::run::{Command, Run};
 use second::sound::is_sound;
-use second::state::{Place, State};
+use second::state::State;
 
 const STATES: u64 = 8_000;
 const RUNS: u64 = 3_000;
@@ -69,22 +67,6 @@ enum Sight {
 }
 
 use Sight::*;
-
-/// The due times of the delayed tasks.
-fn dues(state: &State) -> Vec<u64> {
-    let due = |place| match place {
-        Place::Delayed { due } => Some(due),
-        _ => None,
-    };
-    let tasks = state.tasks.iter();
-    tasks.filter_map(|task| due(task.place)).collect()
-}
-
-/// Those that are so.
-fn seen<const N: usize>(all: [(Sight, bool); N]) -> Vec<Sight> {
-    let seen = all.into_iter().filter(|(_, seen)| *seen);
-    seen.map(|(sight, _)| sight).collect()
-}
 
 /// What a reading on a sound state is.
 fn sights(state: &State, reading: u64) -> Vec<Sight> {
@@ -153,9 +135,8 @@ fn readings_of(random: &mut Random, state: &State) -> Vec<u64> {
 fn take(before: &[u8], reading: u64, input: &str) -> Vec<u8> {
     let state = state_of(before);
     let number = wanted(state.now, reading);
-    compare_event(before, Event::Clock(reading), input);
-    let mut after = before.to_vec();
-    let answer = calls::event(&mut after, Event::Clock(reading));
+    let (outcome, after) = compare_after(before, Event::Clock(reading), input);
+    let answer = outcome.answer;
     assert_eq!(answer, number, "{input}, Clock {reading}, {state:?}");
     if number == 4 {
         assert!(after == before, "{input}, Clock {reading}, {state:?}");
@@ -250,8 +231,9 @@ fn readings_on_unsound_states_are_refused_with_10() {
         let bytes = bytes_of(&state);
         let farthest = state.now.saturating_add(LONGEST);
         for reading in [farthest, farthest.saturating_add(1), LARGEST, LARGEST + 1] {
-            let answer = compare_event(&bytes, Event::Clock(reading), &format!("seed {seed}"));
-            assert_eq!(answer, 10, "seed {seed}, Clock {reading}, {state:?}");
+            let outcome = compare_event(&bytes, Event::Clock(reading), &format!("seed {seed}"));
+            let input = || format!("seed {seed}, Clock {reading}, {state:?}");
+            assert_eq!(outcome, refusal(10), "{}", input());
             if reading > farthest {
                 counts.count(LeapInUnsound);
             }
@@ -281,7 +263,7 @@ fn reading_of(random: &mut Random, now: u64, leap: Option<u64>) -> u64 {
 struct Made {
     roster: Vec<u8>,
     events: Vec<u8>,
-    pairs: Vec<u8>,
+    replies: Vec<u8>,
     sights: Vec<Sight>,
 }
 
@@ -301,7 +283,7 @@ fn made(seed: u64) -> Made {
     let mut random = Random::new(seed);
     let roster = with_delays(&mut random).bytes();
     let mut run = Run::start(read(&roster).expect("a roster that passes"));
-    let (mut events, mut pairs, mut found) = (Vec::new(), Vec::new(), Vec::new());
+    let (mut events, mut replies, mut found) = (Vec::new(), Vec::new(), Vec::new());
     // the reading before, where it was a refused leap
     let mut leap = None;
     for _ in 0..random.within(20, 100) {
@@ -316,18 +298,18 @@ fn made(seed: u64) -> Made {
             found.extend(sights_of_run(now, reading, leap));
             leap = Some(reading).filter(|r| *r > now + LONGEST);
         }
-        let answer = run.take(command);
+        let reply = reply_of(&mut run, command);
         if let Command::Clock(reading) = command {
             let input = format!("seed {seed}, from {now}, Clock {reading}");
-            assert_eq!(answer, wanted(now, reading), "{input}");
+            assert_eq!(reply[0], wanted(now, reading), "{input}");
         }
         events.extend(record_of(command));
-        pairs.extend([answer, run.running_byte()]);
+        replies.extend(reply);
     }
     Made {
         roster,
         events,
-        pairs,
+        replies,
         sights: found,
     }
 }
@@ -363,43 +345,28 @@ fn runs_with_leaps_agree_with_the_second_program_and_with_the_rule() {
     let mut counts = Histogram::new();
     for seed in 0..RUNS {
         let made = made(seed);
-        let mut buffer = vec![0xA5; made.pairs.len()];
+        let mut buffer = vec![0xA5; made.replies.len()];
         let answer = raw::run(&made.roster, &made.events, &mut buffer);
         let input = || save("leaps", seed, &made.roster, &made.events);
         assert_eq!(answer, (0, 0, 0), "answer, seed {seed}, {}", input());
-        assert!(buffer == made.pairs, "buffer, seed {seed}, {}", input());
+        assert!(buffer == made.replies, "buffer, seed {seed}, {}", input());
         made.sights.iter().for_each(|s| counts.count(*s));
     }
     counts.print("readings in runs");
     counts.require(&IN_RUNS, LEAST);
 }
 
-/// The lines of a run that is done.
-fn lines_of(pairs: &[u8]) -> String {
-    let line = |pair: &[u8]| match pair[1] {
-        255 => format!("{} -\n", pair[0]),
-        task => format!("{} {task}\n", pair[0]),
-    };
-    let lines: String = pairs.chunks_exact(2).map(line).collect();
-    format!("passed\n{lines}end\n")
-}
-
 #[test]
 fn programs_with_leaps_agree_with_the_second_programs_command() {
-    let (proved, second) = (proved(), second());
     let mut counts = Histogram::new();
     for seed in RUNS..RUNS + PROGRAMS {
         let made = made(seed);
-        let folder = folder_for(&format!("leaps-{seed}"));
-        fs::write(folder.join("roster.bin"), &made.roster).unwrap();
-        fs::write(folder.join("events.bin"), &made.events).unwrap();
-        let wanted = (lines_of(&made.pairs), true);
+        let name = format!("leaps-{seed}");
+        let [proved, second] = both_printed(&name, &made.roster, &made.events);
+        let wanted = (lines_of(&made.replies), true);
         let input = || save("leaps-program", seed, &made.roster, &made.events);
-        for program in [&proved, &second] {
-            let found = printed(program, &folder);
-            assert!(found == wanted, "{program:?}, seed {seed}, {}", input());
-        }
-        fs::remove_dir_all(&folder).unwrap();
+        assert!(proved == wanted, "seed {seed}, {}", input());
+        assert!(second == wanted, "second, seed {seed}, {}", input());
         made.sights.iter().for_each(|s| counts.count(*s));
     }
     counts.print("readings in programs");
@@ -415,13 +382,12 @@ fn the_longest_advances_of_a_whole_run() {
         scripts: vec![Vec::new()],
     };
     let events = |more: u64| -> Vec<u8> {
-        let readings = (1..=4096).map(|k| k * LONGEST + more);
-        let records = readings.map(|reading| record_of(Command::Clock(reading)));
-        records.flatten().collect()
+        let readings = (1..=4096).map(|k| Command::Clock(k * LONGEST + more));
+        records_of(&readings.collect::<Vec<_>>())
     };
     for (more, answer) in [(0, 0), (1, 4)] {
-        let mut buffer = vec![0xA5; 2 * 4096];
+        let mut buffer = vec![0xA5; REPLY_SIZE * 4096];
         let done = raw::run(&plan.bytes(), &events(more), &mut buffer);
-        assert_eq!((done, buffer), ((0, 0, 0), [answer, 0].repeat(4096)));
+        assert_eq!((done, buffer), ((0, 0, 0), [answer, 0, 0].repeat(4096)));
     }
 }

@@ -1,8 +1,8 @@
 //! Sizes at their limits and one beyond, with nothing else wrong: rosters, events, buffers, boards and numbers.
 
-use harness::calls;
-use harness::compare::{compare_event, compare_parts, compare_roster, compare_run};
-use harness::events::record_of;
+use harness::calls::{self, done};
+use harness::compare::{compare_after, compare_event, compare_parts, compare_roster, compare_run};
+use harness::events::{record_of, REPLY_SIZE};
 use harness::layout::{bytes_of, put_rows, rows_of, ROW_SIZE};
 use harness::random::Random;
 use harness::report::hex;
@@ -28,7 +28,7 @@ fn a_roster_of_the_largest_size() {
         assert_eq!(bytes.len(), LARGEST);
         assert_eq!(compare_roster(&bytes, &input), 0);
         compare_parts(&bytes, &[0, 1, 31, 32], &[0, 15, 16], &|| input.clone());
-        assert_eq!(compare_run(&bytes, &STEP.repeat(40), 80, &input), 0);
+        assert_eq!(compare_run(&bytes, &STEP.repeat(40), 120, &input), 0);
         // the last step is looked at too
         let mut late = plan.clone();
         *late.scripts[tasks - 1].last_mut().unwrap() = step(WORK, 1, 0);
@@ -90,19 +90,20 @@ fn the_most_events() {
     for count in [0, 1, 2, 4095, 4096, 4097, 4098, 8191, 8192, 8193, 10_000] {
         let input = format!("{count} steps");
         let events = STEP.repeat(count);
-        for size in [2 * count, 2 * count + 1, 2 * count + 9] {
+        let needed = REPLY_SIZE * count;
+        for size in [needed, needed + 1, needed + 9] {
             let wanted = if count <= 4096 { 0 } else { 21 };
             assert_eq!(compare_run(&roster, &events, size, &input), wanted);
         }
         if count > 0 {
             let wanted = if count <= 4096 { 22 } else { 21 };
-            for size in [0, count, 2 * count - 2, 2 * count - 1] {
+            for size in [0, count, 2 * count, needed - 3, needed - 1] {
                 assert_eq!(compare_run(&roster, &events, size, &input), wanted);
             }
         }
         for more in 1..8 {
             let longer = [&events[..], &[0; 8][..more]].concat();
-            assert_eq!(compare_run(&roster, &longer, 2 * count + 2, &input), 21);
+            assert_eq!(compare_run(&roster, &longer, needed + 3, &input), 21);
         }
     }
 }
@@ -129,7 +130,7 @@ fn every_length_of_a_delay() {
             let due = now + d as u64;
             for reading in readings_around(due) {
                 let events = [clock(now), STEP, clock(reading), STEP, clock(due - 1)].concat();
-                compare_run(&plan.bytes(), &events, 10, &format!("{d} from {now}"));
+                compare_run(&plan.bytes(), &events, 15, &format!("{d} from {now}"));
             }
         }
     }
@@ -144,9 +145,8 @@ fn every_length_of_a_delay_near_the_largest_reading() {
             state.now = LARGEST_READING - before;
             let input = format!("{d} from {}", state.now);
             let due = state.now + d as u64;
-            let mut bytes = bytes_of(&state);
-            assert_eq!(compare_event(&bytes, Event::Delay(d), &input), 0);
-            calls::event(&mut bytes, Event::Delay(d));
+            let (outcome, bytes) = compare_after(&bytes_of(&state), Event::Delay(d), &input);
+            assert_eq!(outcome, done(2), "{input}");
             for reading in readings_around(due).into_iter().chain([LARGEST_READING]) {
                 compare_event(&bytes, Event::Clock(reading), &input);
             }

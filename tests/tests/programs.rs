@@ -109,7 +109,8 @@ fn files_at_their_limits() {
     let steps = |count: usize| [3, 0, 0, 0, 0, 0, 0, 0].repeat(count);
     let lines = alone("most-events", good, &steps(4096));
     assert_eq!(lines.lines().count(), 4098);
-    assert!(lines.starts_with("passed\n0 0\n") && lines.ends_with("5 -\nend\n"));
+    assert!(lines.starts_with("passed\n0 0 2\n0 0 0\n"));
+    assert!(lines.ends_with("5 - 0\nend\n"));
     for count in [4097, 4098, 8192, 8193, 12_288] {
         let lines = alone("more-events", good, &steps(count));
         assert_eq!(lines, "refused 21\n", "{count} steps");

@@ -1,7 +1,7 @@
 //! The proved run against the second program: its answer, and every byte of the buffer.
 
 use dispatch::raw;
-use harness::events::events_of;
+use harness::events::{assert_no_change_is_0, events_of, room_for, REPLY_SIZE, WHOLE_CASE_EVENTS};
 use harness::random::Random;
 use harness::report::{bytes_of, save, Histogram};
 use harness::rosters::{made, passing, WHOLE_CASE};
@@ -20,7 +20,7 @@ fn roster_of(random: &mut Random, seed: u64) -> Vec<u8> {
 }
 
 /// Around what is needed, and now and then far from it.
-fn room_for(random: &mut Random, needed: usize) -> usize {
+fn room_around(random: &mut Random, needed: usize) -> usize {
     match random.below(12) {
         0 => random.below(needed + 1),
         1 => needed.saturating_sub(1),
@@ -32,13 +32,14 @@ fn room_for(random: &mut Random, needed: usize) -> usize {
 #[test]
 fn a_run_agrees_with_the_second_program() {
     let mut answers = Histogram::new();
-    let mut pairs = Histogram::new();
+    let mut replies = Histogram::new();
+    let mut reports = Histogram::new();
     for seed in 0..CASES {
         let mut random = Random::new(seed);
         let roster = roster_of(&mut random, seed);
         let events = events_of(&mut random);
-        let needed = events.len() / 8 * 2;
-        let size = room_for(&mut random, needed);
+        let needed = room_for(&events);
+        let size = room_around(&mut random, needed);
         let mut found = vec![0xA5; size];
         let mut wanted = found.clone();
         let answer = raw::run(&roster, &events, &mut found);
@@ -56,60 +57,51 @@ fn a_run_agrees_with_the_second_program() {
         assert!(found == wanted, "buffer, {}", input());
         answers.count(answer.0);
         if answer.0 == 0 {
-            let written = found.chunks_exact(2).take(needed / 2);
-            written.for_each(|pair| pairs.count(pair[0]));
+            for reply in found[..needed].chunks_exact(REPLY_SIZE) {
+                replies.count(reply[0]);
+                reports.count(reply[2]);
+            }
         }
     }
     answers.print("runs by answer");
     answers.require(&[0, 11, 12, 13, 14, 15, 16, 17, 18, 19, 20, 21, 22], LEAST);
     assert!(2 * answers.of(0) >= CASES as usize, "at least half run");
     // A roster that passes names only what is listed and leaves in order, so no event of a run is answered 2, 7 or 9.
-    pairs.print("events by answer");
-    pairs.require(&[0, 1, 3, 4, 5, 6, 8], LEAST);
-    assert_eq!(
-        (pairs.of(2), pairs.of(7), pairs.of(9), pairs.of(10)),
-        (0, 0, 0, 0)
-    );
+    replies.print("events by answer");
+    replies.require(&[0, 1, 3, 4, 5, 6, 8], LEAST);
+    replies.require_no_other(&[0, 1, 3, 4, 5, 6, 8]);
+    reports.print("events by report");
+    reports.require(&[0, 1, 2], LEAST);
+    reports.require_no_other(&[0, 1, 2]);
 }
 
-/// Document 01's whole case: Step, Step, Clock 5, Step, Step, Step, Clock 4, then four Steps.
+/// Document 01's whole case.
 #[test]
 fn the_whole_case_runs() {
-    let roster = bytes_of(WHOLE_CASE);
-    let step = "0300000000000000";
-    let clock = |reading: u8| format!("0100{reading:02X}0000000000");
-    let text = [
-        step,
-        step,
-        &clock(5),
-        step,
-        step,
-        step,
-        &clock(4),
-        step,
-        step,
-        step,
-        step,
-    ]
-    .concat();
-    let mut buffer = [0xA5; 24];
-    assert_eq!(raw::run(&roster, &bytes_of(&text), &mut buffer), (0, 0, 0));
-    let pairs = "0000 0000 0000 0000 0001 0001 0401 0001 0000 00FF 05FF A5A5";
-    assert_eq!(buffer[..], bytes_of(pairs));
+    let (roster, events) = (bytes_of(WHOLE_CASE), bytes_of(WHOLE_CASE_EVENTS));
+    let mut buffer = [0xA5; 35];
+    assert_eq!(raw::run(&roster, &events, &mut buffer), (0, 0, 0));
+    let replies = "000002 000000 000000 000000 000101 000100 \
+        040100 000100 000002 00FF02 05FF00 A5A5";
+    assert_eq!(buffer[..], bytes_of(replies));
 }
 
-/// Plays recorded runs of a real Ada run-time, and gives their number.
+/// Plays recorded runs of a real Ada run-time, and gives their number. A recording has the answers and who runs, which decides
+/// whether a report is 0.
 fn met(recorded: &str) -> usize {
     for line in recorded.lines() {
         let fields: Vec<&str> = line.split_whitespace().collect();
-        let [name, roster, events, pairs] = fields[..] else {
+        let [name, roster, events, wanted] = fields[..] else {
             panic!("not four fields: {line}");
         };
-        let wanted = bytes_of(pairs);
-        let mut buffer = vec![0xA5; wanted.len()];
-        let answer = raw::run(&bytes_of(roster), &bytes_of(events), &mut buffer);
+        let events = bytes_of(events);
+        let mut buffer = vec![0xA5; room_for(&events)];
+        let answer = raw::run(&bytes_of(roster), &events, &mut buffer);
         assert_eq!(answer, (0, 0, 0), "{name}");
-        assert_eq!(buffer, wanted, "{name}");
+        let replies = buffer.chunks_exact(REPLY_SIZE);
+        let found: Vec<u8> = replies.flat_map(|reply| [reply[0], reply[1]]).collect();
+        assert_eq!(found, bytes_of(wanted), "{name}");
+        assert_no_change_is_0(&buffer, &|| name.to_string());
     }
     recorded.lines().count()
 }

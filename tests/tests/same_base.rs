@@ -1,15 +1,15 @@
 //! A Set to the base that a task already has, by where the task stands: the library, the second program, and D.2.3 written out.
 
 use dispatch::raw;
-use harness::calls;
-use harness::compare::compare_event;
-use harness::events::record_of;
+use harness::calls::{done, refusal};
+use harness::compare::compare_after;
+use harness::events::{record_of, reply_of};
 use harness::layout::{bytes_of, state_of};
 use harness::random::Random;
 use harness::report::{save, Histogram};
 use harness::rosters::{passing, step, Plan, SET};
 use harness::states::sound_state;
-use second::machine::Event;
+use second::machine::{Event, Outcome};
 use second::roster::{read, Step};
 use second::run::{Command, Run};
 use second::state::{Place, State, Task};
@@ -71,7 +71,8 @@ fn standing(state: &State, t: usize) -> Standing {
 }
 
 /// D.2.3 written out for a sound state: a ready or running task goes to the tail of its queue; inside an action the base waits.
-fn wanted(state: &State, t: usize) -> (u8, State) {
+/// The processor changes hands only where an equal takes over from the running task, which is no preemption.
+fn wanted(state: &State, t: usize) -> (Outcome, State) {
     let mut next = state.clone();
     let base = state.tasks[t].base;
     let queue = &mut next.queues[base as usize - 1];
@@ -88,12 +89,13 @@ fn wanted(state: &State, t: usize) -> (u8, State) {
             if let Some(u) = first {
                 next.tasks[u].place = Place::Running;
             }
+            return (done(2), next);
         }
         RunningInside | PreemptedInside => next.tasks[t].waiting = Some(base),
-        Ended => return (6, next),
+        Ended => return (refusal(6), next),
         RunningWithoutEquals | Delayed | Suspended => {}
     }
-    (0, next)
+    (done(0), next)
 }
 
 #[test]
@@ -105,11 +107,9 @@ fn a_set_to_the_same_base_agrees_with_the_second_program_and_with_the_rule() {
         for (t, task) in state.tasks.iter().enumerate() {
             let event = Event::Set(t, task.base);
             let input = format!("seed {seed}");
-            compare_event(&before, event, &input);
-            let mut after = before.clone();
-            let answer = calls::event(&mut after, event);
-            let (number, next) = wanted(&state, t);
-            assert_eq!(answer, number, "answer, {input}, {event:?}, {state:?}");
+            let (outcome, after) = compare_after(&before, event, &input);
+            let (expected, next) = wanted(&state, t);
+            assert_eq!(outcome, expected, "{input}, {event:?}, {state:?}");
             assert_eq!(after, bytes_of(&next), "{input}, {event:?}, {state:?}");
             counts.count(standing(&state, t));
         }
@@ -127,14 +127,14 @@ fn a_holder_set_to_its_own_base_goes_to_the_tail_when_it_leaves() {
         let Some(t) = state.running else { continue };
         let Task { base, held, .. } = &state.tasks[t];
         let &[object] = &held[..] else { continue };
-        let mut bytes = bytes_of(&state);
         let input = format!("seed {seed}, {state:?}");
-        assert_eq!(calls::event(&mut bytes, Event::Set(t, *base)), 0, "{input}");
-        compare_event(&bytes, Event::Leave(object), &input);
-        assert_eq!(calls::event(&mut bytes, Event::Leave(object)), 0, "{input}");
+        let (set, bytes) = compare_after(&bytes_of(&state), Event::Set(t, *base), &input);
+        let (left, bytes) = compare_after(&bytes, Event::Leave(object), &input);
         let next = state_of(&bytes);
         let level = *base as usize - 1;
         let alone = state.queues[level..].iter().all(|queue| queue.is_empty());
+        let report = if alone { 0 } else { 2 };
+        assert_eq!((set, left), (done(0), done(report)), "{input}");
         let last = next.queues[level].back() == Some(&t);
         assert_eq!((next.running == Some(t), last), (alone, !alone), "{input}");
         counts.count(if alone {
@@ -187,7 +187,7 @@ fn a_run_with_sets_to_the_same_base_agrees_with_the_second_program() {
         let mut random = Random::new(seed);
         let roster = with_own_sets(&mut random).bytes();
         let mut run = Run::start(read(&roster).expect("a roster that passes"));
-        let (mut events, mut pairs) = (Vec::new(), Vec::new());
+        let (mut events, mut replies) = (Vec::new(), Vec::new());
         for _ in 0..random.within(1, 80) {
             let command = next_command(&mut random, &run);
             if let Command::Set(t, _) = command {
@@ -197,13 +197,13 @@ fn a_run_with_sets_to_the_same_base_agrees_with_the_second_program() {
                 own.count(standing(&run.state, t));
             }
             events.extend(record_of(command));
-            pairs.extend([run.take(command), run.running_byte()]);
+            replies.extend(reply_of(&mut run, command));
         }
-        let mut buffer = vec![0xA5; pairs.len()];
+        let mut buffer = vec![0xA5; replies.len()];
         let answer = raw::run(&roster, &events, &mut buffer);
         let input = || format!("seed {seed}, {}", save("same-base", seed, &roster, &events));
         assert_eq!(answer, (0, 0, 0), "answer, {}", input());
-        assert!(buffer == pairs, "buffer, {}", input());
+        assert!(buffer == replies, "buffer, {}", input());
     }
     outside.print("Sets to the same base from outside, in runs");
     outside.require(&ALL[..10], LEAST);

@@ -18,7 +18,7 @@ const READY_ROW: usize = 33;
 fn after(bases: &[u64], ceilings: &[u64], events: &[Event]) -> State {
     let (_, mut state) = fresh(bases, ceilings);
     for event in events {
-        assert_eq!(apply_to(&mut state, *event), 0, "{event:?}");
+        assert_eq!(apply_to(&mut state, *event).answer, 0, "{event:?}");
     }
     state
 }

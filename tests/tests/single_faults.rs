@@ -166,7 +166,7 @@ fn every_field_of_an_event() {
             answers.count(compare_run(
                 &roster,
                 &bytes,
-                8,
+                10,
                 &format!("record {record:?}"),
             ));
         }
@@ -201,7 +201,7 @@ fn every_pair_of_faults_of_a_run() {
     let mut answers = Histogram::new();
     for (r, roster) in rosters.iter().enumerate() {
         for (e, events) in lists.iter().enumerate() {
-            for size in 0..12 {
+            for size in 0..15 {
                 let input = format!("roster {r}, events {e}");
                 answers.count(compare_run(roster, events, size, &input));
             }

@@ -3,6 +3,7 @@
 use std::collections::HashSet;
 
 use harness::compare::{compare_event, compare_roster, compare_run, compare_state};
+use harness::events::room_for;
 use harness::layout::bytes_of;
 use harness::report::Histogram;
 use harness::rosters::{step, Plan, Step, AGAIN, DELAY, ENTER, LEAVE, RELEASE, SET, SUSPEND, WORK};
@@ -121,12 +122,8 @@ fn every_pair_of_short_scripts_runs() {
                         scripts: vec![script.clone(), other.clone()],
                     };
                     let input = format!("{plan:?}");
-                    answers.count(compare_run(
-                        &plan.bytes(),
-                        &events,
-                        events.len() / 4,
-                        &input,
-                    ));
+                    let room = room_for(&events);
+                    answers.count(compare_run(&plan.bytes(), &events, room, &input));
                 }
             }
         }
@@ -162,6 +159,7 @@ fn every_event_within_reach() {
         (&[2, 2, 2], &[3, 3]),
     ];
     let mut answers = Histogram::new();
+    let mut reports = Histogram::new();
     for (bases, ceilings) in starts {
         let mut states = vec![fresh(bases, ceilings).1];
         let mut seen: HashSet<Vec<u8>> = HashSet::new();
@@ -172,7 +170,9 @@ fn every_event_within_reach() {
             let bytes = bytes_of(&state);
             assert!(compare_state(&bytes, Event::Work, "within reach"));
             for event in events_in(&state) {
-                answers.count(compare_event(&bytes, event, "within reach"));
+                let outcome = compare_event(&bytes, event, "within reach");
+                answers.count(outcome.answer);
+                reports.count(outcome.report);
                 let (_, next) = apply(state.clone(), event);
                 if states.len() < 1_200 && seen.insert(bytes_of(&next)) {
                     states.push(next);
@@ -182,4 +182,7 @@ fn every_event_within_reach() {
     }
     answers.print("events within reach by answer");
     answers.require(&[0, 1, 2, 3, 4, 5, 6, 7, 8, 9], 50);
+    reports.print("events within reach by report");
+    reports.require(&[0, 1, 2], 50);
+    reports.require_no_other(&[0, 1, 2]);
 }

@@ -1,10 +1,10 @@
 //! Holds the stack of every exported call to the figure that docs/INTEGRATION.md states for it: each call is made on a painted
 //! stack, and the deepest byte that it has touched is looked for.
 
-// The library is linked through the crate under test.
-use harness as _;
 use std::arch::asm;
 use std::collections::BTreeMap;
+
+use harness::events::{room_for, REPLY_SIZE};
 
 macro_rules! functions {
     ($($name:ident),* $(,)?) => {
@@ -119,7 +119,7 @@ fn lent_mut(slice: &mut [u8]) -> [u64; 2] {
     [slice.as_mut_ptr() as u64, slice.len() as u64]
 }
 
-/// Every event with its number of arguments besides the state.
+/// Every event with its number of arguments besides the state and the room for its report.
 const EVENTS: &[(&str, usize)] = &[
     ("dispatch_enter", 1),
     ("dispatch_leave", 1),
@@ -142,14 +142,22 @@ impl Stack {
         answer
     }
 
+    /// One event; gives its answer. Its report is written each time, 0 beside a refusal, and nothing around it.
+    fn event(&mut self, state: &mut [u8], event: &str, arguments: &[u64], paint: u8) -> u8 {
+        let mut room = [0xA5u8; 3];
+        let report = room.as_mut_ptr().wrapping_add(1) as u64;
+        let all = [&lent_mut(state)[..], arguments, &[report]].concat();
+        let answer = self.call(event, &all, paint) as u8;
+        let reports = if answer == 0 { 0..=2 } else { 0..=0 };
+        assert!(reports.contains(&room[1]), "{event} reports {}", room[1]);
+        assert_eq!([room[0], room[2]], [0xA5; 2], "{event}");
+        answer
+    }
+
     /// One event, which has to be accepted.
     fn done(&mut self, state: &mut [u8], event: &str, arguments: &[u64]) {
-        let all = [&lent_mut(state)[..], arguments].concat();
-        assert_eq!(
-            self.call(event, &all, PAINTS[0]) as u8,
-            0,
-            "{event} {arguments:?}"
-        );
+        let answer = self.event(state, event, arguments, PAINTS[0]);
+        assert_eq!(answer, 0, "{event} {arguments:?}");
     }
 
     /// Every event on copies of a state, and what only reads it.
@@ -159,9 +167,7 @@ impl Stack {
                 for second in [1, 10, 32, u64::MAX] {
                     for paint in PAINTS {
                         let mut copy = state.to_vec();
-                        let all =
-                            [&lent_mut(&mut copy)[..], &[first, second][..*operands]].concat();
-                        self.call(event, &all, paint);
+                        self.event(&mut copy, event, &[first, second][..*operands], paint);
                     }
                 }
             }
@@ -197,7 +203,7 @@ impl Stack {
                     self.call(&format!("dispatch_{reader}"), &all, paint);
                 }
             }
-            for size in [0, events.len() / 4, 8192] {
+            for size in [0, room_for(events), REPLY_SIZE * 4096] {
                 let mut buffer = vec![0; size];
                 let all = [lent(roster), lent(events), lent_mut(&mut buffer)].concat();
                 self.call("dispatch_run", &all, paint);

@@ -1,7 +1,7 @@
 //! Every kind of call through the Rust crate: a state, its board, a roster and its run.
 
 use dispatch::roster::{self, Refusal, Step};
-use dispatch::{Answer, Object, Priority, Row, State, Task, LONGEST_ADVANCE};
+use dispatch::{Answer, Object, Outcome, Priority, Row, State, Task, LONGEST_ADVANCE, REPLY_SIZE};
 
 /// Two tasks and one protected object; README.md has what each byte says.
 static ROSTER: [u8; 46] = [
@@ -33,32 +33,39 @@ const EVENTS: [[u8; 8]; 11] = [
     STEP,
 ];
 
-fn show(event: &str, answer: Answer, state: &State) {
-    let number = answer.number();
+fn running(state: &State) -> String {
     match state.running() {
-        None => println!("{event}: {number}, running nobody"),
-        Some(Task(task)) => println!("{event}: {number}, running {task}"),
+        None => String::from("nobody"),
+        Some(Task(task)) => task.to_string(),
     }
 }
 
-/// Marked cases A and B, a priority that is none, and readings that go backwards, too far and as far as may be.
+fn show(event: &str, outcome: Outcome, state: &State) {
+    let Outcome { answer, report } = outcome;
+    let running = running(state);
+    println!("{event}: {answer}, running {running}, report {}", report.number());
+}
+
+/// Marked cases A and B, a priority that is none, one that preempts, and readings that go backwards, too far and as far as may be.
 fn events() -> State {
     let (answer, mut state) = State::fresh(&[10, 20, 10], &[]);
-    show("fresh 10 20 10", answer, &state);
-    let answer = state.set(Task(1), Priority(10));
-    show("set 1 to 10", answer, &state);
-    let answer = state.set(Task(1), Priority(257));
-    show("set 1 to 257", answer, &state);
-    let answer = state.clock(5);
-    show("clock 5", answer, &state);
-    let answer = state.clock(4);
-    show("clock 4", answer, &state);
-    let answer = state.clock(5 + LONGEST_ADVANCE + 1);
-    show("clock 86400006", answer, &state);
-    let answer = state.clock(5 + LONGEST_ADVANCE);
-    show("clock 86400005", answer, &state);
-    let answer = state.finish();
-    show("finish", answer, &state);
+    println!("fresh 10 20 10: {answer}, running {}", running(&state));
+    let outcome = state.set(Task(1), Priority(10));
+    show("set 1 to 10", outcome, &state);
+    let outcome = state.set(Task(1), Priority(257));
+    show("set 1 to 257", outcome, &state);
+    let outcome = state.set(Task(1), Priority(20));
+    show("set 1 to 20", outcome, &state);
+    let outcome = state.clock(5);
+    show("clock 5", outcome, &state);
+    let outcome = state.clock(4);
+    show("clock 4", outcome, &state);
+    let outcome = state.clock(5 + LONGEST_ADVANCE + 1);
+    show("clock 86400006", outcome, &state);
+    let outcome = state.clock(5 + LONGEST_ADVANCE);
+    show("clock 86400005", outcome, &state);
+    let outcome = state.finish();
+    show("finish", outcome, &state);
     state
 }
 
@@ -113,12 +120,12 @@ fn parts() -> Result<(), Answer> {
 }
 
 fn run() {
-    let mut buffer = [0; 22];
+    let mut buffer = [0; REPLY_SIZE * EVENTS.len()];
     let result = roster::run(&ROSTER, EVENTS.as_flattened(), &mut buffer);
     verdict("run", result);
-    let pairs = buffer.chunks_exact(2);
-    let pairs: Vec<String> = pairs.map(|p| format!("{} {}", p[0], p[1])).collect();
-    println!("pairs: {}", pairs.join(", "));
+    let replies = buffer.chunks_exact(REPLY_SIZE);
+    let replies: Vec<String> = replies.map(|r| format!("{} {} {}", r[0], r[1], r[2])).collect();
+    println!("replies: {}", replies.join(", "));
 }
 
 fn main() -> Result<(), Answer> {

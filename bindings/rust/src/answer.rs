@@ -81,7 +81,7 @@ answers! {
     OtherTask = 20,
     /// Events whose length is wrong, of an unknown kind, or with an unused field that is not 0.
     BadEvents = 21,
-    /// A buffer with less than two bytes for each event.
+    /// A buffer with less than three bytes for each event.
     ShortBuffer = 22,
 }
 

@@ -18,6 +18,9 @@ pub const LARGEST_ROSTER: usize = 32_768;
 /// A run has at most this many events, of 8 bytes each.
 pub const MOST_EVENTS: usize = 4096;
 
+/// A run writes this many bytes for each event: answer, running task or 255, report.
+pub const REPLY_SIZE: usize = 3;
+
 /// The largest reading of the clock.
 pub const LARGEST_READING: u64 = 281_474_976_710_655;
 

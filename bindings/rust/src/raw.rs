@@ -29,15 +29,15 @@ mod exported {
             state: *mut u8,
             length: usize,
         ) -> u8;
-        pub fn dispatch_enter(state: *mut u8, length: usize, object: u64) -> u8;
-        pub fn dispatch_leave(state: *mut u8, length: usize, object: u64) -> u8;
-        pub fn dispatch_delay(state: *mut u8, length: usize, ticks: u16) -> u8;
-        pub fn dispatch_suspend(state: *mut u8, length: usize) -> u8;
-        pub fn dispatch_release(state: *mut u8, length: usize, task: u64) -> u8;
-        pub fn dispatch_clock(state: *mut u8, length: usize, reading: u64) -> u8;
-        pub fn dispatch_set(state: *mut u8, length: usize, task: u64, priority: u64) -> u8;
-        pub fn dispatch_work(state: *mut u8, length: usize) -> u8;
-        pub fn dispatch_finish(state: *mut u8, length: usize) -> u8;
+        pub fn dispatch_enter(state: *mut u8, length: usize, object: u64, report: *mut u8) -> u8;
+        pub fn dispatch_leave(state: *mut u8, length: usize, object: u64, report: *mut u8) -> u8;
+        pub fn dispatch_delay(state: *mut u8, length: usize, ticks: u16, report: *mut u8) -> u8;
+        pub fn dispatch_suspend(state: *mut u8, length: usize, report: *mut u8) -> u8;
+        pub fn dispatch_release(state: *mut u8, length: usize, task: u64, report: *mut u8) -> u8;
+        pub fn dispatch_clock(state: *mut u8, length: usize, reading: u64, report: *mut u8) -> u8;
+        pub fn dispatch_set(state: *mut u8, length: usize, task: u64, priority: u64, report: *mut u8) -> u8;
+        pub fn dispatch_work(state: *mut u8, length: usize, report: *mut u8) -> u8;
+        pub fn dispatch_finish(state: *mut u8, length: usize, report: *mut u8) -> u8;
         pub fn dispatch_sound(state: *const u8, length: usize) -> u8;
         pub fn dispatch_running(state: *const u8, length: usize) -> u8;
         pub fn dispatch_fill(
@@ -151,49 +151,56 @@ pub fn fresh(bases: &[u8], ceilings: &[u8], state: &mut [u8]) -> u8 {
     }
 }
 
-pub fn enter(state: &mut [u8], object: u64) -> u8 {
-    // SAFETY: the state is lent for writing for the length of the call and no longer.
-    unsafe { exported::dispatch_enter(state.as_mut_ptr(), state.len(), object) }
+/// The number of an event's answer, and of its report: `event` is lent the state's bytes and room for the report.
+fn reported(state: &mut [u8], event: impl FnOnce(*mut u8, usize, *mut u8) -> u8) -> (u8, u8) {
+    let mut report = 0;
+    let number = event(state.as_mut_ptr(), state.len(), &mut report);
+    (number, report)
 }
 
-pub fn leave(state: &mut [u8], object: u64) -> u8 {
-    // SAFETY: as above.
-    unsafe { exported::dispatch_leave(state.as_mut_ptr(), state.len(), object) }
+pub fn enter(state: &mut [u8], object: u64) -> (u8, u8) {
+    // SAFETY: state and report are lent for writing for the length of the call and no longer, and do not overlap.
+    reported(state, |bytes, length, report| unsafe { exported::dispatch_enter(bytes, length, object, report) })
 }
 
-pub fn delay(state: &mut [u8], ticks: u16) -> u8 {
+pub fn leave(state: &mut [u8], object: u64) -> (u8, u8) {
     // SAFETY: as above.
-    unsafe { exported::dispatch_delay(state.as_mut_ptr(), state.len(), ticks) }
+    reported(state, |bytes, length, report| unsafe { exported::dispatch_leave(bytes, length, object, report) })
 }
 
-pub fn suspend(state: &mut [u8]) -> u8 {
+pub fn delay(state: &mut [u8], ticks: u16) -> (u8, u8) {
     // SAFETY: as above.
-    unsafe { exported::dispatch_suspend(state.as_mut_ptr(), state.len()) }
+    reported(state, |bytes, length, report| unsafe { exported::dispatch_delay(bytes, length, ticks, report) })
 }
 
-pub fn release(state: &mut [u8], task: u64) -> u8 {
+pub fn suspend(state: &mut [u8]) -> (u8, u8) {
     // SAFETY: as above.
-    unsafe { exported::dispatch_release(state.as_mut_ptr(), state.len(), task) }
+    reported(state, |bytes, length, report| unsafe { exported::dispatch_suspend(bytes, length, report) })
 }
 
-pub fn clock(state: &mut [u8], reading: u64) -> u8 {
+pub fn release(state: &mut [u8], task: u64) -> (u8, u8) {
     // SAFETY: as above.
-    unsafe { exported::dispatch_clock(state.as_mut_ptr(), state.len(), reading) }
+    reported(state, |bytes, length, report| unsafe { exported::dispatch_release(bytes, length, task, report) })
 }
 
-pub fn set(state: &mut [u8], task: u64, priority: u64) -> u8 {
+pub fn clock(state: &mut [u8], reading: u64) -> (u8, u8) {
     // SAFETY: as above.
-    unsafe { exported::dispatch_set(state.as_mut_ptr(), state.len(), task, priority) }
+    reported(state, |bytes, length, report| unsafe { exported::dispatch_clock(bytes, length, reading, report) })
 }
 
-pub fn work(state: &mut [u8]) -> u8 {
+pub fn set(state: &mut [u8], task: u64, priority: u64) -> (u8, u8) {
     // SAFETY: as above.
-    unsafe { exported::dispatch_work(state.as_mut_ptr(), state.len()) }
+    reported(state, |bytes, length, report| unsafe { exported::dispatch_set(bytes, length, task, priority, report) })
 }
 
-pub fn finish(state: &mut [u8]) -> u8 {
+pub fn work(state: &mut [u8]) -> (u8, u8) {
     // SAFETY: as above.
-    unsafe { exported::dispatch_finish(state.as_mut_ptr(), state.len()) }
+    reported(state, |bytes, length, report| unsafe { exported::dispatch_work(bytes, length, report) })
+}
+
+pub fn finish(state: &mut [u8]) -> (u8, u8) {
+    // SAFETY: as above.
+    reported(state, |bytes, length, report| unsafe { exported::dispatch_finish(bytes, length, report) })
 }
 
 /// 0, or 10 for a state that is not sound.

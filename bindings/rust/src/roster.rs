@@ -100,8 +100,8 @@ pub fn step(roster: &[u8], task: Task, step: u64) -> Result<Step, Answer> {
     })
 }
 
-/// Runs a roster under events of 8 bytes each and writes two bytes for each into the buffer: the answer, then the running task or
-/// 255. Refused with 11 to 20, then 21, then 22; a refused run writes nothing, and bytes behind the last pair stay.
+/// Runs a roster under events of 8 bytes each and writes three bytes for each into the buffer: the answer, the running task or 255,
+/// and the report. Refused with 11 to 20, then 21, then 22; a refused run writes nothing, and bytes behind the last reply stay.
 pub fn run(roster: &[u8], events: &[u8], buffer: &mut [u8]) -> Result<(), Refusal> {
     passed(raw::run(roster, events, buffer))
 }

@@ -4,8 +4,10 @@ use crate::answer::Answer;
 use crate::board::{bytes_of_mut, Row};
 use crate::numbers::{Object, Priority, Task, STATE_SIZE};
 use crate::raw;
+use crate::report::Outcome;
 
-/// A state, as its 2144 bytes. Every event answers, and a refused one leaves the state just as it was.
+/// A state, as its 2144 bytes. Every event answers and reports why the processor changed hands, and a refused one leaves the state just
+/// as it was.
 #[derive(Clone, Debug, PartialEq, Eq)]
 pub struct State {
     bytes: [u8; STATE_SIZE],
@@ -31,49 +33,49 @@ impl State {
     }
 
     /// The running task enters an object: 0, 2, 5, 7, 8, 10.
-    pub fn enter(&mut self, object: Object) -> Answer {
-        Answer::from_library(raw::enter(&mut self.bytes, object.0))
+    pub fn enter(&mut self, object: Object) -> Outcome {
+        Outcome::from_library(raw::enter(&mut self.bytes, object.0))
     }
 
     /// The running task leaves its innermost object: 0, 2, 5, 9, 10.
-    pub fn leave(&mut self, object: Object) -> Answer {
-        Answer::from_library(raw::leave(&mut self.bytes, object.0))
+    pub fn leave(&mut self, object: Object) -> Outcome {
+        Outcome::from_library(raw::leave(&mut self.bytes, object.0))
     }
 
     /// The running task is delayed by this many ticks; 0 sends it to the tail of its ready queue: 0, 5, 7, 10.
-    pub fn delay(&mut self, ticks: u16) -> Answer {
-        Answer::from_library(raw::delay(&mut self.bytes, ticks))
+    pub fn delay(&mut self, ticks: u16) -> Outcome {
+        Outcome::from_library(raw::delay(&mut self.bytes, ticks))
     }
 
     /// The running task is suspended, or uses up its permit and runs on: 0, 5, 7, 10.
-    pub fn suspend(&mut self) -> Answer {
-        Answer::from_library(raw::suspend(&mut self.bytes))
+    pub fn suspend(&mut self) -> Outcome {
+        Outcome::from_library(raw::suspend(&mut self.bytes))
     }
 
     /// A suspended task becomes ready, any other gets a permit: 0, 1, 10.
-    pub fn release(&mut self, task: Task) -> Answer {
-        Answer::from_library(raw::release(&mut self.bytes, task.0))
+    pub fn release(&mut self, task: Task) -> Outcome {
+        Outcome::from_library(raw::release(&mut self.bytes, task.0))
     }
 
     /// The clock reads this, from now to the longest advance past it: tasks that are due become ready: 0, 4, 10.
-    pub fn clock(&mut self, reading: u64) -> Answer {
-        Answer::from_library(raw::clock(&mut self.bytes, reading))
+    pub fn clock(&mut self, reading: u64) -> Outcome {
+        Outcome::from_library(raw::clock(&mut self.bytes, reading))
     }
 
     /// A task's base becomes this, or waits until the task leaves its outermost object: 0, 1, 3, 6, 10.
     /// A ready or running task goes to the tail of its queue, whatever the value.
-    pub fn set(&mut self, task: Task, priority: Priority) -> Answer {
-        Answer::from_library(raw::set(&mut self.bytes, task.0, priority.0))
+    pub fn set(&mut self, task: Task, priority: Priority) -> Outcome {
+        Outcome::from_library(raw::set(&mut self.bytes, task.0, priority.0))
     }
 
     /// The running task works; nothing changes: 0, 5, 10.
-    pub fn work(&mut self) -> Answer {
-        Answer::from_library(raw::work(&mut self.bytes))
+    pub fn work(&mut self) -> Outcome {
+        Outcome::from_library(raw::work(&mut self.bytes))
     }
 
     /// The running task is ended: 0, 5, 7, 10.
-    pub fn finish(&mut self) -> Answer {
-        Answer::from_library(raw::finish(&mut self.bytes))
+    pub fn finish(&mut self) -> Outcome {
+        Outcome::from_library(raw::finish(&mut self.bytes))
     }
 
     /// Whether the state is sound. Fresh states are, and events keep it so.

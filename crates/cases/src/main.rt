@@ -1,4 +1,4 @@
-// Plays the scope's marked cases A to L through the dispatcher's methods; what it prints is held to the file stdout.
+// Plays the scope's marked cases A to L, and a preemption, through the dispatcher's methods; what it prints is held to the file stdout.
 use dispatch::Listed;
 use dispatch::State;
 use dispatch::Stepped;
@@ -9,19 +9,29 @@ fn print(text: &[u8]) {
     io::write_all(1, text);
 }
 
-// An event and its answer; the state goes on to the next event.
-fn print_answer(event: &[u8], stepped: Stepped) -> State {
-    let answer = stepped.answer;
-    print(event);
+fn print_number(n: u8) {
     print(b" ");
-    io::print_decimal(1, answer.number() as u64);
+    io::print_decimal(1, n as u64);
+}
+
+// An event, its answer and its report; the state goes on to the next event.
+fn play(event: &[u8], stepped: Stepped) -> State {
+    let answer = stepped.answer;
+    let report = stepped.report;
+    print(event);
+    print_number(answer.number());
+    print_number(report.number());
     stepped.state
 }
 
 // A case begins with its letter and a fresh start.
 fn begin(letter: &[u8], bases: &[u8], ceilings: &[u8]) -> State {
     print(letter);
-    print_answer(b": fresh", State::fresh(bases, ceilings))
+    print(b": fresh");
+    let start = State::fresh(bases, ceilings);
+    let answer = start.answer;
+    print_number(answer.number());
+    start.state
 }
 
 fn print_runner(state: State) {
@@ -76,7 +86,7 @@ fn case_a() {
 // "A then Set 1, 10: 0 runs, queue 2, 1"
 fn case_b() {
     let s = begin(b"B", &[10, 20, 10], &[]);
-    let s = print_answer(b", set(1, 10)", s.set(1, Priority(10)));
+    let s = play(b", set(1, 10)", s.set(1, Priority(10)));
     print_runner(s);
     print_queue(s, Priority(10));
     end();
@@ -85,7 +95,7 @@ fn case_b() {
 // "A then Set 0, 10", since 2026-04: "1 runs, queue 10 is 2, 0"
 fn case_c() {
     let s = begin(b"C", &[10, 20, 10], &[]);
-    let s = print_answer(b", set(0, 10)", s.set(0, Priority(10)));
+    let s = play(b", set(0, 10)", s.set(0, Priority(10)));
     print_runner(s);
     print_queue(s, Priority(10));
     end();
@@ -94,7 +104,7 @@ fn case_c() {
 // "Enter at the ceiling: 0; one above: 8"
 fn case_d(side: &[u8], base: u8) {
     let s = begin(side, &[base], &[10]);
-    let s = print_answer(b", enter(0)", s.enter(0));
+    let s = play(b", enter(0)", s.enter(0));
     print_runner(s);
     end();
 }
@@ -102,7 +112,7 @@ fn case_d(side: &[u8], base: u8) {
 // "bases 10, 10, Delay 0: 1 runs, queue 0"
 fn case_e() {
     let s = begin(b"E", &[10, 10], &[]);
-    let s = print_answer(b", delay(0)", s.delay(0));
+    let s = play(b", delay(0)", s.delay(0));
     print_runner(s);
     print_queue(s, Priority(10));
     end();
@@ -111,10 +121,10 @@ fn case_e() {
 // "due 5: Clock 4 wakes nobody, 5 does"
 fn case_f() {
     let s = begin(b"F", &[10], &[]);
-    let s = print_answer(b", delay(5)", s.delay(5));
-    let s = print_answer(b", clock(4)", s.clock(4));
+    let s = play(b", delay(5)", s.delay(5));
+    let s = play(b", clock(4)", s.clock(4));
     print_runner(s);
-    let s = print_answer(b", clock(5)", s.clock(5));
+    let s = play(b", clock(5)", s.clock(5));
     print_runner(s);
     end();
 }
@@ -122,9 +132,9 @@ fn case_f() {
 // "Clock now: 0; now - 1: 4"
 fn case_g() {
     let s = begin(b"G", &[10], &[]);
-    let s = print_answer(b", clock(5)", s.clock(5));
-    let s = print_answer(b", clock(5)", s.clock(5));
-    let s = print_answer(b", clock(4)", s.clock(4));
+    let s = play(b", clock(5)", s.clock(5));
+    let s = play(b", clock(5)", s.clock(5));
+    let s = play(b", clock(4)", s.clock(4));
     print_runner(s);
     end();
 }
@@ -132,9 +142,9 @@ fn case_g() {
 // 2026-08: a leap, and "Exactly that many is taken"
 fn case_g_leap() {
     let s = begin(b"G leap", &[10], &[]);
-    let s = print_answer(b", clock(7)", s.clock(7));
-    let s = print_answer(b", clock(86400008)", s.clock(86400008));
-    let s = print_answer(b", clock(86400007)", s.clock(86400007));
+    let s = play(b", clock(7)", s.clock(7));
+    let s = play(b", clock(86400008)", s.clock(86400008));
+    let s = play(b", clock(86400007)", s.clock(86400007));
     print_runner(s);
     end();
 }
@@ -142,8 +152,8 @@ fn case_g_leap() {
 // "Delay 0 inside: 7"
 fn case_h() {
     let s = begin(b"H", &[10], &[20]);
-    let s = print_answer(b", enter(0)", s.enter(0));
-    let s = print_answer(b", delay(0)", s.delay(0));
+    let s = play(b", enter(0)", s.enter(0));
+    let s = play(b", delay(0)", s.delay(0));
     print_runner(s);
     end();
 }
@@ -151,8 +161,8 @@ fn case_h() {
 // "Suspend with permit runs on"
 fn case_i() {
     let s = begin(b"I", &[10, 10], &[]);
-    let s = print_answer(b", release(0)", s.release(0));
-    let s = print_answer(b", suspend", s.suspend());
+    let s = play(b", release(0)", s.release(0));
+    let s = play(b", suspend", s.suspend());
     print_runner(s);
     print_queue(s, Priority(10));
     end();
@@ -161,9 +171,9 @@ fn case_i() {
 // "outer object left first: 9"
 fn case_j() {
     let s = begin(b"J", &[10], &[20, 20]);
-    let s = print_answer(b", enter(0)", s.enter(0));
-    let s = print_answer(b", enter(1)", s.enter(1));
-    let s = print_answer(b", leave(0)", s.leave(0));
+    let s = play(b", enter(0)", s.enter(0));
+    let s = play(b", enter(1)", s.enter(1));
+    let s = play(b", leave(0)", s.leave(0));
     print_runner(s);
     end();
 }
@@ -171,9 +181,9 @@ fn case_j() {
 // "bases 10, 10, ceiling 20: Enter, Set 0, 10, Leave: 1 runs, queue 0"
 fn case_k() {
     let s = begin(b"K", &[10, 10], &[20]);
-    let s = print_answer(b", enter(0)", s.enter(0));
-    let s = print_answer(b", set(0, 10)", s.set(0, Priority(10)));
-    let s = print_answer(b", leave(0)", s.leave(0));
+    let s = play(b", enter(0)", s.enter(0));
+    let s = play(b", set(0, 10)", s.set(0, Priority(10)));
+    let s = play(b", leave(0)", s.leave(0));
     print_runner(s);
     print_queue(s, Priority(10));
     end();
@@ -182,10 +192,19 @@ fn case_k() {
 // "Set to 32: 0; to 33 or 0: 3"
 fn case_l() {
     let s = begin(b"L", &[10], &[]);
-    let s = print_answer(b", set(0, 32)", s.set(0, Priority(32)));
-    let s = print_answer(b", set(0, 33)", s.set(0, Priority(33)));
-    let s = print_answer(b", set(0, 0)", s.set(0, Priority(0)));
+    let s = play(b", set(0, 32)", s.set(0, Priority(32)));
+    let s = play(b", set(0, 33)", s.set(0, Priority(33)));
+    let s = play(b", set(0, 0)", s.set(0, Priority(0)));
     print_runner(s);
+    end();
+}
+
+// 2026-10: a Set on another task that then preempts, which is 1; the old task is the head of its queue
+fn case_preempted() {
+    let s = begin(b"Preempted", &[10, 5, 10], &[]);
+    let s = play(b", set(1, 20)", s.set(1, Priority(20)));
+    print_runner(s);
+    print_queue(s, Priority(10));
     end();
 }
 
@@ -204,4 +223,5 @@ fn main() {
     case_j();
     case_k();
     case_l();
+    case_preempted();
 }

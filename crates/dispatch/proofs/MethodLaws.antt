@@ -5,12 +5,14 @@ use mathlib.Core.List.{List}
 use Prim.Native.Nat.{ℕ}
 use borrow.Author.Tests.{eq-eqb, ne-eqb}
 use lib.Dec.{eqb}
-use Rattle.rules.specs.Answers.{numberOf}
+use Rattle.rules.specs.Answers.{numberOf, answerOf, reportOf}
 use Rattle.rules.specs.Model.{Model}
 use Rattle.rules.specs.Events.{apply}
 use Rattle.rules.specs.Sound.{sound}
 use Rattle.rules.specs.declared.Event.{Event}
 use Rattle.rules.specs.declared.Answer.{Answer}
+use Rattle.rules.specs.declared.Report.{Report}
+use Rattle.rules.specs.declared.Ruling.{Ruling}
 use Rattle.memory.specs.Memory.{modelOf, Means, Valid, Moves}
 use Rattle.dispatch.specs.declared.State.{State}
 use Rattle.dispatch.specs.declared.Stepped.{Stepped}
@@ -38,16 +40,17 @@ module _ (s : State) where
     valid r e f = record { laid = m .laid; sound = sym e ∙ f }
 
     -- an event on them
-    module _ (e : Event) (good : soundOf s ≡ true) {h' ts' hd' cs' qs' : List ℕ} (a : Answer)
-        (d : Moves h' ts' hd' cs' qs' a (apply (modelOf h ts hd cs qs) e)) (n : ℕ) (i : n ≡ numberOf a) where
+    module _ (e : Event) (good : soundOf s ≡ true) {h' ts' hd' cs' qs' : List ℕ} (x : Ruling)
+        (d : Moves h' ts' hd' cs' qs' x (apply (modelOf h ts hd cs qs) e)) (n : ℕ) (i : n ≡ numberOf (answerOf x)) (a : Answer)
+        (p : a ≡ answerOf x) (w : Report) (q : w ≡ reportOf x) where
       by-rule : appliedOf s e ≡ answered s (apply (modelOf h ts hd cs qs) e)
       unfolding appliedOf
       by-rule = rw (good, m .same)
 
-      pub refused-by : (n ≡ 0 → ⊥) → record { answer = a; state = s } ≡ appliedOf s e
+      pub refused-by : (n ≡ 0 → ⊥) → record { answer = a; report = w; state = s } ≡ appliedOf s e
       unfolding answered
-      refused-by z = sym (by-rule ∙ rw (← d .answer, ← i, ne-eqb n 0 z))
+      refused-by z = sym (by-rule ∙ rw (← d .answer, ← d .report, ← i, ne-eqb n 0 z, p, q))
 
-      pub accepted-by : n ≡ 0 → (t : State) → t ≡ encode (modelOf h' ts' hd' cs' qs') → record { answer = a; state = t } ≡ appliedOf s e
+      pub accepted-by : n ≡ 0 → (t : State) → t ≡ encode (modelOf h' ts' hd' cs' qs') → record { answer = a; report = w; state = t } ≡ appliedOf s e
       unfolding answered
-      accepted-by z t f = sym (by-rule ∙ rw (← d .answer, ← i, eq-eqb n 0 z, f, d .same))
+      accepted-by z t f = sym (by-rule ∙ rw (← d .answer, ← d .report, ← i, eq-eqb n 0 z, f, d .same, p, q))

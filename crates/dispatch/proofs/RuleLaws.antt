@@ -21,6 +21,7 @@ use Rattle.rules.specs.Refusals.{table, appliesAt}
 use Rattle.rules.proofs.Refusals.{exactly-when, refused-same}
 use Rattle.memory.specs.Rows.{rowFor, heldWidth, queueWidth, Lists}
 use Rattle.memory.proofs.GridLaws.{list-room, count-at}
+use Rattle.dispatch.specs.declared.State.{State}
 use Rattle.dispatch.specs.declared.Stepped.{Stepped}
 use Rattle.dispatch.specs.State.{holding, padded, encode}
 use Rattle.dispatch.specs.Sound.{lengthsGood, sizesFit, soundOf}
@@ -57,15 +58,19 @@ module _ (m : Model) (s : sound m ≡ true) where
   encode-sound = rw (sizes-fit, view-encode m s, s)
 
   -- so an event does what the rule does
-  pub applied-encode : (e : Event) → appliedOf (encode m) e ≡ record { answer = apply m e .answer; state = encode (apply m e .model) }
+  pub applied-encode : (e : Event) → appliedOf (encode m) e ≡
+      record { answer = apply m e .answer; report = apply m e .report; state = encode (apply m e .model) }
   unfolding appliedOf answered
   applied-encode e = rw (encode-sound, view-encode m s) (go (eqb (numberOf (apply m e .answer)) 0) refl)
     where
+      with-state : State → Stepped
+      with-state x = record { answer = apply m e .answer; report = apply m e .report; state = x }
+
       go : (b : Bool) → eqb (numberOf (apply m e .answer)) 0 ≡ b →
-          _≡_ {A = Stepped} (record { answer = apply m e .answer; state = cond b (encode (apply m e .model)) (encode m) })
-          (record { answer = apply m e .answer; state = encode (apply m e .model) })
+          _≡_ {A = Stepped} (with-state (cond b (encode (apply m e .model)) (encode m)))
+          (with-state (encode (apply m e .model)))
       go true f = refl
-      go false f = ap {B = Stepped} (λ (v : Model). record { answer = apply m e .answer; state = encode v })
+      go false f = ap {B = Stepped} (λ (v : Model). with-state (encode v))
           (sym (refused-same m e (λ d. clash (sym (ap (λ (a : Answer). eqb (numberOf a) 0) d) ∙ f))))
 
 -- a rule answers 1 to 9, or 0

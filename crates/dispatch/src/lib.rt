@@ -1,4 +1,4 @@
-// The dispatcher: a state by value, and every event a method that hands it back beside its answer.
+// The dispatcher: a state by value, and every event a method that hands it back beside its answer and report.
 mod load;
 mod methods;
 mod readers;
@@ -12,6 +12,7 @@ use memory::sizes::QUEUE_CELLS;
 use memory::sizes::TASK_LIMIT;
 use rules::Answer;
 use rules::Priority;
+use rules::Report;
 use rules::Runner;
 use rules::Task;
 
@@ -27,7 +28,15 @@ pub struct State {
     pub queues: [u8; QUEUE_CELLS],
 }
 
+// What an event gives back.
 pub struct Stepped {
+    pub answer: Answer,
+    pub report: Report,
+    pub state: State,
+}
+
+// What a fresh start gives back: it is no event, so it has no report.
+pub struct Started {
     pub answer: Answer,
     pub state: State,
 }

@@ -1,4 +1,4 @@
-// The events, each a method that takes the state by value and hands it back beside the answer, and the test of soundness.
+// The events, each a method that takes the state by value and hands it back beside the answer and the report, and the test of soundness.
 ghost use mathlib.Core.Path.{_≡_};
 ghost use Rattle.dispatch.specs.Sound.{soundOf};
 ghost use Rattle.dispatch.specs.Methods.{unsound, appliedOf, enterOf, leaveOf, delayOf, suspendOf, releaseOf, clockOf};
@@ -10,6 +10,7 @@ use crate::store::store;
 use rules::Answer;
 use rules::Event;
 use rules::Priority;
+use rules::Report;
 
 impl State {
     pub fn sound(self) -> bool
@@ -32,6 +33,7 @@ impl State {
     {
         Stepped {
             answer: Answer::Unsound,
+            report: Report::Unchanged,
             state: self,
         }
     }
@@ -52,7 +54,7 @@ impl State {
         if !soundness::sound(&head, &tasks, &held, &ceilings, &queues) {
             return self.unsound();
         }
-        let answer = engine::apply(
+        let ruling = engine::apply(
             &mut head,
             &mut tasks,
             &mut held,
@@ -60,16 +62,17 @@ impl State {
             &mut queues,
             event,
         );
-        if answer.number() != 0 {
+        if ruling.number() != 0 {
             return Stepped {
-                answer: answer,
+                answer: ruling.answer(),
+                report: ruling.report(),
                 state: self,
             };
         }
-        let state = store(head, tasks, held, ceilings, queues);
         Stepped {
-            answer: answer,
-            state: state,
+            answer: ruling.answer(),
+            report: ruling.report(),
+            state: store(head, tasks, held, ceilings, queues),
         }
     }
 

@@ -3,8 +3,8 @@ ghost use mathlib.Core.Path.{_≡_};
 ghost use Rattle.rules.specs.Fresh.{freshModel, refusedFresh, Startable};
 ghost use Rattle.dispatch.specs.State.{encode};
 ghost use Rattle.dispatch.specs.Methods.{beside, freshOf};
+use crate::Started;
 use crate::State;
-use crate::Stepped;
 use crate::store::store;
 use crate::test::all_in_range;
 use memory::sizes::HEAD_WIDTH;
@@ -47,7 +47,7 @@ fn single() -> State
 }
 
 impl State {
-    pub fn fresh(bases: &[u8], ceilings: &[u8]) -> Stepped
+    pub fn fresh(bases: &[u8], ceilings: &[u8]) -> Started
         ensures { λ r. ⌜ r ≡ freshOf (record { bases = now (bases .entry); ceilings = now (ceilings .entry) }) ⌝ }
     {
         if bases.len() < 1 {
@@ -66,18 +66,18 @@ impl State {
             return refused(Answer::BadBases);
         }
         let state = started(bases, ceilings);
-        Stepped {
+        Started {
             answer: Answer::Done,
             state: state,
         }
     }
 }
 
-fn refused(answer: Answer) -> Stepped
+fn refused(answer: Answer) -> Started
     ensures { λ r. ⌜ r ≡ beside (record { answer = answer; model = refusedFresh }) ⌝ }
 {
     let state = single();
-    Stepped {
+    Started {
         answer: answer,
         state: state,
     }

@@ -2,8 +2,8 @@
 ghost use Rattle.rules.specs.Events.{apply};
 ghost use Rattle.memory.specs.Memory.{modelOf, Valid, Moves};
 use memory::sizes::HEAD_WIDTH;
-use rules::Answer;
 use rules::Event;
+use rules::Ruling;
 
 pub fn apply(
     head: &mut [u64; HEAD_WIDTH],
@@ -12,7 +12,7 @@ pub fn apply(
     ceilings: &[u8],
     queues: &mut [u8],
     event: Event,
-) -> Answer
+) -> Ruling
     requires { ⌜ Valid (now head) (now tasks) (now held) (now ceilings) (now queues) ⌝ }
     ensures { λ r.
         ⌜ Moves (now (head .exit)) (now (tasks .exit)) (now (held .exit)) (now (ceilings .entry)) (now (queues .exit)) r

@@ -1,2 +1,3 @@
 pub mod ValidLaws
 pub mod ApplyLaws
+pub mod ReportLaws

@@ -3,6 +3,10 @@
 ghost use mathlib.Core.Path.{_≡_};
 ghost use Rattle.rules.specs.Events.{enter, leave, delay, suspend, release, badReading, clock, setBase, work, finish};
 ghost use Rattle.memory.specs.Memory.{modelOf, Valid, Did};
+
+mod conclusion;
+
+use crate::conclusion::conclude;
 use memory::held;
 use memory::priorities;
 use memory::sizes::HEAD_WIDTH;
@@ -17,6 +21,8 @@ use moves::effects;
 use rules::Answer;
 use rules::Place;
 use rules::Priority;
+use rules::Report;
+use rules::Ruling;
 
 // No dispatch follows: who enters stays the highest.
 pub fn enter(
@@ -26,7 +32,7 @@ pub fn enter(
     ceilings: &[u8],
     queues: &[u8],
     o: u64,
-) -> Answer
+) -> Ruling
     requires { ⌜ Valid (now head) (now tasks) (now held) (now ceilings) (now queues) ⌝ }
     ensures { λ r.
         ⌜ Did (now (head .entry)) (now (tasks .entry)) (now (held .exit)) (now (ceilings .entry)) (now (queues .entry)) r
@@ -35,23 +41,23 @@ pub fn enter(
         o) ⌝ }
 {
     if head[OBJECTS_CELL] <= o {
-        return Answer::NoSuchObject;
+        return Ruling::Refused(Answer::NoSuchObject);
     }
     let running = head[RUNNING_CELL];
     if running == 0 {
-        return Answer::NobodyRuns;
+        return Ruling::Refused(Answer::NobodyRuns);
     }
     let t = (running - 1) as usize;
     let object = o as u8;
     if held::holds(held, t, object) {
-        return Answer::InsideAction;
+        return Ruling::Refused(Answer::InsideAction);
     }
     let a = priorities::active(head, tasks, held, ceilings, queues, t);
     if ceilings[o as usize] < a.0 {
-        return Answer::AboveCeiling;
+        return Ruling::Refused(Answer::AboveCeiling);
     }
     held::push(held, t, object);
-    Answer::Done
+    Ruling::Accepted(Report::Unchanged)
 }
 
 pub fn leave(
@@ -61,7 +67,7 @@ pub fn leave(
     ceilings: &[u8],
     queues: &mut [u8],
     o: u64,
-) -> Answer
+) -> Ruling
     requires { ⌜ Valid (now head) (now tasks) (now held) (now ceilings) (now queues) ⌝ }
     ensures { λ r.
         ⌜ Did (now (head .exit)) (now (tasks .exit)) (now (held .exit)) (now (ceilings .entry)) (now (queues .exit)) r
@@ -70,23 +76,22 @@ pub fn leave(
         o) ⌝ }
 {
     if head[OBJECTS_CELL] <= o {
-        return Answer::NoSuchObject;
+        return Ruling::Refused(Answer::NoSuchObject);
     }
     let running = head[RUNNING_CELL];
     if running == 0 {
-        return Answer::NobodyRuns;
+        return Ruling::Refused(Answer::NobodyRuns);
     }
     let t = (running - 1) as usize;
     if held::depth(held, t) == 0 {
-        return Answer::NotInnermost;
+        return Ruling::Refused(Answer::NotInnermost);
     }
     if held::last(held, t) as u64 != o {
-        return Answer::NotInnermost;
+        return Ruling::Refused(Answer::NotInnermost);
     }
     held::drop_last(held, t);
     effects::settle(head, tasks, held, ceilings, queues, t);
-    moves::dispatch(head, tasks, held, ceilings, queues);
-    Answer::Done
+    conclude(head, tasks, held, ceilings, queues, running)
 }
 
 pub fn delay(
@@ -96,7 +101,7 @@ pub fn delay(
     ceilings: &[u8],
     queues: &mut [u8],
     d: u16,
-) -> Answer
+) -> Ruling
     requires { ⌜ Valid (now head) (now tasks) (now held) (now ceilings) (now queues) ⌝ }
     ensures { λ r.
         ⌜ Did (now (head .exit)) (now (tasks .exit)) (now (held .entry)) (now (ceilings .entry)) (now (queues .exit)) r
@@ -106,16 +111,15 @@ pub fn delay(
 {
     let running = head[RUNNING_CELL];
     if running == 0 {
-        return Answer::NobodyRuns;
+        return Ruling::Refused(Answer::NobodyRuns);
     }
     let t = (running - 1) as usize;
     if 0 < held::depth(held, t) {
-        return Answer::InsideAction;
+        return Ruling::Refused(Answer::InsideAction);
     }
     head[RUNNING_CELL] = 0;
     effects::put_off(head, tasks, held, ceilings, queues, t, d);
-    moves::dispatch(head, tasks, held, ceilings, queues);
-    Answer::Done
+    conclude(head, tasks, held, ceilings, queues, running)
 }
 
 // No dispatch follows where the task had a permit: it runs on.
@@ -125,7 +129,7 @@ pub fn suspend(
     held: &[u8],
     ceilings: &[u8],
     queues: &mut [u8],
-) -> Answer
+) -> Ruling
     requires { ⌜ Valid (now head) (now tasks) (now held) (now ceilings) (now queues) ⌝ }
     ensures { λ r.
         ⌜ Did (now (head .exit)) (now (tasks .exit)) (now (held .entry)) (now (ceilings .entry)) (now (queues .exit)) r
@@ -134,17 +138,16 @@ pub fn suspend(
 {
     let running = head[RUNNING_CELL];
     if running == 0 {
-        return Answer::NobodyRuns;
+        return Ruling::Refused(Answer::NobodyRuns);
     }
     let t = (running - 1) as usize;
     if 0 < held::depth(held, t) {
-        return Answer::InsideAction;
+        return Ruling::Refused(Answer::InsideAction);
     }
     if effects::rest(head, tasks, held, ceilings, queues, t) {
-        return Answer::Done;
+        return Ruling::Accepted(Report::Unchanged);
     }
-    moves::dispatch(head, tasks, held, ceilings, queues);
-    Answer::Done
+    conclude(head, tasks, held, ceilings, queues, running)
 }
 
 // No dispatch follows where t was not suspended: a permit moves nobody.
@@ -155,7 +158,7 @@ pub fn release(
     ceilings: &[u8],
     queues: &mut [u8],
     t: u64,
-) -> Answer
+) -> Ruling
     requires { ⌜ Valid (now head) (now tasks) (now held) (now ceilings) (now queues) ⌝ }
     ensures { λ r.
         ⌜ Did (now (head .exit)) (now (tasks .exit)) (now (held .entry)) (now (ceilings .entry)) (now (queues .exit)) r
@@ -164,13 +167,13 @@ pub fn release(
         t) ⌝ }
 {
     if head[TASKS_CELL] <= t {
-        return Answer::NoSuchTask;
+        return Ruling::Refused(Answer::NoSuchTask);
     }
+    let running = head[RUNNING_CELL];
     if !effects::release_from(head, tasks, held, ceilings, queues, t as usize) {
-        return Answer::Done;
+        return Ruling::Accepted(Report::Unchanged);
     }
-    moves::dispatch(head, tasks, held, ceilings, queues);
-    Answer::Done
+    conclude(head, tasks, held, ceilings, queues, running)
 }
 
 // Whether the reading r is refused where now is at. A leap is told by the difference, since a sum could overflow.
@@ -197,7 +200,7 @@ pub fn clock(
     ceilings: &[u8],
     queues: &mut [u8],
     r: u64,
-) -> Answer
+) -> Ruling
     requires { ⌜ Valid (now head) (now tasks) (now held) (now ceilings) (now queues) ⌝ }
     ensures { λ a.
         ⌜ Did (now (head .exit)) (now (tasks .exit)) (now (held .entry)) (now (ceilings .entry)) (now (queues .exit)) a
@@ -207,14 +210,14 @@ pub fn clock(
 {
     let at = head[NOW_CELL];
     if bad_reading(at, r) {
-        return Answer::BadReading;
+        return Ruling::Refused(Answer::BadReading);
     }
+    let running = head[RUNNING_CELL];
     head[NOW_CELL] = r;
     if !effects::wake_up(head, tasks, held, ceilings, queues, r) {
-        return Answer::Done;
+        return Ruling::Accepted(Report::Unchanged);
     }
-    moves::dispatch(head, tasks, held, ceilings, queues);
-    Answer::Done
+    conclude(head, tasks, held, ceilings, queues, running)
 }
 
 pub fn set(
@@ -225,7 +228,7 @@ pub fn set(
     queues: &mut [u8],
     t: u64,
     p: Priority,
-) -> Answer
+) -> Ruling
     requires { ⌜ Valid (now head) (now tasks) (now held) (now ceilings) (now queues) ⌝ }
     ensures { λ r.
         ⌜ Did (now (head .exit)) (now (tasks .exit)) (now (held .entry)) (now (ceilings .entry)) (now (queues .exit)) r
@@ -236,21 +239,21 @@ pub fn set(
     let first = Priority::FIRST;
     let last = Priority::LAST;
     if head[TASKS_CELL] <= t {
-        return Answer::NoSuchTask;
+        return Ruling::Refused(Answer::NoSuchTask);
     }
     if p.0 < first.0 {
-        return Answer::BadPriority;
+        return Ruling::Refused(Answer::BadPriority);
     }
     if last.0 < p.0 {
-        return Answer::BadPriority;
+        return Ruling::Refused(Answer::BadPriority);
     }
     let place = tasks::place(tasks, t as usize);
     if effects::is_ended(place) {
-        return Answer::EndedTask;
+        return Ruling::Refused(Answer::EndedTask);
     }
+    let running = head[RUNNING_CELL];
     effects::rebase(head, tasks, held, ceilings, queues, t as usize, p);
-    moves::dispatch(head, tasks, held, ceilings, queues);
-    Answer::Done
+    conclude(head, tasks, held, ceilings, queues, running)
 }
 
 // No dispatch follows: in a sound state it moves nobody.
@@ -260,7 +263,7 @@ pub fn work(
     held: &[u8],
     ceilings: &[u8],
     queues: &[u8],
-) -> Answer
+) -> Ruling
     requires { ⌜ Valid (now head) (now tasks) (now held) (now ceilings) (now queues) ⌝ }
     ensures { λ r.
         ⌜ Did (now (head .entry)) (now (tasks .entry)) (now (held .entry)) (now (ceilings .entry)) (now (queues .entry)) r
@@ -268,9 +271,9 @@ pub fn work(
         (modelOf (now (head .entry)) (now (tasks .entry)) (now (held .entry)) (now (ceilings .entry)) (now (queues .entry)))) ⌝ }
 {
     if head[RUNNING_CELL] == 0 {
-        return Answer::NobodyRuns;
+        return Ruling::Refused(Answer::NobodyRuns);
     }
-    Answer::Done
+    Ruling::Accepted(Report::Unchanged)
 }
 
 pub fn finish(
@@ -279,7 +282,7 @@ pub fn finish(
     held: &[u8],
     ceilings: &[u8],
     queues: &mut [u8],
-) -> Answer
+) -> Ruling
     requires { ⌜ Valid (now head) (now tasks) (now held) (now ceilings) (now queues) ⌝ }
     ensures { λ r.
         ⌜ Did (now (head .exit)) (now (tasks .exit)) (now (held .entry)) (now (ceilings .entry)) (now (queues .exit)) r
@@ -288,14 +291,13 @@ pub fn finish(
 {
     let running = head[RUNNING_CELL];
     if running == 0 {
-        return Answer::NobodyRuns;
+        return Ruling::Refused(Answer::NobodyRuns);
     }
     let t = (running - 1) as usize;
     if 0 < held::depth(held, t) {
-        return Answer::InsideAction;
+        return Ruling::Refused(Answer::InsideAction);
     }
     head[RUNNING_CELL] = 0;
     tasks::set_place(tasks, t, Place::Ended);
-    moves::dispatch(head, tasks, held, ceilings, queues);
-    Answer::Done
+    conclude(head, tasks, held, ceilings, queues, running)
 }

@@ -12,7 +12,7 @@ use Rattle.format.specs.Check.{checkOf}
 use Rattle.format.specs.declared.Verdict.{Verdict}
 use Rattle.format.proofs.PositionLaws.{check-small}
 use Rattle.trace.specs.Answers as Run
-use Rattle.trace.specs.Limits.{pairSize}
+use Rattle.trace.specs.Limits.{replySize}
 use Rattle.trace.specs.Inputs.{eventCount, eventsGood}
 use Rattle.trace.specs.Run.{answerOf}
 use Rattle.trace.specs.declared.RunAnswer.{RunAnswer}
@@ -35,7 +35,7 @@ unfolding answerOf
 run-small s events size =
     both-ways Small (not (passed (checkOf s))) _ _ (λ e. check-small s) (λ e.
     both-ways Small (not (eventsGood events)) _ _ (λ f. omega arith) (λ f.
-    both-ways Small (ltb size (pairSize * eventCount events)) _ _ (λ g. omega arith) (λ g. omega arith)))
+    both-ways Small (ltb size (replySize * eventCount events)) _ _ (λ g. omega arith) (λ g. omega arith)))
 
 pub run-place : (a : RunAnswer) (s events : List ℕ) (size p : ℕ) → a ≡ answerOf s events size → p ≡ Run.positionOf a → p ≤ largestRoster
 run-place a s events size p e f = rw (f, e) (run-small s events size)

@@ -65,7 +65,7 @@ pub extern "C" fn dispatch_script_length(roster: &[u8], t: u64) -> u64
     roster::script(roster, t as usize).len() as u64
 }
 
-// A run of a roster under events, its answer in the same packing; two bytes per event in the buffer.
+// A run of a roster under events, its answer in the same packing; three bytes per event in the buffer.
 #[no_mangle]
 pub extern "C" fn dispatch_run(roster: &[u8], events: &[u8], buffer: &mut [u8]) -> u64
     ensures { λ r. ⌜ r ≡ packedRun (answerOf (now (roster .entry)) (now (events .entry)) (length (now (buffer .entry)))) ⌝ }

@@ -20,7 +20,7 @@ use Rattle.safety.proofs.Hosting.{bridge}
 use Rattle.isolation.specs.Sharing.{Above, Agreeing}
 use Rattle.isolation.specs.Isolated.{answer, Isolated}
 use Rattle.isolation.specs.Unseen.{firsts, seconds}
-use Rattle.isolation.specs.Bridges.{RunsWriteAlike, heldBy, reply, HostsIsolated, HostsUnseen}
+use Rattle.isolation.specs.Bridges.{RunsWriteAlike, heldBy, hostAnswer, HostsIsolated, HostsUnseen}
 use Rattle.isolation.proofs.Sorting.{listed-above}
 use Rattle.isolation.proofs.Theorem.{first-orderly, unseen-isolated, isolated}
 
@@ -73,12 +73,12 @@ carried p r s c d x y f g u v i j k l h =
 -- two callers after any events, from the claim of those
 hosts-after : (p : ℕ) (a b : List ℕ) → Agreeing p a b → (es fs : List Event) →
     Isolated p (rosterOf a) (rosterOf b) (after (rosterOf a) es) (after (rosterOf b) fs) (answer (rosterOf a) es) (answer (rosterOf b) fs) →
-    Isolated p (rosterOf a) (rosterOf b) (heldBy (host (rosterOf a) es)) (heldBy (host (rosterOf b) fs)) (reply (rosterOf a) es)
-    (reply (rosterOf b) fs)
+    Isolated p (rosterOf a) (rosterOf b) (heldBy (host (rosterOf a) es)) (heldBy (host (rosterOf b) fs)) (hostAnswer (rosterOf a) es)
+    (hostAnswer (rosterOf b) fs)
 hosts-after p a b g es fs h =
     let one = bridge a (g .bytes .0) (g .pass .0) es in
     let two = bridge b (g .bytes .1) (g .pass .1) fs in
-    carried p (rosterOf a) (rosterOf b) _ _ _ _ _ _ (reply (rosterOf a) es) (reply (rosterOf b) fs) (held-is (rosterOf a) es one)
+    carried p (rosterOf a) (rosterOf b) _ _ _ _ _ _ (hostAnswer (rosterOf a) es) (hostAnswer (rosterOf b) fs) (held-is (rosterOf a) es one)
     (held-is (rosterOf b) fs two) (λ e. sym (one .answer e)) (λ e. sym (two .answer e)) h
 
 pub hosts-isolated : HostsIsolated

@@ -7,7 +7,7 @@ use lib.ListN.{length, getD}
 use Rattle.rules.specs.declared.Answer.{Answer}
 use Rattle.words.specs.Words.{Bytes}
 use Rattle.format.specs.Roster.{Roster, rosterOf}
-use Rattle.trace.specs.Limits.{pairSize}
+use Rattle.trace.specs.Limits.{replySize}
 use Rattle.trace.specs.Config.{Config, startOf}
 use Rattle.trace.specs.Inputs.{inputsOf}
 use Rattle.trace.specs.Run.{answerOf, bufferOf}
@@ -23,9 +23,9 @@ use Rattle.isolation.specs.Unseen.{Turn, firsts, seconds, Unnoticed}
 -- the same, and the answer bytes are equal unless the event is excepted
 pub record WroteAlike (p : ℕ) (r s : Roster) (one two : List ℕ) (es : List Event) : Type 0 where
   pub task : (before behind : List Event) (e : Event) → es ≡ before ++ (e ∷ behind) → (t : ℕ) → Above p r t →
-      (getD one (pairSize * length before + 1) 0 ≡ t) ↔ (getD two (pairSize * length before + 1) 0 ≡ t)
+      (getD one (replySize * length before + 1) 0 ≡ t) ↔ (getD two (replySize * length before + 1) 0 ≡ t)
   pub answer : (before behind : List Event) (e : Event) → es ≡ before ++ (e ∷ behind) → (Excepted p r s (after r before) e → ⊥) →
-      getD one (pairSize * length before) 0 ≡ getD two (pairSize * length before) 0
+      getD one (replySize * length before) 0 ≡ getD two (replySize * length before) 0
 
 -- two runs that are done, under the same bytes of events with no Set among them, each into a lent buffer of its own
 abbrev pub RunsWriteAlike : Type 0
@@ -38,19 +38,19 @@ RunsWriteAlike =
 abbrev pub heldBy : Host → Config
 heldBy h = record { model = view (h .state); positions = h .positions }
 
-abbrev pub reply : Roster → List Event → Event → Answer
-reply r es e = call r (host r es) e .answer
+abbrev pub hostAnswer : Roster → List Event → Event → Answer
+hostAnswer r es e = call r (host r es) e .answer
 
 -- two callers that start fresh and make the same calls; or the calls that turns give them, those of one alone not being seen
 abbrev pub HostsIsolated : Type 0
 HostsIsolated =
     (p : ℕ) (a b : List ℕ) → Agreeing p a b → (es : List Event) →
-    Isolated p (rosterOf a) (rosterOf b) (heldBy (host (rosterOf a) es)) (heldBy (host (rosterOf b) es)) (reply (rosterOf a) es)
-    (reply (rosterOf b) es)
+    Isolated p (rosterOf a) (rosterOf b) (heldBy (host (rosterOf a) es)) (heldBy (host (rosterOf b) es)) (hostAnswer (rosterOf a) es)
+    (hostAnswer (rosterOf b) es)
 
 abbrev pub HostsUnseen : Type 0
 HostsUnseen =
     (p : ℕ) (a b : List ℕ) → Agreeing p a b → (ts : List Turn) →
     Unnoticed p (rosterOf a) (rosterOf b) (startOf (rosterOf a)) (startOf (rosterOf b)) ts →
     Isolated p (rosterOf a) (rosterOf b) (heldBy (host (rosterOf a) (firsts ts))) (heldBy (host (rosterOf b) (seconds ts)))
-    (reply (rosterOf a) (firsts ts)) (reply (rosterOf b) (seconds ts))
+    (hostAnswer (rosterOf a) (firsts ts)) (hostAnswer (rosterOf b) (seconds ts))

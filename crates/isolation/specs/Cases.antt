@@ -4,7 +4,7 @@ use mathlib.Core.List.{List, [], _∷_, _++_, map}
 use Prim.Native.Nat.{ℕ, _+_}
 use lib.ListN.{length}
 use Rattle.format.specs.Cases.{stepBytes, enter, leave, delay, work, suspend, setTo, again}
-use Rattle.trace.specs.Run.{pairsOf}
+use Rattle.trace.specs.Run.{repliesOf}
 use Rattle.trace.specs.Cases.{clock, release, step, set}
 use Rattle.isolation.specs.Sharing.{Agreeing}
 use Rattle.isolation.specs.Tests.{lacking}
@@ -60,32 +60,33 @@ pub record Case : Type 0 where
 
 abbrev pub shown : Case → List (List ℕ)
 shown x =
-    lacking level (x .first) (x .second) (x .events) ∷ pairsOf (x .first) (x .events) ∷ pairsOf (x .second) (x .events) ∷ []
+    lacking level (x .first) (x .second) (x .events) ∷ repliesOf (x .first) (x .events) ∷ repliesOf (x .second) (x .events) ∷ []
 
 unfoldable pub cases : List Case
 cases =
-    -- the two that agree: task 0 runs at the same moments; the answers differ at the last of the seven steps, and at the Release
+    -- the two that agree: task 0 runs at the same moments; the answers differ at the last of the seven steps, and at the
+    -- Release. The reports of the Clock by which it takes over differ too (2026-10): 1, from a lower task, and 2, from nobody
     record {
       first = one;
       second = two;
       events = events;
       lacks = [];
       writes =
-          (0 ∷ 0 ∷ 0 ∷ 0 ∷ 0 ∷ 0 ∷ 0 ∷ 1 ∷
-          0 ∷ 1 ∷ 0 ∷ 1 ∷ 0 ∷ 1 ∷ 0 ∷ 1 ∷ 0 ∷ 1 ∷ 0 ∷ 1 ∷ 0 ∷ 1 ∷
-          1 ∷ 1 ∷ 0 ∷ 0 ∷ 0 ∷ 0 ∷ []) ∷
-          (0 ∷ 0 ∷ 0 ∷ 0 ∷ 0 ∷ 0 ∷ 0 ∷ 1 ∷
-          0 ∷ 1 ∷ 0 ∷ 1 ∷ 0 ∷ 2 ∷ 0 ∷ 2 ∷ 0 ∷ 1 ∷ 0 ∷ 255 ∷ 5 ∷ 255 ∷
-          0 ∷ 255 ∷ 0 ∷ 0 ∷ 0 ∷ 0 ∷ []) ∷ [];
+          (0 ∷ 0 ∷ 0 ∷ 0 ∷ 0 ∷ 0 ∷ 0 ∷ 0 ∷ 0 ∷ 0 ∷ 1 ∷ 2 ∷
+          0 ∷ 1 ∷ 0 ∷ 0 ∷ 1 ∷ 0 ∷ 0 ∷ 1 ∷ 0 ∷ 0 ∷ 1 ∷ 0 ∷ 0 ∷ 1 ∷ 0 ∷ 0 ∷ 1 ∷ 0 ∷ 0 ∷ 1 ∷ 0 ∷
+          1 ∷ 1 ∷ 0 ∷ 0 ∷ 0 ∷ 1 ∷ 0 ∷ 0 ∷ 0 ∷ []) ∷
+          (0 ∷ 0 ∷ 0 ∷ 0 ∷ 0 ∷ 0 ∷ 0 ∷ 0 ∷ 0 ∷ 0 ∷ 1 ∷ 2 ∷
+          0 ∷ 1 ∷ 0 ∷ 0 ∷ 1 ∷ 0 ∷ 0 ∷ 2 ∷ 2 ∷ 0 ∷ 2 ∷ 0 ∷ 0 ∷ 1 ∷ 2 ∷ 0 ∷ 255 ∷ 2 ∷ 5 ∷ 255 ∷ 0 ∷
+          0 ∷ 255 ∷ 0 ∷ 0 ∷ 0 ∷ 2 ∷ 0 ∷ 0 ∷ 0 ∷ []) ∷ [];
     } ∷
-    -- the others part: the last byte, who runs, is 0 in one and 1 in the other. Each lacks one thing and keeps the rest
+    -- the others part: who runs after the last event is 0 in one and 1 in the other. Each lacks one thing and keeps the rest
     -- 1 "two rosters that pass": the first does not (20), its task 1 sets the base of task 0
     record {
       first = roster (delay 1) 20 (setTo 0 1) 5 25;
       second = roster (delay 1) 20 work 5 25;
       events = step ++ step ++ clock 1;
       lacks = 1 ∷ [];
-      writes = (0 ∷ 1 ∷ 0 ∷ 1 ∷ 0 ∷ 1 ∷ []) ∷ (0 ∷ 1 ∷ 0 ∷ 1 ∷ 0 ∷ 0 ∷ []) ∷ [];
+      writes = (0 ∷ 1 ∷ 2 ∷ 0 ∷ 1 ∷ 0 ∷ 0 ∷ 1 ∷ 0 ∷ []) ∷ (0 ∷ 1 ∷ 2 ∷ 0 ∷ 1 ∷ 0 ∷ 0 ∷ 0 ∷ 1 ∷ []) ∷ [];
     } ∷
     -- 2 "agree .. on every task above P": the base of task 1 is 30 or 15
     record {
@@ -93,7 +94,7 @@ cases =
       second = roster work 20 work 15 25;
       events = clock 0;
       lacks = 2 ∷ [];
-      writes = (0 ∷ 1 ∷ []) ∷ (0 ∷ 0 ∷ []) ∷ [];
+      writes = (0 ∷ 1 ∷ 0 ∷ []) ∷ (0 ∷ 0 ∷ 0 ∷ []) ∷ [];
     } ∷
     -- .. the script of task 0 is a Delay or a Work
     record {
@@ -101,7 +102,7 @@ cases =
       second = roster work 20 work 5 25;
       events = step;
       lacks = 2 ∷ [];
-      writes = (0 ∷ 1 ∷ []) ∷ (0 ∷ 0 ∷ []) ∷ [];
+      writes = (0 ∷ 1 ∷ 2 ∷ []) ∷ (0 ∷ 0 ∷ 0 ∷ []) ∷ [];
     } ∷
     -- 3 "and every object with a ceiling above P": the ceiling is 25 or 30, between which task 1 wakes
     record {
@@ -109,7 +110,7 @@ cases =
       second = roster (enter 0 ++ leave 0) 20 (delay 1) 28 30;
       events = step ++ step ++ clock 1;
       lacks = 3 ∷ [];
-      writes = (0 ∷ 0 ∷ 0 ∷ 0 ∷ 0 ∷ 1 ∷ []) ∷ (0 ∷ 0 ∷ 0 ∷ 0 ∷ 0 ∷ 0 ∷ []) ∷ [];
+      writes = (0 ∷ 0 ∷ 2 ∷ 0 ∷ 0 ∷ 0 ∷ 0 ∷ 1 ∷ 1 ∷ []) ∷ (0 ∷ 0 ∷ 2 ∷ 0 ∷ 0 ∷ 0 ∷ 0 ∷ 0 ∷ 0 ∷ []) ∷ [];
     } ∷
     -- 4 "Above P means the base and all own Set values are higher": task 0 of base 20 sets itself to 5, and task 1 has the base 8 or 3
     record {
@@ -117,7 +118,7 @@ cases =
       second = roster (setTo 0 5) 20 work 3 25;
       events = step;
       lacks = 4 ∷ [];
-      writes = (0 ∷ 1 ∷ []) ∷ (0 ∷ 0 ∷ []) ∷ [];
+      writes = (0 ∷ 1 ∷ 2 ∷ []) ∷ (0 ∷ 0 ∷ 0 ∷ []) ∷ [];
     } ∷
     -- 4 "every other task has them all at P or lower": task 1, which sets itself to 5, has the base 30
     record {
@@ -125,7 +126,7 @@ cases =
       second = roster work 20 (setTo 1 5) 5 32;
       events = clock 0;
       lacks = 4 ∷ [];
-      writes = (0 ∷ 1 ∷ []) ∷ (0 ∷ 0 ∷ []) ∷ [];
+      writes = (0 ∷ 1 ∷ 0 ∷ []) ∷ (0 ∷ 0 ∷ 0 ∷ []) ∷ [];
     } ∷
     -- .. task 1 of base 5 sets itself to 30
     record {
@@ -133,7 +134,7 @@ cases =
       second = roster (delay 1) 20 work 5 25;
       events = step ++ step ++ clock 1;
       lacks = 4 ∷ [];
-      writes = (0 ∷ 1 ∷ 0 ∷ 1 ∷ 0 ∷ 1 ∷ []) ∷ (0 ∷ 1 ∷ 0 ∷ 1 ∷ 0 ∷ 0 ∷ []) ∷ [];
+      writes = (0 ∷ 1 ∷ 2 ∷ 0 ∷ 1 ∷ 0 ∷ 0 ∷ 1 ∷ 0 ∷ []) ∷ (0 ∷ 1 ∷ 2 ∷ 0 ∷ 1 ∷ 0 ∷ 0 ∷ 0 ∷ 1 ∷ []) ∷ [];
     } ∷
     -- 5 "releases no task above P": task 1 releases task 0
     record {
@@ -141,7 +142,7 @@ cases =
       second = roster suspend 20 (free 0) 5 25;
       events = step ++ step;
       lacks = 5 ∷ [];
-      writes = (0 ∷ 1 ∷ 0 ∷ 1 ∷ []) ∷ (0 ∷ 1 ∷ 0 ∷ 0 ∷ []) ∷ [];
+      writes = (0 ∷ 1 ∷ 2 ∷ 0 ∷ 1 ∷ 0 ∷ []) ∷ (0 ∷ 1 ∷ 2 ∷ 0 ∷ 0 ∷ 1 ∷ []) ∷ [];
     } ∷
     -- 6 "and uses no object with a ceiling above P": task 1 is inside one when task 0 wakes
     record {
@@ -149,7 +150,7 @@ cases =
       second = roster (delay 1) 20 work 5 25;
       events = step ++ step ++ clock 1;
       lacks = 6 ∷ [];
-      writes = (0 ∷ 1 ∷ 0 ∷ 1 ∷ 0 ∷ 1 ∷ []) ∷ (0 ∷ 1 ∷ 0 ∷ 1 ∷ 0 ∷ 0 ∷ []) ∷ [];
+      writes = (0 ∷ 1 ∷ 2 ∷ 0 ∷ 1 ∷ 0 ∷ 0 ∷ 1 ∷ 0 ∷ []) ∷ (0 ∷ 1 ∷ 2 ∷ 0 ∷ 1 ∷ 0 ∷ 0 ∷ 0 ∷ 1 ∷ []) ∷ [];
     } ∷
     -- 7 "with no Set from outside": of task 1, which has ended in the second
     record {
@@ -157,7 +158,7 @@ cases =
       second = roster (delay 1) 20 [] 5 25;
       events = step ++ step ++ set 1 30 ++ clock 1;
       lacks = 7 ∷ [];
-      writes = (0 ∷ 1 ∷ 0 ∷ 1 ∷ 0 ∷ 1 ∷ 0 ∷ 1 ∷ []) ∷ (0 ∷ 1 ∷ 0 ∷ 255 ∷ 6 ∷ 255 ∷ 0 ∷ 0 ∷ []) ∷ [];
+      writes = (0 ∷ 1 ∷ 2 ∷ 0 ∷ 1 ∷ 0 ∷ 0 ∷ 1 ∷ 0 ∷ 0 ∷ 1 ∷ 0 ∷ []) ∷ (0 ∷ 1 ∷ 2 ∷ 0 ∷ 255 ∷ 2 ∷ 6 ∷ 255 ∷ 0 ∷ 0 ∷ 0 ∷ 2 ∷ []) ∷ [];
     } ∷
     []
 

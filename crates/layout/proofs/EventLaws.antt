@@ -7,24 +7,26 @@ use native.Mathlib.Omega.{arith}
 use borrow.Author.Tests.{lt-ltb, le-ltb, eq-eqb, ne-eqb}
 use lib.Dec.{eqb, ltb}
 use lib.ListN.{length}
-use Rattle.rules.specs.Answers.{numberOf}
+use Rattle.rules.specs.Answers.{numberOf, reportNumber}
 use Rattle.rules.specs.declared.Event.{Event}
 use Rattle.rules.specs.declared.Runner.{Runner}
 use Rattle.rules.specs.declared.Runner.the-variants.{Task}
+use Rattle.rules.specs.declared.Report.the-variants.{Unchanged}
 use Rattle.rules.specs.declared.Answer.the-variants.{Unsound}
 use Rattle.rules.proofs.Choices.{cond-true, cond-false}
 use Rattle.dispatch.specs.Sound.{soundOf}
 use Rattle.rules.specs.Fresh.{Setup}
 use Rattle.dispatch.specs.Methods.{appliedOf, freshOf}
 use Rattle.dispatch.specs.declared.State.{State}
+use Rattle.dispatch.specs.declared.Started.{Started}
 use Rattle.dispatch.specs.declared.Stepped.{Stepped}
 use Rattle.layout.specs.Sizes.{nobodyCode, stateSize}
 use Rattle.layout.specs.Decode.{stateOfBytes}
 use Rattle.layout.specs.InRange.{readable}
 use Rattle.layout.specs.Encode.{withState}
 use Rattle.layout.proofs.WriteLaws.{state-kept}
-use Rattle.layout.specs.Events.{unlessShort, unlessUnreadable, eventNumber, eventBytes, freshNumber, freshBytes}
-use Rattle.layout.specs.Events.{soundNumber, listedCode, runningNumber}
+use Rattle.layout.specs.Events.{unlessShort, unlessUnreadable, eventNumber, eventBytes, eventReport, freshNumber}
+use Rattle.layout.specs.Events.{freshBytes, soundNumber, listedCode, runningNumber}
 
 -- too few bytes, or enough
 pub short-answer : (b : List ℕ) (n : ℕ) → length b < stateSize → unlessShort b n ≡ numberOf Unsound
@@ -50,27 +52,37 @@ module _ (b : List ℕ) (e : Event) where
   unfolding eventNumber
   unread-number h = unread-answer b (numberOf (appliedOf (stateOfBytes b) e .answer)) h
 
-  pub event-unread : (n : ℕ) → n ≡ numberOf Unsound → readable b ≡ false → (n ≡ eventNumber b e) × (b ≡ eventBytes b e)
-  event-unread n i h =
+  pub event-unread : (n : ℕ) → n ≡ numberOf Unsound → readable b ≡ false → (w : ℕ) → w ≡ reportNumber Unchanged →
+      (n ≡ eventNumber b e) × ((b ≡ eventBytes b e) × (w ≡ eventReport b e))
+  unfolding eventReport
+  event-unread n i h w j =
       let same = unread-number h in
-      (i ∙ sym same, bytes-kept (λ z. let clash = sym same ∙ z in omega arith))
+      (i ∙ sym same, (bytes-kept (λ z. let clash = sym same ∙ z in omega arith), j ∙ sym (cond-false (readable b) _ (reportNumber Unchanged) h)))
 
-  module _ (r : Stepped) (step : r ≡ appliedOf (stateOfBytes b) e) (n : ℕ) (i : n ≡ numberOf (r .answer)) (h : readable b ≡ true) where
+  module _ (r : Stepped) (step : r ≡ appliedOf (stateOfBytes b) e) (n : ℕ) (i : n ≡ numberOf (r .answer)) (w : ℕ)
+      (j : w ≡ reportNumber (r .report)) (h : readable b ≡ true) where
     event-number : n ≡ eventNumber b e
     unfolding eventNumber
     event-number =
         i ∙ (ap (λ (x : Stepped). numberOf (x .answer)) step ∙ sym (read-answer b (numberOf (appliedOf (stateOfBytes b) e .answer)) h))
 
-    pub event-refused : (n ≡ 0 → ⊥) → (n ≡ eventNumber b e) × (b ≡ eventBytes b e)
-    event-refused z = (event-number, bytes-kept (λ x. z (event-number ∙ x)))
+    event-report : w ≡ eventReport b e
+    unfolding eventReport
+    event-report =
+        j ∙ (ap (λ (x : Stepped). reportNumber (x .report)) step ∙
+        sym (cond-true (readable b) (reportNumber (appliedOf (stateOfBytes b) e .report)) _ h))
 
-    pub event-done : (b' : List ℕ) → n ≡ 0 → b' ≡ withState (r .state) b → (0 ≡ eventNumber b e) × (b' ≡ eventBytes b e)
+    pub event-refused : (n ≡ 0 → ⊥) → (n ≡ eventNumber b e) × ((b ≡ eventBytes b e) × (w ≡ eventReport b e))
+    event-refused z = (event-number, (bytes-kept (λ x. z (event-number ∙ x)), event-report))
+
+    pub event-done : (b' : List ℕ) → n ≡ 0 → b' ≡ withState (r .state) b →
+        (0 ≡ eventNumber b e) × ((b' ≡ eventBytes b e) × (w ≡ eventReport b e))
     unfolding eventBytes
     event-done b' z f =
         let done : eventNumber b e ≡ 0 = sym event-number ∙ z in
         let after = withState (appliedOf (stateOfBytes b) e .state) b in
         let written = cond-true (eqb (eventNumber b e) 0) after b (eq-eqb _ 0 done) in
-        (sym done, f ∙ (ap (λ (x : Stepped). withState (x .state) b) step ∙ sym written))
+        (sym done, (f ∙ (ap (λ (x : Stepped). withState (x .state) b) step ∙ sym written), event-report))
 
 -- a fresh start
 module _ (s : Setup) (b : List ℕ) (n : ℕ) where
@@ -80,12 +92,12 @@ module _ (s : Setup) (b : List ℕ) (n : ℕ) where
   fresh-short i h =
       (i ∙ sym (short-answer b (numberOf (freshOf s .answer)) h), state-kept (freshOf s .state) b h)
 
-  pub fresh-made : (b' : List ℕ) (r : Stepped) → r ≡ freshOf s → b' ≡ withState (r .state) b → n ≡ numberOf (r .answer) →
+  pub fresh-made : (b' : List ℕ) (r : Started) → r ≡ freshOf s → b' ≡ withState (r .state) b → n ≡ numberOf (r .answer) →
       stateSize ≤ length b → (n ≡ freshNumber s b) × (b' ≡ freshBytes s b)
   unfolding freshNumber freshBytes
   fresh-made b' r e f i h =
       let own = own-answer b (numberOf (freshOf s .answer)) h in
-      (i ∙ (ap (λ (x : Stepped). numberOf (x .answer)) e ∙ sym own), f ∙ ap (λ (x : Stepped). withState (x .state) b) e)
+      (i ∙ (ap (λ (x : Started). numberOf (x .answer)) e ∙ sym own), f ∙ ap (λ (x : Started). withState (x .state) b) e)
 
 -- the test of soundness
 module _ (b : List ℕ) (n : ℕ) where

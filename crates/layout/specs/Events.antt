@@ -1,13 +1,14 @@
--- What a fresh start and an event make of a state in lent bytes: the number of the answer, and the bytes afterwards.
+-- What a fresh start and an event make of a state in lent bytes: the number of the answer, the bytes afterwards, and an event's report.
 use mathlib.Core.Bool.{cond}
 use mathlib.Core.List.{List}
 use Prim.Native.Nat.{ℕ}
 use lib.Dec.{eqb, ltb}
 use lib.ListN.{length}
-use Rattle.rules.specs.Answers.{numberOf}
+use Rattle.rules.specs.Answers.{numberOf, reportNumber}
 use Rattle.rules.specs.declared.Event.{Event}
 use Rattle.rules.specs.declared.Runner.{Runner}
 use Rattle.rules.specs.declared.Runner.the-variants.{Nobody, Task}
+use Rattle.rules.specs.declared.Report.the-variants.{Unchanged}
 use Rattle.rules.specs.declared.Answer.the-variants.{Unsound}
 use Rattle.dispatch.specs.Sound.{soundOf}
 use Rattle.rules.specs.Fresh.{Setup}
@@ -36,6 +37,10 @@ eventNumber b e = unlessUnreadable b (numberOf (appliedOf (stateOfBytes b) e .an
 
 unfoldable pub eventBytes : List ℕ → Event → List ℕ
 eventBytes b e = ifDone (eventNumber b e) (appliedOf (stateOfBytes b) e .state) b
+
+-- 2026-10: why the processor changed hands; "A refused event reports 0."
+unfoldable pub eventReport : List ℕ → Event → ℕ
+eventReport b e = cond (readable b) (reportNumber (appliedOf (stateOfBytes b) e .report)) (reportNumber Unchanged)
 
 -- a fresh start: "the state beside that answer" is written too
 unfoldable pub freshNumber : Setup → List ℕ → ℕ

@@ -1,6 +1,6 @@
 // A fresh start and the events, on a state in lent bytes.
 ghost use mathlib.Core.Path.{_≡_};
-ghost use Rattle.layout.specs.Events.{eventNumber, eventBytes, freshNumber, freshBytes, soundNumber, listedCode, runningNumber};
+ghost use Rattle.layout.specs.Events.{eventNumber, eventBytes, eventReport, freshNumber, freshBytes, soundNumber, listedCode, runningNumber};
 use crate::decode::read;
 use crate::encode::write;
 use crate::ranges::readable;
@@ -9,18 +9,23 @@ use crate::sizes::STATE_SIZE;
 use dispatch::State;
 use rules::Answer;
 use rules::Event;
+use rules::Report;
 use rules::Runner;
 
-// The state goes on by an event: its bytes are written anew, unless the event is refused.
-pub fn apply(bytes: &mut [u8], event: Event) -> u8
+// The state goes on by an event: its bytes are written anew, unless the event is refused. The report is written each time.
+pub fn apply(bytes: &mut [u8], event: Event, report: &mut u8) -> u8
     ensures { λ r. ⌜ r ≡ eventNumber (now (bytes .entry)) event ⌝ }
     ensures { λ r. ⌜ now (bytes .exit) ≡ eventBytes (now (bytes .entry)) event ⌝ }
+    ensures { λ r. ⌜ now (report .exit) ≡ eventReport (now (bytes .entry)) event ⌝ }
 {
     if !readable(bytes) {
+        *report = Report::Unchanged.number();
         return Answer::Unsound.number();
     }
     let state = read(bytes);
     let next = state.applied(event);
+    let change = next.report;
+    *report = change.number();
     let answer = next.answer;
     let number = answer.number();
     if number != 0 {

@@ -12,9 +12,9 @@ use lib.Seq.{sets, length-sets, sets-eq, drop-cons}
 use Rattle.words.proofs.CopyLaws.{sets-append}
 use Rattle.format.proofs.TestLaws.{by-test, and-no, and-yes}
 use Rattle.rules.proofs.Choices.{split}
-use Rattle.trace.specs.Limits.{pairSize, nobodyByte}
-use Rattle.lines.specs.Lines.{newline, space, dash, firstDigit, digitsTo, decimal, runningText, pairLine, pairLines}
-use Rattle.lines.specs.Lines.{passedWord, endWord, refusedWord, placeText, refusedLine, passedLines, linesOf, pairRoom, otherRoom}
+use Rattle.trace.specs.Limits.{replySize, nobodyByte}
+use Rattle.lines.specs.Lines.{newline, space, dash, firstDigit, digitsTo, decimal, runningText, replyLine, replyLines}
+use Rattle.lines.specs.Lines.{passedWord, endWord, refusedWord, placeText, refusedLine, passedLines, linesOf, replyRoom, otherRoom}
 use Rattle.lines.specs.Lines.{roomFor, linesBuffer, linesSize, Copied}
 use Rattle.trace.specs.Answers.{numberOf, taskOf, positionOf}
 use Rattle.trace.specs.declared.RunAnswer.{RunAnswer}
@@ -89,17 +89,21 @@ pub running-task : (r : ℕ) → (r ≡ nobodyByte → ⊥) → runningText r �
 unfolding runningText
 running-task r e = ap (λ (b : Bool). cond b (dash ∷ []) (decimal r)) (ne-eqb r nobodyByte e)
 
-pub pair-length : (a r : ℕ) → length (pairLine a r) ≡ length (decimal a) + (1 + (length (runningText r) + 1))
-unfolding pairLine
-pair-length a r =
-    length-append (decimal a) (space ∷ (runningText r ++ (newline ∷ []))) ∙
-    let e : length (runningText r ++ (newline ∷ [])) ≡ length (runningText r) + 1 = length-append (runningText r) (newline ∷ []) in
-    omega arith
+pub reply-length : (a r w : ℕ) →
+    length (replyLine a r w) ≡ length (decimal a) + (1 + (length (runningText r) + (1 + (length (decimal w) + 1))))
+unfolding replyLine
+reply-length a r w =
+    let last : List ℕ = decimal w ++ (newline ∷ []) in
+    let e : length (runningText r ++ (space ∷ last)) ≡ length (runningText r) + suc (length last) =
+    length-append (runningText r) (space ∷ last) in
+    let f : length last ≡ length (decimal w) + 1 = length-append (decimal w) (newline ∷ []) in
+    length-append (decimal a) (space ∷ (runningText r ++ (space ∷ last))) ∙ omega arith
 
-pub put-pair : {b b1 b2 b3 b4 : List ℕ} {at e1 e2 e3 e4 : ℕ} (a r : ℕ) → Copied b at (decimal a) b1 e1 → Copied b1 e1 (space ∷ []) b2 e2 →
-    Copied b2 e2 (runningText r) b3 e3 → Copied b3 e3 (newline ∷ []) b4 e4 → Copied b at (pairLine a r) b4 e4
-unfolding pairLine
-put-pair a r p q s t = put-then p (put-then q (put-then s t))
+pub put-reply : {b b1 b2 b3 b4 b5 b6 : List ℕ} {at e1 e2 e3 e4 e5 e6 : ℕ} (a r w : ℕ) → Copied b at (decimal a) b1 e1 →
+    Copied b1 e1 (space ∷ []) b2 e2 → Copied b2 e2 (runningText r) b3 e3 → Copied b3 e3 (space ∷ []) b4 e4 →
+    Copied b4 e4 (decimal w) b5 e5 → Copied b5 e5 (newline ∷ []) b6 e6 → Copied b at (replyLine a r w) b6 e6
+unfolding replyLine
+put-reply a r w p q s t u v = put-then p (put-then q (put-then s (put-then t (put-then u v))))
 
 -- a number below a power of ten has no more digits than the power
 pub decimal-short : (k n : ℕ) → n < 10 ^ suc k → length (decimal n) ≤ suc k
@@ -123,8 +127,8 @@ running-short r h =
     split r nobodyByte (λ e. omega (arith, ap length (running-nobody r e)))
     (λ e. omega (arith, ap length (running-task r e), byte-short r h))
 
-pub pair-short : (a r : ℕ) → a < 256 → r < 256 → length (pairLine a r) ≤ pairRoom
-pair-short a r h g = omega (arith, pair-length a r, byte-short a h, running-short r g)
+pub reply-short : (a r w : ℕ) → a < 256 → r < 256 → w < 256 → length (replyLine a r w) ≤ replyRoom
+reply-short a r w h g f = omega (arith, reply-length a r w, byte-short a h, running-short r g, byte-short w f)
 
 -- while a text is put part by part: what is to come, from where the last part ended
 pub record Left (before : List ℕ) (at : ℕ) (whole : List ℕ) (out : List ℕ) (next : ℕ) (rest : List ℕ) : Type 0 where
@@ -154,29 +158,31 @@ module _ {before : List ℕ} {at : ℕ} {whole : List ℕ} {out : List ℕ} {nex
         fits = h;
       }
 
--- the lines of pairs, two bytes at a time
-pub pairs-here : (pairs : List ℕ) (i : ℕ) → pairSize * i + 1 < length pairs →
-    pairLines (drop (pairSize * i) pairs) ≡
-    pairLine (getD pairs (pairSize * i) 0) (getD pairs (pairSize * i + 1) 0) ++ pairLines (drop (pairSize * (i + 1)) pairs)
-unfolding pairLines
-pairs-here pairs i h =
-    let k = pairSize * i in
-    let e : drop k pairs ≡ getD pairs k 0 ∷ drop (suc k) pairs = drop-cons pairs k 0 (omega arith) in
-    let f : drop (suc k) pairs ≡ getD pairs (suc k) 0 ∷ drop (suc (suc k)) pairs = drop-cons pairs (suc k) 0 (omega arith) in
-    let g : suc k ≡ k + 1 = omega arith in
-    let j : suc (suc k) ≡ pairSize * (i + 1) = omega arith in
-    ap pairLines (e ∙ ap (λ (l : List ℕ). getD pairs k 0 ∷ l) f) ∙
-    (ap (λ (x : ℕ). pairLine (getD pairs k 0) (getD pairs x 0) ++ pairLines (drop (suc (suc k)) pairs)) g ∙
-    ap (λ (x : ℕ). pairLine (getD pairs k 0) (getD pairs (k + 1) 0) ++ pairLines (drop x pairs)) j)
+-- the lines of replies, three bytes at a time
+pub replies-here : (l : List ℕ) (i : ℕ) → replySize * i + 2 < length l →
+    replyLines (drop (replySize * i) l) ≡
+    replyLine (getD l (replySize * i) 0) (getD l (replySize * i + 1) 0) (getD l (replySize * i + 2) 0) ++
+    replyLines (drop (replySize * (i + 1)) l)
+unfolding replyLines
+replies-here l i h =
+    let k = replySize * i in
+    let one : suc k ≡ k + 1 = omega arith in
+    let two : suc (suc k) ≡ k + 2 = omega arith in
+    let three : suc (suc (suc k)) ≡ replySize * (i + 1) = omega arith in
+    let c : drop (suc (suc k)) l ≡ getD l (suc (suc k)) 0 ∷ drop (suc (suc (suc k))) l = drop-cons l (suc (suc k)) 0 (omega arith) in
+    let b : drop (suc k) l ≡ getD l (suc k) 0 ∷ drop (suc (suc k)) l = drop-cons l (suc k) 0 (omega arith) in
+    let a : drop k l ≡ getD l k 0 ∷ drop (suc k) l = drop-cons l k 0 (omega arith) in
+    ap replyLines (a ∙ ap (λ (x : List ℕ). getD l k 0 ∷ x) (b ∙ ap (λ (x : List ℕ). getD l (suc k) 0 ∷ x) c)) ∙ rw (three, two, one)
 
-pub pairs-done : (l : List ℕ) → length l ≤ 1 → pairLines l ≡ []
-unfolding pairLines
-pairs-done [] h = refl
-pairs-done (a ∷ []) h = refl
-pairs-done (a ∷ (r ∷ rest)) h = absurd (omega arith)
+pub replies-done : (l : List ℕ) → length l ≤ 2 → replyLines l ≡ []
+unfolding replyLines
+replies-done [] h = refl
+replies-done (a ∷ []) h = refl
+replies-done (a ∷ r ∷ []) h = refl
+replies-done (a ∷ r ∷ w ∷ rest) h = absurd (omega arith)
 
-pub pairs-end : (pairs : List ℕ) (i : ℕ) → length pairs / pairSize ≤ i → pairLines (drop (pairSize * i) pairs) ≡ []
-pairs-end pairs i h = pairs-done (drop (pairSize * i) pairs) (omega (arith, length-drop (pairSize * i) pairs))
+pub replies-end : (replies : List ℕ) (i : ℕ) → length replies / replySize ≤ i → replyLines (drop (replySize * i) replies) ≡ []
+replies-end replies i h = replies-done (drop (replySize * i) replies) (omega (arith, length-drop (replySize * i) replies))
 
 -- the place of a fault, where it is printed
 module _ (number task position : ℕ) where
@@ -219,21 +225,21 @@ module _ (number task position : ℕ) where
   put-place h g p q s t = put-as _ (place-some h g) (put-then p (put-then q (put-then s t)))
 
 -- the test of the room, without a product
-module _ (pairs : List ℕ) (room : ℕ) where
-  pub room-small : room < otherRoom → false ≡ leb (roomFor pairs) room
+module _ (replies : List ℕ) (room : ℕ) where
+  pub room-small : room < otherRoom → false ≡ leb (roomFor replies) room
   unfolding roomFor
-  room-small h = sym (lt-leb (otherRoom + pairRoom * (length pairs / pairSize)) room (omega arith))
+  room-small h = sym (lt-leb (otherRoom + replyRoom * (length replies / replySize)) room (omega arith))
 
-  pub room-large : otherRoom ≤ room → leb (length pairs / pairSize) ((room - otherRoom) / pairRoom) ≡ leb (roomFor pairs) room
+  pub room-large : otherRoom ≤ room → leb (length replies / replySize) ((room - otherRoom) / replyRoom) ≡ leb (roomFor replies) room
   unfolding roomFor
   room-large h =
-      by-test (leb (length pairs / pairSize) ((room - otherRoom) / pairRoom))
+      by-test (leb (length replies / replySize) ((room - otherRoom) / replyRoom))
       (λ e.
-      let g : length pairs / pairSize ≤ (room - otherRoom) / pairRoom = leb-true _ _ e in
-      e ∙ sym (le-leb (otherRoom + pairRoom * (length pairs / pairSize)) room (omega arith)))
+      let g : length replies / replySize ≤ (room - otherRoom) / replyRoom = leb-true _ _ e in
+      e ∙ sym (le-leb (otherRoom + replyRoom * (length replies / replySize)) room (omega arith)))
       (λ e.
-      let g : (room - otherRoom) / pairRoom < length pairs / pairSize = leb-false _ _ e in
-      e ∙ sym (lt-leb (otherRoom + pairRoom * (length pairs / pairSize)) room (omega arith)))
+      let g : (room - otherRoom) / replyRoom < length replies / replySize = leb-false _ _ e in
+      e ∙ sym (lt-leb (otherRoom + replyRoom * (length replies / replySize)) room (omega arith)))
 
 -- the lines, put together
 pub put-refused : {b b1 b2 b3 b4 b5 : List ℕ} {e1 e2 e3 e4 e5 : ℕ} (number task position : ℕ) → Copied b 0 refusedWord b1 e1 →
@@ -242,50 +248,50 @@ pub put-refused : {b b1 b2 b3 b4 b5 : List ℕ} {e1 e2 e3 e4 e5 : ℕ} (number t
 unfolding refusedLine
 put-refused number task position p q s t u = put-then p (put-then q (put-then s (put-then t u)))
 
-pub put-passed : {b b1 b2 b3 b4 b5 : List ℕ} {e1 e2 e3 e4 e5 : ℕ} (pairs : List ℕ) → Copied b 0 passedWord b1 e1 →
-    Copied b1 e1 (newline ∷ []) b2 e2 → Copied b2 e2 (pairLines pairs) b3 e3 → Copied b3 e3 endWord b4 e4 →
-    Copied b4 e4 (newline ∷ []) b5 e5 → Copied b 0 (passedLines pairs) b5 e5
+pub put-passed : {b b1 b2 b3 b4 b5 : List ℕ} {e1 e2 e3 e4 e5 : ℕ} (replies : List ℕ) → Copied b 0 passedWord b1 e1 →
+    Copied b1 e1 (newline ∷ []) b2 e2 → Copied b2 e2 (replyLines replies) b3 e3 → Copied b3 e3 endWord b4 e4 →
+    Copied b4 e4 (newline ∷ []) b5 e5 → Copied b 0 (passedLines replies) b5 e5
 unfolding passedLines
-put-passed pairs p q s t u = put-then p (put-then q (put-then s (put-then t u)))
+put-passed replies p q s t u = put-then p (put-then q (put-then s (put-then t u)))
 
 -- what a buffer has after the lines, and how many bytes they are
-module _ (a : RunAnswer) (pairs out : List ℕ) where
-  pub lines-none : leb (roomFor pairs) (length out) ≡ false → (0 ≡ linesSize a pairs out) × (out ≡ linesBuffer a pairs out)
+module _ (a : RunAnswer) (replies out : List ℕ) where
+  pub lines-none : leb (roomFor replies) (length out) ≡ false → (0 ≡ linesSize a replies out) × (out ≡ linesBuffer a replies out)
   unfolding linesSize linesBuffer
   lines-none e = (
-    sym (ap (λ (b : Bool). cond b (length (linesOf a pairs)) 0) e),
-    sym (ap (λ (b : Bool). cond b (linesOf a pairs ++ drop (length (linesOf a pairs)) out) out) e),
+    sym (ap (λ (b : Bool). cond b (length (linesOf a replies)) 0) e),
+    sym (ap (λ (b : Bool). cond b (linesOf a replies ++ drop (length (linesOf a replies)) out) out) e),
   )
 
-  lines-made : {out' : List ℕ} {e : ℕ} → leb (roomFor pairs) (length out) ≡ true → Copied out 0 (linesOf a pairs) out' e →
-      (e ≡ linesSize a pairs out) × (out' ≡ linesBuffer a pairs out)
+  lines-made : {out' : List ℕ} {e : ℕ} → leb (roomFor replies) (length out) ≡ true → Copied out 0 (linesOf a replies) out' e →
+      (e ≡ linesSize a replies out) × (out' ≡ linesBuffer a replies out)
   unfolding linesSize linesBuffer
   lines-made {out'} {e} h p =
-      let size : e ≡ length (linesOf a pairs) = omega (arith, p .end) in
-      let none : 0 + length (linesOf a pairs) ≡ length (linesOf a pairs) = omega arith in (
-        size ∙ sym (ap (λ (b : Bool). cond b (length (linesOf a pairs)) 0) h),
-        p .bytes ∙ (sets-eq (linesOf a pairs) out 0 (omega (arith, p .fits)) ∙
-            (ap (λ (k : ℕ). linesOf a pairs ++ drop k out) none ∙
-            sym (ap (λ (b : Bool). cond b (linesOf a pairs ++ drop (length (linesOf a pairs)) out) out) h))),
+      let size : e ≡ length (linesOf a replies) = omega (arith, p .end) in
+      let none : 0 + length (linesOf a replies) ≡ length (linesOf a replies) = omega arith in (
+        size ∙ sym (ap (λ (b : Bool). cond b (length (linesOf a replies)) 0) h),
+        p .bytes ∙ (sets-eq (linesOf a replies) out 0 (omega (arith, p .fits)) ∙
+            (ap (λ (k : ℕ). linesOf a replies ++ drop k out) none ∙
+            sym (ap (λ (b : Bool). cond b (linesOf a replies ++ drop (length (linesOf a replies)) out) out) h))),
       )
 
-  pub lines-passed : {out' : List ℕ} {e : ℕ} → leb (roomFor pairs) (length out) ≡ true → numberOf a ≡ 0 →
-      Copied out 0 (passedLines pairs) out' e →
-      (e ≡ linesSize a pairs out) × (out' ≡ linesBuffer a pairs out)
+  pub lines-passed : {out' : List ℕ} {e : ℕ} → leb (roomFor replies) (length out) ≡ true → numberOf a ≡ 0 →
+      Copied out 0 (passedLines replies) out' e →
+      (e ≡ linesSize a replies out) × (out' ≡ linesBuffer a replies out)
   unfolding linesOf
   lines-passed h z p =
       lines-made h
-      (put-as _ (ap (λ (b : Bool). cond b (passedLines pairs) (refusedLine (numberOf a) (taskOf a) (positionOf a)))
+      (put-as _ (ap (λ (b : Bool). cond b (passedLines replies) (refusedLine (numberOf a) (taskOf a) (positionOf a)))
       (eq-eqb (numberOf a) 0 z)) p)
 
-  pub lines-refused : {out' : List ℕ} {e : ℕ} (number task position : ℕ) → leb (roomFor pairs) (length out) ≡ true → number ≡ numberOf a →
+  pub lines-refused : {out' : List ℕ} {e : ℕ} (number task position : ℕ) → leb (roomFor replies) (length out) ≡ true → number ≡ numberOf a →
       task ≡ taskOf a → position ≡ positionOf a → (number ≡ 0 → ⊥) → Copied out 0 (refusedLine number task position) out' e →
-      (e ≡ linesSize a pairs out) × (out' ≡ linesBuffer a pairs out)
+      (e ≡ linesSize a replies out) × (out' ≡ linesBuffer a replies out)
   unfolding linesOf
   lines-refused number task position h en et ep z p =
       let same : refusedLine number task position ≡ refusedLine (numberOf a) (taskOf a) (positionOf a) = cc in
       let z' : numberOf a ≡ 0 → ⊥ = λ e. z (en ∙ e) in
       lines-made h
       (put-as _
-      (ap (λ (b : Bool). cond b (passedLines pairs) (refusedLine (numberOf a) (taskOf a) (positionOf a)))
+      (ap (λ (b : Bool). cond b (passedLines replies) (refusedLine (numberOf a) (taskOf a) (positionOf a)))
       (ne-eqb (numberOf a) 0 z') ∙ sym same) p)

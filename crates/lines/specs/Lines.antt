@@ -6,7 +6,7 @@ use Prim.Native.Nat.{ℕ, zero, suc, _+_, _*_, _/_, _%_, _≤_}
 use lib.Dec.{eqb, leb, ltb}
 use lib.ListN.{length, drop}
 use lib.Seq.{sets}
-use Rattle.trace.specs.Limits.{pairSize, nobodyByte}
+use Rattle.trace.specs.Limits.{replySize, nobodyByte}
 use Rattle.trace.specs.Answers.{numberOf, taskOf, positionOf, ran}
 use Rattle.trace.specs.declared.RunAnswer.{RunAnswer}
 
@@ -42,18 +42,19 @@ digitsTo (suc k) n =
 unfoldable pub decimal : ℕ → List ℕ
 decimal n = digitsTo (suc n) n
 
--- `0 1`, `0 -`: an event's answer and the running task
+-- `0 1 1`, `0 - 2`: an event's answer, the running task, and since 2026-10 the report "as a third number"
 unfoldable pub runningText : ℕ → List ℕ
 runningText r = cond (eqb r nobodyByte) (dash ∷ []) (decimal r)
 
-unfoldable pub pairLine : ℕ → ℕ → List ℕ
-pairLine a r = decimal a ++ (space ∷ (runningText r ++ (newline ∷ [])))
+unfoldable pub replyLine : ℕ → ℕ → ℕ → List ℕ
+replyLine a r w = decimal a ++ (space ∷ (runningText r ++ (space ∷ (decimal w ++ (newline ∷ [])))))
 
--- "one line each", from the pairs that a run wrote
-unfoldable pub pairLines : List ℕ → List ℕ
-pairLines [] = []
-pairLines (a ∷ []) = []
-pairLines (a ∷ (r ∷ rest)) = pairLine a r ++ pairLines rest
+-- "one line each", from the replies that a run wrote
+unfoldable pub replyLines : List ℕ → List ℕ
+replyLines [] = []
+replyLines (a ∷ []) = []
+replyLines (a ∷ r ∷ []) = []
+replyLines (a ∷ r ∷ w ∷ rest) = replyLine a r w ++ replyLines rest
 
 -- the numbers "16, and then 17 to 20", which have a place; "with 0, 11 to 15, 21 and 22 the place .. isn't printed"
 abbrev pub hasPlace : ℕ → Bool
@@ -71,29 +72,29 @@ refusedLine number task position =
 
 -- `passed`, a line for each event, `end`
 unfoldable pub passedLines : List ℕ → List ℕ
-passedLines pairs = passedWord ++ (newline ∷ (pairLines pairs ++ (endWord ++ (newline ∷ []))))
+passedLines replies = passedWord ++ (newline ∷ (replyLines replies ++ (endWord ++ (newline ∷ []))))
 
 -- "Every refused run prints such a line alone"
 unfoldable pub linesOf : RunAnswer → List ℕ → List ℕ
-linesOf a pairs = cond (ran a) (passedLines pairs) (refusedLine (numberOf a) (taskOf a) (positionOf a))
+linesOf a replies = cond (ran a) (passedLines replies) (refusedLine (numberOf a) (taskOf a) (positionOf a))
 
--- no line of a pair has more bytes than these, and neither have all the other lines together
-abbrev pub pairRoom : ℕ
-pairRoom = 8
+-- no line of a reply has more bytes than these, and neither have all the other lines together
+abbrev pub replyRoom : ℕ
+replyRoom = 12
 
 abbrev pub otherRoom : ℕ
 otherRoom = 40
 
 unfoldable pub roomFor : List ℕ → ℕ
-roomFor pairs = otherRoom + pairRoom * (length pairs / pairSize)
+roomFor replies = otherRoom + replyRoom * (length replies / replySize)
 
 -- the buffer with the lines at its start, and how many bytes they are; untouched, and 0, where it may be too short
 unfoldable pub linesBuffer : RunAnswer → List ℕ → List ℕ → List ℕ
-linesBuffer a pairs out =
-    cond (leb (roomFor pairs) (length out)) (linesOf a pairs ++ drop (length (linesOf a pairs)) out) out
+linesBuffer a replies out =
+    cond (leb (roomFor replies) (length out)) (linesOf a replies ++ drop (length (linesOf a replies)) out) out
 
 unfoldable pub linesSize : RunAnswer → List ℕ → List ℕ → ℕ
-linesSize a pairs out = cond (leb (roomFor pairs) (length out)) (length (linesOf a pairs)) 0
+linesSize a replies out = cond (leb (roomFor replies) (length out)) (length (linesOf a replies)) 0
 
 -- a text put into a buffer from `at` on: the bytes afterwards, and where the text ends
 pub record Copied (before : List ℕ) (at : ℕ) (text : List ℕ) (after : List ℕ) (next : ℕ) : Type 0 where

@@ -4,12 +4,12 @@ ghost use mathlib.Core.List.{[], _∷_};
 ghost use Prim.Native.Nat.{_+_, _*_, _/_, _≤_};
 ghost use lib.Dec.{leb};
 ghost use lib.ListN.{length};
-ghost use Rattle.trace.specs.Limits.{pairSize};
-ghost use Rattle.lines.specs.Lines.{decimal, runningText, pairLine, pairLines, placeText, refusedLine};
-ghost use Rattle.lines.specs.Lines.{passedLines, linesBuffer, linesSize, pairRoom, otherRoom, roomFor, Copied};
+ghost use Rattle.trace.specs.Limits.{replySize};
+ghost use Rattle.lines.specs.Lines.{decimal, runningText, replyLine, replyLines, placeText, refusedLine};
+ghost use Rattle.lines.specs.Lines.{passedLines, linesBuffer, linesSize, replyRoom, otherRoom, roomFor, Copied};
 use trace::RunAnswer;
 use trace::sizes::NOBODY;
-use trace::sizes::PAIR_SIZE;
+use trace::sizes::REPLY_SIZE;
 
 const NEWLINE: u8 = 10;
 
@@ -24,8 +24,8 @@ const FIRST_PLACED: u8 = 16;
 
 const LAST_PLACED: u8 = 20;
 
-// What a buffer has to have for each pair, and for all other lines.
-pub const PAIR_ROOM: usize = 8;
+// What a buffer has to have for each reply, and for all other lines.
+pub const REPLY_ROOM: usize = 12;
 
 pub const OTHER_ROOM: usize = 40;
 
@@ -66,27 +66,36 @@ fn put_running(out: &mut [u8], at: usize, r: u8) -> usize
     put_number(out, at, r as usize)
 }
 
-fn put_pair(out: &mut [u8], at: usize, a: u8, r: u8) -> usize
-    requires { ⌜ at + length (pairLine a r) ≤ length (now out) ⌝ }
-    ensures { λ e. ⌜ Copied (now (out .entry)) at (pairLine a r) (now (out .exit)) e ⌝ }
+// The line of an event: its answer a, the running task r and its report w.
+fn put_reply(out: &mut [u8], at: usize, a: u8, r: u8, w: u8) -> usize
+    requires { ⌜ at + length (replyLine a r w) ≤ length (now out) ⌝ }
+    ensures { λ e. ⌜ Copied (now (out .entry)) at (replyLine a r w) (now (out .exit)) e ⌝ }
 {
     let gap = put_number(out, at, a as usize);
     let second = put_byte(out, gap, SPACE);
-    let end = put_running(out, second, r);
+    let next = put_running(out, second, r);
+    let third = put_byte(out, next, SPACE);
+    let end = put_number(out, third, w as usize);
     put_byte(out, end, NEWLINE)
 }
 
-fn put_pairs(out: &mut [u8], at: usize, pairs: &[u8]) -> usize
-    requires { ⌜ at + pairRoom * (length (now pairs) / pairSize) ≤ length (now out) ⌝ }
-    ensures { λ e. ⌜ Copied (now (out .entry)) at (pairLines (now (pairs .entry))) (now (out .exit)) e ⌝ }
-    ensures { λ e. ⌜ e ≤ at + pairRoom * (length (now (pairs .entry)) / pairSize) ⌝ }
+fn put_replies(out: &mut [u8], at: usize, replies: &[u8]) -> usize
+    requires { ⌜ at + replyRoom * (length (now replies) / replySize) ≤ length (now out) ⌝ }
+    ensures { λ e. ⌜ Copied (now (out .entry)) at (replyLines (now (replies .entry))) (now (out .exit)) e ⌝ }
+    ensures { λ e. ⌜ e ≤ at + replyRoom * (length (now (replies .entry)) / replySize) ⌝ }
 {
-    let n = pairs.len() / PAIR_SIZE;
+    let n = replies.len() / REPLY_SIZE;
     let mut next = at;
     let mut i: usize = 0;
     while i < n {
-        let first = PAIR_SIZE * i;
-        next = put_pair(out, next, pairs[first], pairs[first + 1]);
+        let first = REPLY_SIZE * i;
+        next = put_reply(
+            out,
+            next,
+            replies[first],
+            replies[first + 1],
+            replies[first + 2],
+        );
         i += 1;
     }
     next
@@ -119,40 +128,40 @@ fn put_refused(out: &mut [u8], number: u8, task: u8, position: usize) -> usize
     put_byte(out, end, NEWLINE)
 }
 
-fn put_passed(out: &mut [u8], pairs: &[u8]) -> usize
-    requires { ⌜ roomFor (now pairs) ≤ length (now out) ⌝ }
-    ensures { λ e. ⌜ Copied (now (out .entry)) 0 (passedLines (now (pairs .entry))) (now (out .exit)) e ⌝ }
+fn put_passed(out: &mut [u8], replies: &[u8]) -> usize
+    requires { ⌜ roomFor (now replies) ≤ length (now out) ⌝ }
+    ensures { λ e. ⌜ Copied (now (out .entry)) 0 (passedLines (now (replies .entry))) (now (out .exit)) e ⌝ }
 {
     let first = put(out, 0, b"passed");
     let second = put_byte(out, first, NEWLINE);
-    let last = put_pairs(out, second, pairs);
+    let last = put_replies(out, second, replies);
     let end = put(out, last, b"end");
     put_byte(out, end, NEWLINE)
 }
 
 // Written without a product, which could wrap.
-fn has_room(pairs: &[u8], room: usize) -> bool
-    ensures { λ r. ⌜ r ≡ leb (roomFor (now (pairs .entry))) room ⌝ }
+fn has_room(replies: &[u8], room: usize) -> bool
+    ensures { λ r. ⌜ r ≡ leb (roomFor (now (replies .entry))) room ⌝ }
 {
     if room < OTHER_ROOM {
         return false;
     }
-    pairs.len() / PAIR_SIZE <= (room - OTHER_ROOM) / PAIR_ROOM
+    replies.len() / REPLY_SIZE <= (room - OTHER_ROOM) / REPLY_ROOM
 }
 
-// The lines of a run that answered so and wrote these pairs, at the start of the buffer: how many bytes they are, or 0 where the
-// buffer has fewer than OTHER_ROOM bytes and PAIR_ROOM for each pair, and then nothing is written.
-pub fn lines(answer: RunAnswer, pairs: &[u8], out: &mut [u8]) -> usize
-    ensures { λ r. ⌜ r ≡ linesSize answer (now (pairs .entry)) (now (out .entry)) ⌝ }
-    ensures { λ r. ⌜ now (out .exit) ≡ linesBuffer answer (now (pairs .entry)) (now (out .entry)) ⌝ }
+// The lines of a run that answered so and wrote these replies, at the start of the buffer: how many bytes they are, or 0 where the
+// buffer has fewer than OTHER_ROOM bytes and REPLY_ROOM for each reply, and then nothing is written.
+pub fn lines(answer: RunAnswer, replies: &[u8], out: &mut [u8]) -> usize
+    ensures { λ r. ⌜ r ≡ linesSize answer (now (replies .entry)) (now (out .entry)) ⌝ }
+    ensures { λ r. ⌜ now (out .exit) ≡ linesBuffer answer (now (replies .entry)) (now (out .entry)) ⌝ }
 {
     let room = out.len();
-    if !has_room(pairs, room) {
+    if !has_room(replies, room) {
         return 0;
     }
     let number = answer.number();
     if number == 0 {
-        return put_passed(out, pairs);
+        return put_passed(out, replies);
     }
     put_refused(out, number, answer.task(), answer.position())
 }

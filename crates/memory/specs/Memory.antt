@@ -8,7 +8,8 @@ use Rattle.rules.specs.Limits.{taskLimit, objectLimit}
 use Rattle.rules.specs.Model.{Model, TaskRecord, NextBase, none, waits, blank}
 use Rattle.rules.specs.Moved.{Moved}
 use Rattle.rules.specs.Sound.{sound}
-use Rattle.rules.specs.declared.Answer.{Answer}
+use Rattle.rules.specs.Answers.{answerOf, reportOf}
+use Rattle.rules.specs.declared.Ruling.{Ruling}
 use Rattle.rules.specs.declared.Runner.{Runner}
 use Rattle.rules.specs.declared.Runner.the-variants.{Nobody, Task as Runs}
 use Rattle.rules.specs.declared.WaitingBase.{WaitingBase}
@@ -94,14 +95,16 @@ pub record Valid (h ts hd cs qs : List ℕ) : Type 0 where
   pub laid : LaidOut h ts hd cs qs
   pub sound : sound (modelOf h ts hd cs qs) ≡ true
 
--- after an event: its answer too
-pub record Did (h ts hd cs qs : List ℕ) (a : Answer) (r : Moved) : Type 0 where
+-- after an event: its answer and report too
+pub record Did (h ts hd cs qs : List ℕ) (x : Ruling) (r : Moved) : Type 0 where
   pub same : modelOf h ts hd cs qs ≡ r .model
   pub laid : LaidOut h ts hd cs qs
-  pub answer : a ≡ r .answer
+  pub answer : answerOf x ≡ r .answer
+  pub report : reportOf x ≡ r .report
 
 -- after an event of a sound Model: laid out and sound again
-pub record Moves (h ts hd cs qs : List ℕ) (a : Answer) (r : Moved) : Type 0 where
+pub record Moves (h ts hd cs qs : List ℕ) (x : Ruling) (r : Moved) : Type 0 where
   pub same : modelOf h ts hd cs qs ≡ r .model
   pub valid : Valid h ts hd cs qs
-  pub answer : a ≡ r .answer
+  pub answer : answerOf x ≡ r .answer
+  pub report : reportOf x ≡ r .report

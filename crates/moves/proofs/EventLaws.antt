@@ -10,33 +10,56 @@ use lib.ListN.{length}
 use Rattle.rules.specs.Model.{Model, TaskRecord, withNow, taskAt}
 use Rattle.rules.specs.Moves.{becomeReady, dispatch}
 use Rattle.rules.specs.Moved.{Moved, refused, accepted}
-use Rattle.rules.specs.Events.{Due as RuleDue, rest, permitOn, releaseFrom, nobody, task, dueAt, earlier, firstDue, wake, wakeUp}
+use Rattle.rules.specs.Events.{takeHold, Due as RuleDue, rest, permitOn, releaseFrom, nobody, task, dueAt, earlier, firstDue, wake, wakeUp}
 use Rattle.rules.specs.declared.Place.{Place}
 use Rattle.rules.specs.declared.Place.the-variants.{Running, Ready, Delayed, Suspended, Ended}
 use Rattle.rules.specs.declared.Answer.{Answer}
-use Rattle.rules.specs.declared.Answer.the-variants.{Done}
+use Rattle.rules.specs.declared.Runner.{Runner}
+use Rattle.rules.specs.declared.Runner.the-variants.{Task}
+use Rattle.rules.specs.declared.Report.the-variants.{Unchanged}
+use Rattle.rules.specs.declared.Ruling.{Ruling}
+use Rattle.rules.specs.declared.Ruling.the-variants.{Refused, Accepted}
 use Rattle.rules.proofs.Choices.{clash, cond-true, cond-false}
 use Rattle.rules.proofs.EventLaws.{rest-permit}
 use Rattle.rules.proofs.Pending.{Good}
-use Rattle.rules.proofs.StillLaws.{still-now, still-permit}
+use Rattle.rules.proofs.ReportLaws.{same-report}
+use Rattle.rules.proofs.StillLaws.{still, still-enter, still-now, still-permit}
 use Rattle.moves.specs.declared.effects.Due.{Due}
 use Rattle.moves.specs.Room.{isSuspended, ruleDueOf, someDue}
 use Rattle.memory.specs.Memory.{modelOf, LaidOut, Means, Did}
 
--- refused; or accepted with the Model n before the dispatch
+-- refused; accepted, the dispatch being of the Model n
 pub did-not : {h ts hd cs qs : List ℕ} {r : Moved} (a : Answer) → LaidOut h ts hd cs qs → r ≡ refused (modelOf h ts hd cs qs) a →
-    Did h ts hd cs qs a r
+    Did h ts hd cs qs (Refused a) r
 did-not a d e =
-    record { same = sym (ap (λ (x : Moved). x .model) e); laid = d; answer = sym (ap (λ (x : Moved). x .answer) e) }
-
-pub did : {h ts hd cs qs : List ℕ} {r : Moved} (n : Model) → Means h ts hd cs qs (dispatch n) → r ≡ accepted n →
-    Did h ts hd cs qs Done r
-unfolding accepted
-did n x e =
     record {
-      same = x .same ∙ sym (ap (λ (y : Moved). y .model) e);
+      same = sym (ap (λ (x : Moved). x .model) e);
+      laid = d;
+      answer = sym (ap (λ (x : Moved). x .answer) e);
+      report = sym (ap (λ (x : Moved). x .report) e);
+    }
+
+pub did : {h ts hd cs qs h' ts' hd' cs' qs' : List ℕ} {x : Ruling} {r : Moved} {n : Model} (w : Runner) → Means h ts hd cs qs n →
+    Did h' ts' hd' cs' qs' x (accepted w (modelOf h ts hd cs qs)) → r ≡ accepted w n → Did h' ts' hd' cs' qs' x r
+did w m d e = rw e (rw (m .same) at d)
+
+-- n is the Model m but for what no dispatch looks at, so that no dispatch is needed
+pub record Quiet (m n : Model) : Type 0 where
+  pub still : dispatch n ≡ n
+  pub runner : n .running ≡ m .running
+
+pub did-quiet : {h ts hd cs qs : List ℕ} {r : Moved} {m n : Model} → Means h ts hd cs qs n → Quiet m n → r ≡ accepted (m .running) n →
+    Did h ts hd cs qs (Accepted Unchanged) r
+unfolding accepted
+did-quiet {m = m} {n = n} x q e =
+    record {
+      same = x .same ∙ sym (q .still) ∙ sym (ap (λ (y : Moved). y .model) e);
       laid = x .laid;
       answer = sym (ap (λ (y : Moved). y .answer) e);
+      report =
+          sym (same-report (m .running) (n .running) (dispatch n .running) .1
+          (ap (λ (v : Model). v .running) (q .still) ∙ q .runner)) ∙
+          sym (ap (λ (y : Moved). y .report) e);
     }
 
 -- Release
@@ -137,19 +160,25 @@ none-wakes r n m e = wake-rest r 0 n m (omega arith) (none-is (firstDue r nobody
 
 -- .. and a dispatch moves nobody
 pub quiet-clock : (m : Model) (r n : ℕ) → Good false m → someDue (firstDue r nobody 0 (m .tasks)) ≡ false →
-    wakeUp r n (withNow m r) ≡ dispatch (wakeUp r n (withNow m r))
+    Quiet m (wakeUp r n (withNow m r))
 quiet-clock m r n h e =
     let w : withNow m r ≡ wakeUp r n (withNow m r) = none-wakes r n (withNow m r) e in
-    sym w ∙ sym (still-now m r h) ∙ ap dispatch w
+    record { still = ap dispatch (sym w) ∙ still-now m r h ∙ w; runner = ap (λ (v : Model). v .running) (sym w) }
 
 -- a Release of a task that is not suspended, and a Suspend with a permit
-pub quiet-release : (m : Model) (t : ℕ) (x : Place) → Good false m → isSuspended x ≡ false →
-    releaseFrom m t x ≡ dispatch (releaseFrom m t x)
+pub quiet-release : (m : Model) (t : ℕ) (x : Place) → Good false m → isSuspended x ≡ false → Quiet m (releaseFrom m t x)
 quiet-release m t x h e =
     let p = release-permit m t x e in
-    p ∙ sym (still-permit m t true h) ∙ ap dispatch (sym p)
+    record { still = ap dispatch p ∙ still-permit m t true h ∙ sym p; runner = ap (λ (v : Model). v .running) p }
 
-pub quiet-rest : (m : Model) (t : ℕ) → Good false m → taskAt m t .permit ≡ true → rest m t ≡ dispatch (rest m t)
+pub quiet-rest : (m : Model) (t : ℕ) → Good false m → taskAt m t .permit ≡ true → Quiet m (rest m t)
 quiet-rest m t h e =
     let p = rest-permit m t e in
-    p ∙ sym (still-permit m t false h) ∙ ap dispatch (sym p)
+    record { still = ap dispatch p ∙ still-permit m t false h ∙ sym p; runner = ap (λ (v : Model). v .running) p }
+
+-- an Enter, and Work
+pub quiet-enter : (m : Model) (o t : ℕ) → Good false m → m .running ≡ Task t → Quiet m (takeHold m o t)
+quiet-enter m o t h e = record { still = still-enter m t h e o; runner = refl }
+
+pub quiet-work : (m : Model) (t : ℕ) → Good false m → m .running ≡ Task t → Quiet m m
+quiet-work m t h e = record { still = still m t h e; runner = refl }

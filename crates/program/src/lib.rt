@@ -11,8 +11,8 @@ mod printing;
 
 pub use printing::printed;
 
-// Two bytes for each of the 4,096 events that a run takes.
-const PAIRS_ROOM: usize = 8192;
+// Three bytes for each of the 4,096 events that a run takes.
+const REPLIES_ROOM: usize = 12288;
 
 // So many bytes past the longest events are read, so that whoever writes them is not cut off.
 const LONGEST_REST: usize = 1073741824;
@@ -86,8 +86,8 @@ fn text(roster: &[u8], events: &[u8], out: &mut [u8]) -> usize
     ensures { λ r. ⌜ Counts r (now (out .exit)) ⌝ }
     ensures { λ r. ⌜ take r (now (out .exit)) ≡ printed (now (roster .entry)) (now (events .entry)) ⌝ }
 {
-    let mut pairs = [0u8; PAIRS_ROOM];
-    printed(roster, events, &mut pairs, out)
+    let mut replies = [0u8; REPLIES_ROOM];
+    printed(roster, events, &mut replies, out)
 }
 
 // Runs roster.bin under the events of standard input and prints the lines. A program has no exit status to give, so a failed write

@@ -8,7 +8,8 @@ use borrow.Author.Tests.{eqb-false, leb-false}
 use lib.Dec.{eqb, leb}
 use lib.ListN.{length, length-set}
 use Rattle.rules.specs.Limits.{taskLimit}
-use Rattle.rules.specs.Model.{Model, TaskRecord, blank, withPlace, taskAt, active, withReady, withRunning, withTask}
+use Rattle.rules.specs.Model.{Model, TaskRecord, blank, withPlace, taskAt, activeOf, active, withReady, withRunning}
+use Rattle.rules.specs.Model.{withTask}
 use Rattle.rules.specs.Moves.{highest, headOf, stopped, becomeReady, preempt, start, dispatchBy, dispatch}
 use Rattle.rules.specs.Sound.{isReady, isRunning, runs}
 use Rattle.rules.specs.declared.Place.{Place}
@@ -125,3 +126,7 @@ alike-by m c (Task t) e =
 pub alike-dispatch : {ord : Bool} (m : Model) → Core ord m taskLimit → Alike m (dispatch m)
 unfolding dispatch
 alike-dispatch m c = alike-by m c (m .running) refl
+
+-- who is alike has the same active priority
+pub alike-active : {m n : Model} → Alike m n → (u : ℕ) → active n u ≡ active m u
+alike-active {m} {n} a u = ap (λ (cs : List ℕ). activeOf cs (taskAt n u)) (a .ceilings) ∙ ap (activeOf (m .ceilings)) (a .each u)

@@ -33,9 +33,9 @@ refuses : (a : Answer) → 0 < numberOf a → a ≡ Done → ⊥
 refuses a h e = omega (arith, ap numberOf e)
 
 -- an accepted event gives the dispatch of what it does
-pub done-is : (m : Model) (e : Event) → apply m e .answer ≡ Done → apply m e ≡ accepted (effect m e)
+pub done-is : (m : Model) (e : Event) → apply m e .answer ≡ Done → apply m e ≡ accepted (m .running) (effect m e)
 done-is m e =
-    each-way (λ (r : Moved). r .answer ≡ Done → r ≡ accepted (effect m e)) m (λ a n d. absurd (refuses a n d)) e (λ d. refl)
+    each-way (λ (r : Moved). r .answer ≡ Done → r ≡ accepted (m .running) (effect m e)) m (λ a n d. absurd (refuses a n d)) e (λ d. refl)
 
 pub done-model : (m : Model) (e : Event) → apply m e .answer ≡ Done → apply m e .model ≡ dispatch (effect m e)
 unfolding accepted

@@ -32,7 +32,7 @@ module _ (m : Model) (o : ℕ) where
   entering : ℕ → Moved
   entering t =
       cond (holds (taskAt m t) o) (refused m InsideAction)
-      (cond (overCeiling m o t) (refused m AboveCeiling) (accepted (takeHold m o t)))
+      (cond (overCeiling m o t) (refused m AboveCeiling) (accepted (m .running) (takeHold m o t)))
 
   pub enter-2 : noObject m o ≡ true → enter m o ≡ refused m NoSuchObject
   unfolding enter entering
@@ -57,7 +57,7 @@ module _ (m : Model) (o : ℕ) where
       cond-true (overCeiling m o t) (refused m AboveCeiling) _ a
 
   pub enter-0 : (t : ℕ) → noObject m o ≡ false → m .running ≡ Task t → holds (taskAt m t) o ≡ false →
-      overCeiling m o t ≡ false → enter m o ≡ accepted (takeHold m o t)
+      overCeiling m o t ≡ false → enter m o ≡ accepted (m .running) (takeHold m o t)
   unfolding entering
   enter-0 t e w h a =
       on-enter e ∙ by-task m entering t w ∙ cond-false (holds (taskAt m t) o) (refused m InsideAction) _ h ∙
@@ -66,7 +66,7 @@ module _ (m : Model) (o : ℕ) where
 -- Leave
 module _ (m : Model) (o : ℕ) where
   leaving : ℕ → Moved
-  leaving t = cond (not (innermost (taskAt m t) o)) (refused m NotInnermost) (accepted (settle (giveUp m t) t))
+  leaving t = cond (not (innermost (taskAt m t) o)) (refused m NotInnermost) (accepted (m .running) (settle (giveUp m t) t))
 
   pub leave-2 : noObject m o ≡ true → leave m o ≡ refused m NoSuchObject
   unfolding leave leaving
@@ -85,7 +85,7 @@ module _ (m : Model) (o : ℕ) where
       on-leave e ∙ by-task m leaving t w ∙ cond-true (not (innermost (taskAt m t) o)) (refused m NotInnermost) _ (ap not h)
 
   pub leave-0 : (t : ℕ) → noObject m o ≡ false → m .running ≡ Task t → innermost (taskAt m t) o ≡ true →
-      leave m o ≡ accepted (settle (giveUp m t) t)
+      leave m o ≡ accepted (m .running) (settle (giveUp m t) t)
   unfolding leaving
   leave-0 t e w h =
       on-leave e ∙ by-task m leaving t w ∙ cond-false (not (innermost (taskAt m t) o)) (refused m NotInnermost) _ (ap not h)
@@ -107,7 +107,7 @@ settle-due m t p e w = cond-false (inside (taskAt m t)) m (settleWith m t (taskA
 -- an event of the running task that is refused inside an action, and does x
 module _ (m : Model) (x : ℕ → Model) where
   outside : Moved
-  outside = refuseIfNobody m (m .running) (λ t. cond (inside (taskAt m t)) (refused m InsideAction) (accepted (x t)))
+  outside = refuseIfNobody m (m .running) (λ t. cond (inside (taskAt m t)) (refused m InsideAction) (accepted (m .running) (x t)))
 
   outside-5 : m .running ≡ Nobody → outside ≡ refused m NobodyRuns
   unfolding outside
@@ -115,11 +115,11 @@ module _ (m : Model) (x : ℕ → Model) where
 
   outside-7 : (t : ℕ) → m .running ≡ Task t → inside (taskAt m t) ≡ true → outside ≡ refused m InsideAction
   unfolding outside
-  outside-7 t w h = by-task m _ t w ∙ cond-true (inside (taskAt m t)) (refused m InsideAction) (accepted (x t)) h
+  outside-7 t w h = by-task m _ t w ∙ cond-true (inside (taskAt m t)) (refused m InsideAction) (accepted (m .running) (x t)) h
 
-  outside-0 : (t : ℕ) → m .running ≡ Task t → inside (taskAt m t) ≡ false → outside ≡ accepted (x t)
+  outside-0 : (t : ℕ) → m .running ≡ Task t → inside (taskAt m t) ≡ false → outside ≡ accepted (m .running) (x t)
   unfolding outside
-  outside-0 t w h = by-task m _ t w ∙ cond-false (inside (taskAt m t)) (refused m InsideAction) (accepted (x t)) h
+  outside-0 t w h = by-task m _ t w ∙ cond-false (inside (taskAt m t)) (refused m InsideAction) (accepted (m .running) (x t)) h
 
 -- Delay
 module _ (m : Model) (d : ℕ) where
@@ -131,7 +131,7 @@ module _ (m : Model) (d : ℕ) where
   unfolding delay outside
   delay-7 t w h = outside-7 m (λ t. putOff (stopped m) t d) t w h
 
-  pub delay-0 : (t : ℕ) → m .running ≡ Task t → inside (taskAt m t) ≡ false → delay m d ≡ accepted (putOff (stopped m) t d)
+  pub delay-0 : (t : ℕ) → m .running ≡ Task t → inside (taskAt m t) ≡ false → delay m d ≡ accepted (m .running) (putOff (stopped m) t d)
   unfolding delay outside
   delay-0 t w h = outside-0 m (λ t. putOff (stopped m) t d) t w h
 
@@ -153,7 +153,7 @@ module _ (m : Model) where
   unfolding suspend outside
   suspend-7 t w h = outside-7 m (rest m) t w h
 
-  pub suspend-0 : (t : ℕ) → m .running ≡ Task t → inside (taskAt m t) ≡ false → suspend m ≡ accepted (rest m t)
+  pub suspend-0 : (t : ℕ) → m .running ≡ Task t → inside (taskAt m t) ≡ false → suspend m ≡ accepted (m .running) (rest m t)
   unfolding suspend outside
   suspend-0 t w h = outside-0 m (rest m) t w h
 
@@ -176,17 +176,17 @@ module _ (m : Model) where
   finish-7 t w h = outside-7 m (end m) t w h
 
   pub finish-0 : (t : ℕ) → m .running ≡ Task t → inside (taskAt m t) ≡ false →
-      finish m ≡ accepted (end m t)
+      finish m ≡ accepted (m .running) (end m t)
   unfolding finish outside
   finish-0 t w h = outside-0 m (end m) t w h
 
   pub work-5 : m .running ≡ Nobody → work m ≡ refused m NobodyRuns
   unfolding work
-  work-5 w = by-nobody m (λ t. accepted m) w
+  work-5 w = by-nobody m (λ t. accepted (m .running) m) w
 
-  pub work-0 : (t : ℕ) → m .running ≡ Task t → work m ≡ accepted m
+  pub work-0 : (t : ℕ) → m .running ≡ Task t → work m ≡ accepted (m .running) m
   unfolding work
-  work-0 t w = by-task m (λ t. accepted m) t w
+  work-0 t w = by-task m (λ t. accepted (m .running) m) t w
 
 -- Release
 module _ (m : Model) (t : ℕ) where
@@ -194,7 +194,7 @@ module _ (m : Model) (t : ℕ) where
   unfolding release
   release-1 e = cond-true (noTask m t) (refused m NoSuchTask) _ e
 
-  pub release-0 : noTask m t ≡ false → release m t ≡ accepted (releaseFrom m t (taskAt m t .place))
+  pub release-0 : noTask m t ≡ false → release m t ≡ accepted (m .running) (releaseFrom m t (taskAt m t .place))
   unfolding release
   release-0 e = cond-false (noTask m t) (refused m NoSuchTask) _ e
 
@@ -204,7 +204,7 @@ module _ (m : Model) (r : ℕ) where
   unfolding clock
   clock-4 e = cond-true (badReading (m .now) r) (refused m BadReading) _ e
 
-  pub clock-0 : badReading (m .now) r ≡ false → clock m r ≡ accepted (takeReading m r)
+  pub clock-0 : badReading (m .now) r ≡ false → clock m r ≡ accepted (m .running) (takeReading m r)
   unfolding clock
   clock-0 e = cond-false (badReading (m .now) r) (refused m BadReading) _ e
 
@@ -212,7 +212,7 @@ module _ (m : Model) (r : ℕ) where
 module _ (m : Model) (t p : ℕ) where
   -- the priority being good; the task being there
   known : Moved
-  known = cond (isEnded (taskAt m t .place)) (refused m EndedTask) (accepted (rebase m t p))
+  known = cond (isEnded (taskAt m t .place)) (refused m EndedTask) (accepted (m .running) (rebase m t p))
 
   setting : Moved
   setting = cond (not (inRange p)) (refused m BadPriority) known
@@ -237,7 +237,7 @@ module _ (m : Model) (t p : ℕ) where
   unfolding known
   set-6 e g h = on-known e g ∙ cond-true (isEnded (taskAt m t .place)) (refused m EndedTask) _ h
 
-  pub set-0 : noTask m t ≡ false → inRange p ≡ true → isEnded (taskAt m t .place) ≡ false → setBase m t p ≡ accepted (rebase m t p)
+  pub set-0 : noTask m t ≡ false → inRange p ≡ true → isEnded (taskAt m t .place) ≡ false → setBase m t p ≡ accepted (m .running) (rebase m t p)
   unfolding known
   set-0 e g h = on-known e g ∙ cond-false (isEnded (taskAt m t .place)) (refused m EndedTask) _ h
 

@@ -12,8 +12,7 @@ use Rattle.rules.specs.Limits.{taskLimit, objectLimit, lastPriority}
 use Rattle.rules.specs.Priorities.{inRange}
 use Rattle.rules.specs.Model.{Model, TaskRecord, blank, withPlace, taskAt}
 use Rattle.rules.specs.Moves.{becomeReady}
-use Rattle.rules.specs.Moved.{Moved}
-use Rattle.rules.specs.Fresh.{Setup, newTask, newTasks, unstarted, joinFrom, freshModel, singleTask, refusedFresh}
+use Rattle.rules.specs.Fresh.{Begun, Setup, newTask, newTasks, unstarted, joinFrom, freshModel, singleTask, refusedFresh}
 use Rattle.rules.specs.Fresh.{setupCounted, setupInRange, fresh, Startable}
 use Rattle.rules.specs.Sound.{runs, isReady, isRunning, dueGood, sound}
 use Rattle.rules.specs.declared.Place.the-variants.{Ready}
@@ -191,7 +190,7 @@ module _ (s : Setup) (ok : Startable s) where
 -- the three ways of a fresh start
 module _ (s : Setup) where
   -- with counts in range, with bases and ceilings in range too
-  counted : Moved
+  counted : Begun
   counted =
       cond (not (setupInRange s)) (record { answer = BadBases; model = refusedFresh }) (record { answer = Done; model = freshModel s })
 
@@ -234,8 +233,8 @@ refused-good = fresh-good singleTask (startable-by singleTask refl refl)
 pub start-good : (s : Setup) → Good true (fresh s .model)
 unfolding fresh
 start-good s =
-    both-ways (λ (r : Moved). Good true (r .model)) (not (setupCounted s)) _ _ (λ e. refused-good)
-    (λ e. both-ways (λ (r : Moved). Good true (r .model)) (not (setupInRange s)) _ _ (λ f. refused-good)
+    both-ways (λ (r : Begun). Good true (r .model)) (not (setupCounted s)) _ _ (λ e. refused-good)
+    (λ e. both-ways (λ (r : Begun). Good true (r .model)) (not (setupInRange s)) _ _ (λ f. refused-good)
     (λ f. fresh-good s (startable-by s (not-false _ e) (not-false _ f))))
 
 pub fresh-sound : (s : Setup) → sound (fresh s .model) ≡ true

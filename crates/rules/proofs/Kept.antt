@@ -62,9 +62,9 @@ good-dispatch {ord} m h = record {
 abbrev Keeps : Bool → Moved → Type 0
 Keeps ord r = Good ord (r .model)
 
-keep-accepted : {ord : Bool} (m : Model) → Pending ord m → Keeps ord (accepted m)
+keep-accepted : {ord : Bool} (w : Runner) (m : Model) → Pending ord m → Keeps ord (accepted w m)
 unfolding accepted
-keep-accepted m h = good-dispatch m h
+keep-accepted w m h = good-dispatch m h
 
 -- for the running task, if there is one
 for-runner : {ord : Bool} (m : Model) (x : ℕ → Model) → Pending ord m → ((t : ℕ) → m .running ≡ Task t → Pending ord (x t)) →
@@ -101,7 +101,7 @@ pending-done m e f h d = pending-effect m e f h (done-only-when m e d)
 
 -- every event
 pub keep : {ord : Bool} (m : Model) (e : Event) → delayFits e ≡ true → Good ord m → Keeps ord (apply m e)
-keep {ord} m e f h = each-done (Keeps ord) m e (λ a n. h) (λ none. keep-accepted (effect m e) (pending-effect m e f h none))
+keep {ord} m e f h = each-done (Keeps ord) m e (λ a n. h) (λ none. keep-accepted (m .running) (effect m e) (pending-effect m e f h none))
 
 -- one holder for each object, wherever the ceiling order holds
 pub one-holder : (m : Model) → Good true m → OneHolder m

@@ -22,6 +22,7 @@ pub mod Histories
 pub mod MoveLaws
 pub mod EventLaws
 pub mod Effects
+pub mod ReportLaws
 pub mod Unchanged
 pub mod Cases
 pub mod PriorityLaws

@@ -9,7 +9,7 @@ use mathlib.Core.Logic.{_↔_, _⊎_, inl, inr}
 use Rattle.rules.specs.Priorities.{inRange}
 use Rattle.rules.specs.Answers.{numberOf}
 use Rattle.rules.specs.Model.{Model, taskAt}
-use Rattle.rules.specs.Moved.{Moved, refused, accepted, refuseIfNobody}
+use Rattle.rules.specs.Moved.{Moved, isNobody, refused, accepted, refuseIfNobody}
 use Rattle.rules.specs.Events.{noTask, noObject, isEnded, apply}
 use Rattle.rules.specs.Events.{enter, leave, delay, suspend, release, clock, setBase, work, finish, badReading}
 use Rattle.rules.specs.declared.Runner.{Runner}
@@ -21,7 +21,7 @@ use Rattle.rules.specs.declared.Answer.the-variants.{Done, NoSuchTask, N
 use Rattle.rules.specs.declared.Answer.the-variants.{InsideAction, AboveCeiling, NotInnermost, Unsound, BadCounts, BadBases}
 use Rattle.rules.specs.Effect.{effect}
 use Rattle.rules.specs.Refusals.{noSuchTask, noSuchObject, badPriority, badClock, nobodyRuns, endedTask, insideAction, aboveCeiling}
-use Rattle.rules.specs.Refusals.{notInnermost, ofRunner, isNobody, table, lowest, appliesAt, First, Row, RefusalsClaim}
+use Rattle.rules.specs.Refusals.{notInnermost, ofRunner, table, lowest, appliesAt, First, Row, RefusalsClaim}
 use Rattle.rules.proofs.Choices.{split, both-ways, cond-true, cond-false}
 use Rattle.rules.proofs.Ways.{each-way}
 
@@ -32,21 +32,21 @@ answer-cond false x y = refl
 
 -- an event of the running task with the tests f and g: refused, or accepted
 one-test : (m : Model) (w : Runner) (a : Answer) (f : ℕ → Bool) (x : ℕ → Model) →
-    refuseIfNobody m w (λ t. cond (f t) (refused m a) (accepted (x t))) .answer ≡ cond (isNobody w) NobodyRuns (cond (ofRunner w f) a Done)
+    refuseIfNobody m w (λ t. cond (f t) (refused m a) (accepted (m .running) (x t))) .answer ≡ cond (isNobody w) NobodyRuns (cond (ofRunner w f) a Done)
 unfolding refuseIfNobody ofRunner isNobody accepted
 one-test m Nobody a f x = refl
-one-test m (Task t) a f x = answer-cond (f t) (refused m a) (accepted (x t))
+one-test m (Task t) a f x = answer-cond (f t) (refused m a) (accepted (m .running) (x t))
 
 two-tests : (m : Model) (w : Runner) (a b : Answer) (f g : ℕ → Bool) (x : ℕ → Model) →
-    refuseIfNobody m w (λ t. cond (f t) (refused m a) (cond (g t) (refused m b) (accepted (x t)))) .answer ≡
+    refuseIfNobody m w (λ t. cond (f t) (refused m a) (cond (g t) (refused m b) (accepted (m .running) (x t)))) .answer ≡
     cond (isNobody w) NobodyRuns (cond (ofRunner w f) a (cond (ofRunner w g) b Done))
 unfolding refuseIfNobody ofRunner isNobody accepted
 two-tests m Nobody a b f g x = refl
 two-tests m (Task t) a b f g x =
-    answer-cond (f t) (refused m a) (cond (g t) (refused m b) (accepted (x t))) ∙
-    ap (cond (f t) a) (answer-cond (g t) (refused m b) (accepted (x t)))
+    answer-cond (f t) (refused m a) (cond (g t) (refused m b) (accepted (m .running) (x t))) ∙
+    ap (cond (f t) a) (answer-cond (g t) (refused m b) (accepted (m .running) (x t)))
 
-no-test : (m : Model) (w : Runner) → refuseIfNobody m w (λ t. accepted m) .answer ≡ cond (isNobody w) NobodyRuns Done
+no-test : (m : Model) (w : Runner) → refuseIfNobody m w (λ t. accepted (m .running) m) .answer ≡ cond (isNobody w) NobodyRuns Done
 unfolding refuseIfNobody isNobody accepted
 no-test m Nobody = refl
 no-test m (Task t) = refl
@@ -172,12 +172,12 @@ done-only-when m e d j = go (firstOf (table m e) j)
 abbrev Unchanged : Model → Moved → Type 0
 Unchanged m r = (r .answer ≡ Done → ⊥) → r .model ≡ m
 
-same-done : (m n : Model) → Unchanged m (accepted n)
+same-done : (m : Model) (w : Runner) (n : Model) → Unchanged m (accepted w n)
 unfolding accepted
-same-done m n f = absurd (f refl)
+same-done m w n f = absurd (f refl)
 
 pub refused-same : (m : Model) (e : Event) → (apply m e .answer ≡ Done → ⊥) → apply m e .model ≡ m
-refused-same m e = each-way (Unchanged m) m (λ a n f. refl) e (same-done m (effect m e))
+refused-same m e = each-way (Unchanged m) m (λ a n f. refl) e (same-done m (m .running) (effect m e))
 
 pub refusals : RefusalsClaim
 refusals m e = record {
@@ -189,7 +189,7 @@ refusals m e = record {
 
 -- a fact of every refusal, and of the accepted event where no row applies, is one of the event
 pub each-done : (P : Moved → Type 0) (m : Model) (e : Event) → ((a : Answer) → 0 < numberOf a → P (refused m a)) →
-    (((j : ℕ) → appliesAt (table m e) j ≡ false) → P (accepted (effect m e))) → P (apply m e)
+    (((j : ℕ) → appliesAt (table m e) j ≡ false) → P (accepted (m .running) (effect m e))) → P (apply m e)
 unfolding accepted
 each-done P m e bad good =
     each-way (λ (r : Moved). r ≡ apply m e → P r) m (λ a n q. bad a n) e

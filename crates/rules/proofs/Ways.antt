@@ -23,13 +23,13 @@ module _ (P : Moved → Type 0) (m : Model) (no : (a : Answer) → 0 < numberOf 
   unless : (b : Bool) (a : Answer) (r : Moved) → 0 < numberOf a → P r → P (cond b (refused m a) r)
   unless b a r h p = both-ways P b (refused m a) r (λ e. no a h) (λ e. p)
 
-  by-runner : (w : Runner) (f : ℕ → Moved) (x : ℕ → Model) → P (accepted (forRunner m w x)) →
-      ((t : ℕ) → P (accepted (x t)) → P (f t)) → P (refuseIfNobody m w f)
+  by-runner : (w : Runner) (f : ℕ → Moved) (x : ℕ → Model) → P (accepted (m .running) (forRunner m w x)) →
+      ((t : ℕ) → P (accepted (m .running) (x t)) → P (f t)) → P (refuseIfNobody m w f)
   unfolding refuseIfNobody forRunner
   by-runner Nobody f x p g = no NobodyRuns (omega arith)
   by-runner (Task t) f x p g = g t p
 
-  pub each-way : (e : Event) → P (accepted (effect m e)) → P (apply m e)
+  pub each-way : (e : Event) → P (accepted (m .running) (effect m e)) → P (apply m e)
   unfolding forRunner apply effect enter leave delay suspend release clock setBase work finish
   each-way (Enter o) p =
       unless (noObject m o) _ _ (omega arith) (by-runner (m .running) _ (takeHold m o) p (λ t q.
@@ -47,7 +47,7 @@ module _ (P : Moved → Type 0) (m : Model) (no : (a : Answer) → 0 < numberOf 
       (unless (isEnded (taskAt m t .place)) _ _ (omega arith) p))
   each-way Work p = by-runner (m .running) _ (λ t. m) (idle (m .running)) (λ t q. q)
     where
-      idle : (w : Runner) → P (accepted (forRunner m w (λ t. m)))
+      idle : (w : Runner) → P (accepted (m .running) (forRunner m w (λ t. m)))
       idle Nobody = p
       idle (Task t) = p
   each-way Finish p = by-runner (m .running) _ (end m) p (λ t q. unless (inside (taskAt m t)) _ _ (omega arith) q)

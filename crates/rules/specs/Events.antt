@@ -1,4 +1,4 @@
--- The nine events: what each answers, and the Model after it.
+-- The nine events: what each answers and reports, and the Model after it.
 use mathlib.Core.Bool.{Bool, true, false, cond, not, _&&_, _||_}
 use mathlib.Core.List.{List, [], _∷_, _++_}
 use Prim.Native.Nat.{ℕ, zero, suc, _+_, _-_}
@@ -48,7 +48,7 @@ enter m o =
     (refuseIfNobody m (m .running) (λ t.
     refuseIf m (holds (taskAt m t) o) InsideAction
     (refuseIf m (overCeiling m o t) AboveCeiling
-    (accepted (takeHold m o t)))))
+    (accepted (m .running) (takeHold m o t)))))
 
 -- the object that the task entered last
 abbrev pub innermost : TaskRecord → ℕ → Bool
@@ -73,7 +73,7 @@ leave m o =
     refuseIf m (noObject m o) NoSuchObject
     (refuseIfNobody m (m .running) (λ t.
     refuseIf m (not (innermost (taskAt m t) o)) NotInnermost
-    (accepted (settle (giveUp m t) t))))
+    (accepted (m .running) (settle (giveUp m t) t))))
 
 -- "Delay d: 0 sends the task to the tail of its queue; otherwise it is delayed until now + d."
 unfoldable pub putOff : Model → ℕ → ℕ → Model
@@ -82,7 +82,7 @@ putOff m t d = cond (eqb d 0) (becomeReady m t) (withTask m t (withPlace (taskAt
 -- 5; 7, "Delay (also 0) .. inside a protected action"
 unfoldable pub delay : Model → ℕ → Moved
 delay m d =
-    refuseIfNobody m (m .running) (λ t. refuseIf m (inside (taskAt m t)) InsideAction (accepted (putOff (stopped m) t d)))
+    refuseIfNobody m (m .running) (λ t. refuseIf m (inside (taskAt m t)) InsideAction (accepted (m .running) (putOff (stopped m) t d)))
 
 -- "Suspend: with a permit, the permit goes and the task runs on; else it is suspended."
 unfoldable pub rest : Model → ℕ → Model
@@ -94,7 +94,7 @@ rest m t =
 -- 5; 7, "Suspend .. inside a protected action"
 unfoldable pub suspend : Model → Moved
 suspend m =
-    refuseIfNobody m (m .running) (λ t. refuseIf m (inside (taskAt m t)) InsideAction (accepted (rest m t)))
+    refuseIfNobody m (m .running) (λ t. refuseIf m (inside (taskAt m t)) InsideAction (accepted (m .running) (rest m t)))
 
 -- "Release t: a suspended t becomes ready; otherwise t's permit is on (once)."
 abbrev pub permitOn : Model → ℕ → Model
@@ -111,7 +111,7 @@ releaseFrom m t Ended = permitOn m t
 unfoldable pub release : Model → ℕ → Moved
 release m t =
     refuseIf m (noTask m t) NoSuchTask
-    (accepted (releaseFrom m t (taskAt m t .place)))
+    (accepted (m .running) (releaseFrom m t (taskAt m t .place)))
 
 -- a task that is due, with its due time
 pub data Due : Type 0 where
@@ -156,7 +156,7 @@ takeReading m r = wakeUp r (length (m .tasks)) (withNow m r)
 
 -- 4
 unfoldable pub clock : Model → ℕ → Moved
-clock m r = refuseIf m (badReading (m .now) r) BadReading (accepted (takeReading m r))
+clock m r = refuseIf m (badReading (m .now) r) BadReading (accepted (m .running) (takeReading m r))
 
 -- "a ready or running t goes to the tail of the queue for its active priority"; a ready one leaves the queue where it stood
 unfoldable pub requeue : Model → ℕ → ℕ → Place → Model
@@ -187,11 +187,11 @@ setBase m t p =
     refuseIf m (noTask m t) NoSuchTask
     (refuseIf m (not (inRange p)) BadPriority
     (refuseIf m (isEnded (taskAt m t .place)) EndedTask
-    (accepted (rebase m t p))))
+    (accepted (m .running) (rebase m t p))))
 
 -- 5; "Work: no effect."
 unfoldable pub work : Model → Moved
-work m = refuseIfNobody m (m .running) (λ t. accepted m)
+work m = refuseIfNobody m (m .running) (λ t. accepted (m .running) m)
 
 -- "Finish: the running task is ended."
 abbrev pub end : Model → ℕ → Model
@@ -200,7 +200,7 @@ end m t = withTask (stopped m) t (withPlace (taskAt m t) Ended)
 -- 5; 7, "Finish inside a protected action"
 unfoldable pub finish : Model → Moved
 finish m =
-    refuseIfNobody m (m .running) (λ t. refuseIf m (inside (taskAt m t)) InsideAction (accepted (end m t)))
+    refuseIfNobody m (m .running) (λ t. refuseIf m (inside (taskAt m t)) InsideAction (accepted (m .running) (end m t)))
 
 -- any of the nine
 unfoldable pub apply : Model → Event → Moved

@@ -9,9 +9,9 @@ use Rattle.rules.specs.Limits.{taskLimit, objectLimit, lastPriority}
 use Rattle.rules.specs.Priorities.{inRange}
 use Rattle.rules.specs.Model.{TaskRecord, Model, none}
 use Rattle.rules.specs.Moves.{becomeReady, dispatch}
-use Rattle.rules.specs.Moved.{Moved}
 use Rattle.rules.specs.declared.Place.the-variants.{Suspended}
 use Rattle.rules.specs.declared.Runner.the-variants.{Nobody}
+use Rattle.rules.specs.declared.Answer.{Answer}
 use Rattle.rules.specs.declared.Answer.the-variants.{Done, BadCounts, BadBases}
 use Rattle.rules.specs.Lists.{allOf}
 
@@ -60,8 +60,13 @@ setupCounted s = countsGood (length (s .bases)) (length (s .ceilings))
 abbrev pub setupInRange : Setup → Bool
 setupInRange s = allOf inRange (s .bases) && allOf inRange (s .ceilings)
 
+-- what a fresh start gives back: no event, so that it has no report
+pub record Begun : Type 0 where
+  pub answer : Answer
+  pub model : Model
+
 -- "A fresh start is refused with 13 for counts out of range, else with 15 for a bad base or ceiling"
-unfoldable pub fresh : Setup → Moved
+unfoldable pub fresh : Setup → Begun
 fresh s =
     cond (not (setupCounted s)) (record { answer = BadCounts; model = refusedFresh })
     (cond (not (setupInRange s)) (record { answer = BadBases; model = refusedFresh })

@@ -13,3 +13,4 @@ pub mod Clauses
 pub mod Refusals
 pub mod Histories
 pub mod Cases
+pub mod Reports

@@ -7,6 +7,7 @@ use Prim.Native.Nat.{ℕ, zero, suc, _<_}
 use Rattle.rules.specs.Priorities.{inRange}
 use Rattle.rules.specs.Answers.{numberOf}
 use Rattle.rules.specs.Model.{Model, taskAt}
+use Rattle.rules.specs.Moved.{isNobody}
 use Rattle.rules.specs.Events.{noTask, noObject, holds, inside, overCeiling, innermost, badReading, isEnded, apply}
 use Rattle.rules.specs.declared.Runner.{Runner}
 use Rattle.rules.specs.declared.Runner.the-variants.{Nobody, Task}
@@ -20,11 +21,6 @@ use Rattle.rules.specs.declared.Answer.the-variants.{InsideAction, Above
 unfoldable pub ofRunner : Runner → (ℕ → Bool) → Bool
 ofRunner Nobody f = false
 ofRunner (Task t) f = f t
-
--- "nobody runs"
-unfoldable pub isNobody : Runner → Bool
-isNobody Nobody = true
-isNobody (Task t) = false
 
 -- 1 "no such task"
 unfoldable pub noSuchTask : Model → Event → Bool

@@ -1,8 +1,8 @@
-// The kinds of the dispatcher: priorities, places of tasks, events and answers. Their rules are in specs/.
+// The kinds of the dispatcher: priorities, places of tasks, events, answers and reports. Their rules are in specs/.
 ghost use mathlib.Core.Path.{_≡_};
 ghost use Prim.Native.Nat.{max};
 ghost use Rattle.rules.specs.Priorities.{inRange, defaultOf, checkedOf, subrangeOf};
-ghost use Rattle.rules.specs.Answers.{numberOf};
+ghost use Rattle.rules.specs.Answers.{numberOf, reportNumber, answerOf, reportOf};
 
 // A priority is a kind of its own. Its field is public, so one out of range can be handed in: rules refuse it.
 pub struct Priority(pub u8);
@@ -161,5 +161,58 @@ impl Answer {
             Answer::BadCounts => 13,
             Answer::BadBases => 15,
         }
+    }
+}
+
+// Why the processor changed hands at an event; reportNumber in specs/ has the number of each.
+pub enum Report {
+    Unchanged,
+    Preempted,
+    Changed,
+}
+
+impl Report {
+    pub fn number(self) -> u8
+        ensures { λ r. ⌜ r ≡ reportNumber self ⌝ }
+    {
+        match self {
+            Report::Unchanged => 0,
+            Report::Preempted => 1,
+            Report::Changed => 2,
+        }
+    }
+}
+
+// What an event comes to: refused with its answer, or accepted with its report. The one has no report of its own, the other's answer is
+// Done.
+pub enum Ruling {
+    Refused(Answer),
+    Accepted(Report),
+}
+
+impl Ruling {
+    pub fn answer(self) -> Answer
+        ensures { λ r. ⌜ r ≡ answerOf self ⌝ }
+    {
+        match self {
+            Ruling::Refused(answer) => answer,
+            Ruling::Accepted(_) => Answer::Done,
+        }
+    }
+
+    pub fn report(self) -> Report
+        ensures { λ r. ⌜ r ≡ reportOf self ⌝ }
+    {
+        match self {
+            Ruling::Refused(_) => Report::Unchanged,
+            Ruling::Accepted(report) => report,
+        }
+    }
+
+    // The answer's number.
+    pub fn number(self) -> u8
+        ensures { λ r. ⌜ r ≡ numberOf (answerOf self) ⌝ }
+    {
+        self.answer().number()
     }
 }

@@ -8,8 +8,10 @@ use Rattle.rules.specs.Moved.{Moved, refused}
 use Rattle.rules.specs.Priorities.{inRange, checkedOf}
 use Rattle.rules.specs.Events.{enter, leave, delay, suspend, release, setBase, work, finish, apply}
 use Rattle.rules.specs.Sound.{sound}
-use Rattle.rules.specs.declared.Answer.{Answer}
 use Rattle.rules.specs.declared.Answer.the-variants.{Done}
+use Rattle.rules.specs.declared.Report.the-variants.{Unchanged}
+use Rattle.rules.specs.declared.Ruling.{Ruling}
+use Rattle.rules.specs.declared.Ruling.the-variants.{Accepted}
 use Rattle.rules.specs.declared.Event.{Event}
 use Rattle.rules.specs.declared.Event.the-variants as Event
 use Rattle.rules.specs.declared.Priority.{Priority}
@@ -61,22 +63,27 @@ module _ (m : Model) where
   unfolding perform answerTo eventOf apply
   finish-does = refl
 
-module _ {h ts hd cs qs : List ℕ} {a : Answer} where
-  pub moves-as : {r : Moved} (r' : Moved) → r' ≡ r → Moves h ts hd cs qs a r → Moves h ts hd cs qs a r'
+module _ {h ts hd cs qs : List ℕ} {z : Ruling} where
+  pub moves-as : {r : Moved} (r' : Moved) → r' ≡ r → Moves h ts hd cs qs z r → Moves h ts hd cs qs z r'
   moves-as r' e m = rw e m
 
   -- a step x, known to be y, that is the event e
   pub step-moves : (m : Model) (x y : Step) (e : Event) → x ≡ y → perform m y ≡ apply m e → sound m ≡ true → delayFits e ≡ true →
-      Did h ts hd cs qs a (apply m e) → Moves h ts hd cs qs a (perform m x)
+      Did h ts hd cs qs z (apply m e) → Moves h ts hd cs qs z (perform m x)
   step-moves m x y e k same s f d = moves-as (perform m x) (ap (perform m) k ∙ same) (moves-of m e s f d)
 
 -- Again leaves the state
 pub again-moves : {h ts hd cs qs : List ℕ} (x : Step) → x ≡ Again → Valid h ts hd cs qs →
-    Moves h ts hd cs qs Done (perform (modelOf h ts hd cs qs) x)
+    Moves h ts hd cs qs (Accepted Unchanged) (perform (modelOf h ts hd cs qs) x)
 unfolding perform answerTo eventOf
 again-moves {h} {ts} {hd} {cs} {qs} x e v =
     let k = ap (perform (modelOf h ts hd cs qs)) e in
-    record { same = sym (ap (λ (r : Moved). r .model) k); valid = v; answer = sym (ap (λ (r : Moved). r .answer) k) }
+    record {
+      same = sym (ap (λ (r : Moved). r .model) k);
+      valid = v;
+      answer = sym (ap (λ (r : Moved). r .answer) k);
+      report = sym (ap (λ (r : Moved). r .report) k);
+    }
 
 -- what the checked constructor found is the value
 pub checked-is : (n : ℕ) (v : Checked) (p : Priority) → v ≡ checkedOf n → v ≡ Good p → n ≡ p .0
@@ -92,13 +99,13 @@ unfolding setBase
 set-same m t p q e f = rw (e, f)
 
 -- a Set from outside: of a priority, and of another value
-module _ {h ts hd cs qs : List ℕ} {a : Answer} (m : Model) (t value : ℕ) (v : Checked) (e : v ≡ checkedOf value)
+module _ {h ts hd cs qs : List ℕ} {z : Ruling} (m : Model) (t value : ℕ) (v : Checked) (e : v ≡ checkedOf value)
     (s : sound m ≡ true) where
-  pub set-moves : (p : Priority) → v ≡ Good p → Did h ts hd cs qs a (setBase m t (p .0)) → Moves h ts hd cs qs a (setBase m t value)
+  pub set-moves : (p : Priority) → v ≡ Good p → Did h ts hd cs qs z (setBase m t (p .0)) → Moves h ts hd cs qs z (setBase m t value)
   unfolding apply delayFits
   set-moves p f d = moves-as _ (ap (setBase m t) (checked-is value v p e f)) (moves-of m (Event.Set t p) s refl d)
 
-  pub other-moves : (p : Priority) → inRange (p .0) ≡ false → v ≡ OutOfRange → Did h ts hd cs qs a (setBase m t (p .0)) →
-      Moves h ts hd cs qs a (setBase m t value)
+  pub other-moves : (p : Priority) → inRange (p .0) ≡ false → v ≡ OutOfRange → Did h ts hd cs qs z (setBase m t (p .0)) →
+      Moves h ts hd cs qs z (setBase m t value)
   unfolding apply delayFits
   other-moves p o f d = moves-as _ (set-same m t value (p .0) (sym (bad-out value v e f)) o) (moves-of m (Event.Set t p) s refl d)

@@ -21,7 +21,7 @@ use Rattle.memory.specs.Memory.{Means}
 use Rattle.memory.proofs.MemoryLaws.{means-by}
 use Rattle.trace.specs.Config.{Config, startOf}
 use Rattle.trace.specs.Inputs.{inputsOf}
-use Rattle.trace.specs.Run.{pairsFrom, pairsOf}
+use Rattle.trace.specs.Run.{repliesFrom, repliesOf}
 use Rattle.run.specs.Slices.{configOf, Going}
 
 -- positions at the start
@@ -67,7 +67,7 @@ module _ (s : List ℕ) (ok : Passes s) where
         ap (λ (n : Model). record { model = n; positions = take (taskCount s) (zeros taskLimit) }) (m .same) ∙
         ap (λ (l : List ℕ). record { model = freshModel (setupOf (rosterOf s)); positions = l }) places
 
-    pub pairs-are : (events : List ℕ) →
-        pairsFrom (rosterOf s) (configOf s h ts hd cs qs (zeros taskLimit)) (inputsOf events) ≡ pairsOf s events
-    unfolding pairsOf
-    pairs-are events = ap (λ (c : Config). pairsFrom (rosterOf s) c (inputsOf events)) start-is
+    pub replies-are : (events : List ℕ) →
+        repliesFrom (rosterOf s) (configOf s h ts hd cs qs (zeros taskLimit)) (inputsOf events) ≡ repliesOf s events
+    unfolding repliesOf
+    replies-are events = ap (λ (c : Config). repliesFrom (rosterOf s) c (inputsOf events)) start-is

@@ -8,11 +8,13 @@ use borrow.Author.Tests.{eq-eqb, ne-eqb, leb-true, ltb-true, ltb-false}
 use lib.Dec.{leb, ltb}
 use lib.ListN.{length, getD, set, take, drop, length-set, length-take, length-drop}
 use lib.Seq.{getD-take, take-set-lt}
-use Rattle.rules.specs.Answers.{numberOf}
+use Rattle.rules.specs.Answers.{numberOf, answerOf}
 use Rattle.rules.specs.Model.{Model}
 use Rattle.rules.specs.Moved.{Moved}
 use Rattle.rules.specs.declared.Answer.{Answer}
 use Rattle.rules.specs.declared.Answer.the-variants.{NobodyRuns}
+use Rattle.rules.specs.declared.Ruling.{Ruling}
+use Rattle.rules.specs.declared.Ruling.the-variants.{Refused}
 use Rattle.rules.specs.declared.Runner.{Runner}
 use Rattle.rules.specs.declared.Runner.the-variants.{Nobody, Task}
 use Rattle.rules.proofs.SoundLaws.{sound-is}
@@ -79,9 +81,9 @@ perform-count m x = answer-count m (eventOf x)
 
 module _ {s h ts hd cs qs ps : List ℕ} (g : Going s h ts hd cs qs ps) where
   -- an event from outside
-  pub outside-happened : {h' ts' hd' qs' : List ℕ} {a : Answer} {r : Moved} →
+  pub outside-happened : {h' ts' hd' qs' : List ℕ} {x : Ruling} {r : Moved} →
       length (r .model .tasks) ≡ length (modelOf h ts hd cs qs .tasks) →
-      Moves h' ts' hd' cs qs' a r → Happened s h' ts' hd' cs qs' ps a (outside (configOf s h ts hd cs qs ps) r)
+      Moves h' ts' hd' cs qs' x r → Happened s h' ts' hd' cs qs' ps x (outside (configOf s h ts hd cs qs ps) r)
   unfolding outside
   outside-happened e v =
       record {
@@ -93,15 +95,21 @@ module _ {s h ts hd cs qs ps : List ℕ} (g : Going s h ts hd cs qs ps) where
           places = g .places;
         };
         answer = v .answer;
+        report = v .report;
       }
 
   -- nobody runs
   pub idle-happened : getD h runningCell 0 ≡ 0 →
-      Happened s h ts hd cs qs ps NobodyRuns (happen (rosterOf s) (configOf s h ts hd cs qs ps) Stepped)
+      Happened s h ts hd cs qs ps (Refused NobodyRuns) (happen (rosterOf s) (configOf s h ts hd cs qs ps) Stepped)
   unfolding happen stepBy
   idle-happened e =
       let k = ap (stepBy (rosterOf s) (configOf s h ts hd cs qs ps)) (idle (g .valid .laid) e) in
-      record { same = sym (ap (λ (o : Outcome). o .config) k); going = g; answer = sym (ap (λ (o : Outcome). o .answer) k) }
+      record {
+        same = sym (ap (λ (o : Outcome). o .config) k);
+        going = g;
+        answer = sym (ap (λ (o : Outcome). o .answer) k);
+        report = sym (ap (λ (o : Outcome). o .report) k);
+      }
 
   -- the task t runs
   module _ (t : ℕ) (runs : getD h runningCell 0 ≡ 0 → ⊥) (is : t ≡ getD h runningCell 0 - 1) where
@@ -142,12 +150,12 @@ module _ {s h ts hd cs qs ps : List ℕ} (g : Going s h ts hd cs qs ps) where
           ap (λ (j : ℕ). advance c t (positionAfter j x) (perform (c .model) x)) position-is)
 
       -- the outcome, by names for its parts
-      made : {h' ts' hd' qs' ps' : List ℕ} {a : Answer} → Moves h' ts' hd' cs qs' a (perform (modelOf h ts hd cs qs) x) →
+      made : {h' ts' hd' qs' ps' : List ℕ} {y : Ruling} → Moves h' ts' hd' cs qs' y (perform (modelOf h ts hd cs qs) x) →
           length ps' ≡ length ps →
-          take (taskCount s) ps' ≡ cond (isDone a) (set (take (taskCount s) ps) t (positionAfter k x)) (take (taskCount s) ps) →
-          Happened s h' ts' hd' cs qs' ps' a (advance c t (positionAfter k x) (perform (modelOf h ts hd cs qs) x))
+          take (taskCount s) ps' ≡ cond (isDone (answerOf y)) (set (take (taskCount s) ps) t (positionAfter k x)) (take (taskCount s) ps) →
+          Happened s h' ts' hd' cs qs' ps' y (advance c t (positionAfter k x) (perform (modelOf h ts hd cs qs) x))
       unfolding advance
-      made {h'} {ts'} {hd'} {qs'} {ps'} {a} v n e =
+      made {h'} {ts'} {hd'} {qs'} {ps'} {y} v n e =
           let r : Moved = perform (modelOf h ts hd cs qs) x in
           let placed : take (taskCount s) ps' ≡ cond (isDone (r .answer)) (set (take (taskCount s) ps) t (positionAfter k x))
           (take (taskCount s) ps) =
@@ -164,23 +172,24 @@ module _ {s h ts hd cs qs ps : List ℕ} (g : Going s h ts hd cs qs ps) where
               places = n ∙ g .places;
             };
             answer = v .answer;
+            report = v .report;
           }
 
       -- a refused step moves nothing; an accepted one its position
-      pub step-refused : {h' ts' hd' qs' : List ℕ} {a : Answer} (n : ℕ) → n ≡ numberOf a → (n ≡ 0 → ⊥) →
-          Moves h' ts' hd' cs qs' a (perform (modelOf h ts hd cs qs) x) → Happened s h' ts' hd' cs qs' ps a
+      pub step-refused : {h' ts' hd' qs' : List ℕ} {y : Ruling} (n : ℕ) → n ≡ numberOf (answerOf y) → (n ≡ 0 → ⊥) →
+          Moves h' ts' hd' cs qs' y (perform (modelOf h ts hd cs qs) x) → Happened s h' ts' hd' cs qs' ps y
           (happen (rosterOf s) c Stepped)
-      step-refused {h'} {ts'} {hd'} {qs'} {a} n e z v =
-          let no : isDone a ≡ false = ne-eqb (numberOf a) 0 (λ y. z (e ∙ y)) in
+      step-refused {h'} {ts'} {hd'} {qs'} {y} n e z v =
+          let no : isDone (answerOf y) ≡ false = ne-eqb (numberOf (answerOf y)) 0 (λ i. z (e ∙ i)) in
           rw step-is
           (made v refl
           (sym (ap (λ (b : Bool). cond b (set (take (taskCount s) ps) t (positionAfter k x)) (take (taskCount s) ps)) no)))
 
-      pub step-accepted : {h' ts' hd' qs' : List ℕ} {a : Answer} (n : ℕ) (j : ℕ) → n ≡ numberOf a → n ≡ 0 → j ≡ positionAfter k x →
-          Moves h' ts' hd' cs qs' a (perform (modelOf h ts hd cs qs) x) →
-          Happened s h' ts' hd' cs qs' (set ps t j) a (happen (rosterOf s) c Stepped)
-      step-accepted {h'} {ts'} {hd'} {qs'} {a} n j e z f v =
-          let yes : isDone a ≡ true = eq-eqb (numberOf a) 0 (sym e ∙ z) in
+      pub step-accepted : {h' ts' hd' qs' : List ℕ} {y : Ruling} (n : ℕ) (j : ℕ) → n ≡ numberOf (answerOf y) → n ≡ 0 → j ≡ positionAfter k x →
+          Moves h' ts' hd' cs qs' y (perform (modelOf h ts hd cs qs) x) →
+          Happened s h' ts' hd' cs qs' (set ps t j) y (happen (rosterOf s) c Stepped)
+      step-accepted {h'} {ts'} {hd'} {qs'} {y} n j e z f v =
+          let yes : isDone (answerOf y) ≡ true = eq-eqb (numberOf (answerOf y)) 0 (sym e ∙ z) in
           rw step-is
           (made v (length-set ps t j)
           (take-set-lt (taskCount s) ps t j runner-listed ∙
@@ -188,7 +197,7 @@ module _ {s h ts hd cs qs ps : List ℕ} (g : Going s h ts hd cs qs ps) where
           sym (ap (λ (b : Bool). cond b (set (take (taskCount s) ps) t (positionAfter k x)) (take (taskCount s) ps)) yes))))
 
   -- an event by another name
-  pub happened-as : {h' ts' hd' qs' ps' : List ℕ} {a : Answer} (x y : Input) → x ≡ y →
-      Happened s h' ts' hd' cs qs' ps' a (happen (rosterOf s) (configOf s h ts hd cs qs ps) y) →
-      Happened s h' ts' hd' cs qs' ps' a (happen (rosterOf s) (configOf s h ts hd cs qs ps) x)
+  pub happened-as : {h' ts' hd' qs' ps' : List ℕ} {z : Ruling} (x y : Input) → x ≡ y →
+      Happened s h' ts' hd' cs qs' ps' z (happen (rosterOf s) (configOf s h ts hd cs qs ps) y) →
+      Happened s h' ts' hd' cs qs' ps' z (happen (rosterOf s) (configOf s h ts hd cs qs ps) x)
   happened-as x y e p = rw e p

@@ -9,9 +9,9 @@ ghost use Rattle.format.specs.Roster.{rosterOf};
 ghost use Rattle.format.specs.Check.{checkOf};
 ghost use Rattle.format.specs.declared.Verdict.the-variants.{Passed};
 ghost use Rattle.memory.specs.Memory.{runningCell, runnerOf};
-ghost use Rattle.trace.specs.Limits.{pairSize};
+ghost use Rattle.trace.specs.Limits.{replySize};
 ghost use Rattle.trace.specs.Inputs.{eventCount, inputsOf};
-ghost use Rattle.trace.specs.Run.{answerOf, runningByte, pairsFrom, pairsOf, bufferOf};
+ghost use Rattle.trace.specs.Run.{answerOf, runningByte, repliesFrom, repliesOf, bufferOf};
 ghost use Rattle.run.specs.Slices.{configOf, Going};
 use crate::start::start;
 use crate::turns::happen;
@@ -29,7 +29,7 @@ use roster::check;
 use trace::RunAnswer;
 use trace::sizes::EVENT_SIZE;
 use trace::sizes::NOBODY;
-use trace::sizes::PAIR_SIZE;
+use trace::sizes::REPLY_SIZE;
 
 // The running task, or NOBODY.
 fn running_byte(head: &[u64; HEAD_WIDTH]) -> u8
@@ -43,7 +43,7 @@ fn running_byte(head: &[u64; HEAD_WIDTH]) -> u8
     (running - 1) as u8
 }
 
-// Each event in order, and its pair. The roster's task table starts at `table`.
+// Each event in order, and its reply. The roster's task table starts at `table`.
 fn pass(
     roster: &[u8],
     table: u16,
@@ -56,13 +56,13 @@ fn pass(
     queues: &mut [u8],
     positions: &mut [u16],
 )
-    requires { ⌜ pairSize * eventCount (now events) ≤ length (now buffer) ⌝ }
+    requires { ⌜ replySize * eventCount (now events) ≤ length (now buffer) ⌝ }
     requires { ⌜ Going (now roster) (now head) (now tasks) (now held) (now ceilings) (now queues) (now positions) ⌝ }
     requires { ⌜ table ≡ taskTable (now roster) ⌝ }
     ensures { λ u.
         ⌜ now (buffer .exit) ≡
         sets (now (buffer .entry)) 0
-        (pairsFrom (rosterOf (now (roster .entry)))
+        (repliesFrom (rosterOf (now (roster .entry)))
         (configOf (now (roster .entry)) (now (head .entry)) (now (tasks .entry)) (now (held .entry)) (now (ceilings .entry))
         (now (queues .entry)) (now (positions .entry)))
         (inputsOf (now (events .entry)))) ⌝ }
@@ -71,7 +71,7 @@ fn pass(
     let mut i: usize = 0;
     while i < n {
         let x = input_at(events, i);
-        let answer = happen(
+        let ruling = happen(
             roster,
             table,
             head,
@@ -82,9 +82,10 @@ fn pass(
             positions,
             x,
         );
-        let at = PAIR_SIZE * i;
-        buffer[at] = answer.number();
+        let at = REPLY_SIZE * i;
+        buffer[at] = ruling.number();
         buffer[at + 1] = running_byte(head);
+        buffer[at + 2] = ruling.report().number();
         i += 1;
     }
 }
@@ -92,8 +93,8 @@ fn pass(
 // A run that nothing refuses.
 fn run_through(roster: &[u8], events: &[u8], buffer: &mut [u8])
     requires { ⌜ checkOf (now roster) ≡ Passed ⌝ }
-    requires { ⌜ pairSize * eventCount (now events) ≤ length (now buffer) ⌝ }
-    ensures { λ u. ⌜ now (buffer .exit) ≡ sets (now (buffer .entry)) 0 (pairsOf (now (roster .entry)) (now (events .entry))) ⌝ }
+    requires { ⌜ replySize * eventCount (now events) ≤ length (now buffer) ⌝ }
+    ensures { λ u. ⌜ now (buffer .exit) ≡ sets (now (buffer .entry)) 0 (repliesOf (now (roster .entry)) (now (events .entry))) ⌝ }
 {
     let table = task_table(roster);
     let mut head = [0u64; HEAD_WIDTH];
@@ -124,8 +125,8 @@ fn run_through(roster: &[u8], events: &[u8], buffer: &mut [u8])
     );
 }
 
-// Runs a roster under events: two bytes per event into the buffer, its answer and the running task or 255. A refused run writes
-// nothing, and bytes past the last pair stay.
+// Runs a roster under events: three bytes per event into the buffer, its answer, the running task or 255, and its report. A refused run
+// writes nothing, and bytes past the last reply stay.
 pub fn run(roster: &[u8], events: &[u8], buffer: &mut [u8]) -> RunAnswer
     ensures { λ a. ⌜ a ≡ answerOf (now (roster .entry)) (now (events .entry)) (length (now (buffer .entry))) ⌝ }
     ensures { λ a. ⌜ now (buffer .exit) ≡ bufferOf (now (roster .entry)) (now (events .entry)) (now (buffer .entry)) ⌝ }
@@ -137,7 +138,7 @@ pub fn run(roster: &[u8], events: &[u8], buffer: &mut [u8]) -> RunAnswer
     if !events_good(events) {
         return RunAnswer::BadEvents;
     }
-    if buffer.len() < PAIR_SIZE * (events.len() / EVENT_SIZE) {
+    if buffer.len() < REPLY_SIZE * (events.len() / EVENT_SIZE) {
         return RunAnswer::ShortBuffer;
     }
     run_through(roster, events, buffer);

@@ -16,6 +16,8 @@ use memory::sizes::RUNNING_CELL;
 use rules::Answer;
 use rules::Checked;
 use rules::Priority;
+use rules::Report;
+use rules::Ruling;
 use trace::Input;
 
 // What one step of a script does.
@@ -26,7 +28,7 @@ fn perform(
     ceilings: &[u8],
     queues: &mut [u8],
     x: Step,
-) -> Answer
+) -> Ruling
     requires { ⌜ Valid (now head) (now tasks) (now held) (now ceilings) (now queues) ⌝ }
     ensures { λ a.
         ⌜ Moves (now (head .exit)) (now (tasks .exit)) (now (held .exit)) (now (ceilings .entry)) (now (queues .exit)) a
@@ -42,7 +44,7 @@ fn perform(
         Step::Suspend => events::suspend(head, tasks, held, ceilings, queues),
         Step::Release(t) => events::release(head, tasks, held, ceilings, queues, t as u64),
         Step::Set(t, p) => events::set(head, tasks, held, ceilings, queues, t as u64, p),
-        Step::Again => Answer::Done,
+        Step::Again => Ruling::Accepted(Report::Unchanged),
         Step::Finish => events::finish(head, tasks, held, ceilings, queues),
     }
 }
@@ -75,7 +77,7 @@ fn step(
     ceilings: &[u8],
     queues: &mut [u8],
     positions: &mut [u16],
-) -> Answer
+) -> Ruling
     requires { ⌜ Going (now roster) (now head) (now tasks) (now held) (now ceilings) (now queues) (now positions) ⌝ }
     requires { ⌜ table ≡ taskTable (now roster) ⌝ }
     ensures { λ a.
@@ -88,18 +90,18 @@ fn step(
 {
     let running = head[RUNNING_CELL];
     if running == 0 {
-        return Answer::NobodyRuns;
+        return Ruling::Refused(Answer::NobodyRuns);
     }
     let t = (running - 1) as usize;
     let part = script_in(roster, table, t as u8);
     let k = positions[t];
     let x = steps::step_at(part, k as usize);
-    let answer = perform(head, tasks, held, ceilings, queues, x);
-    if answer.number() != 0 {
-        return answer;
+    let ruling = perform(head, tasks, held, ceilings, queues, x);
+    if ruling.number() != 0 {
+        return ruling;
     }
     positions[t] = position_after(k, x);
-    answer
+    ruling
 }
 
 // A Set from outside. A value that is no priority gets the rule's answer, which is the same for all of them.
@@ -111,7 +113,7 @@ fn set_from(
     queues: &mut [u8],
     t: u8,
     value: u64,
-) -> Answer
+) -> Ruling
     requires { ⌜ Valid (now head) (now tasks) (now held) (now ceilings) (now queues) ⌝ }
     ensures { λ a.
         ⌜ Moves (now (head .exit)) (now (tasks .exit)) (now (held .entry)) (now (ceilings .entry)) (now (queues .exit)) a
@@ -144,7 +146,7 @@ pub fn happen(
     queues: &mut [u8],
     positions: &mut [u16],
     x: Input,
-) -> Answer
+) -> Ruling
     requires { ⌜ Going (now roster) (now head) (now tasks) (now held) (now ceilings) (now queues) (now positions) ⌝ }
     requires { ⌜ table ≡ taskTable (now roster) ⌝ }
     ensures { λ a.

@@ -21,7 +21,7 @@ use Rattle.format.specs.declared.Step.the-variants.{Enter, Leave, Delay, Work, 
 use Rattle.format.proofs.PassedLaws.{Orderly, orderly}
 use Rattle.trace.specs.Config.{Config, Outcome, Asked, event as asks, nothing, startOf, eventOf, answerTo, perform}
 use Rattle.trace.specs.Config.{positionAt, nextStep, advance, outside, stepBy, happen}
-use Rattle.dispatch.specs.declared.Stepped.{Stepped}
+use Rattle.dispatch.specs.declared.Started.{Started}
 use Rattle.dispatch.specs.State.{view, encode}
 use Rattle.dispatch.proofs.EncodeLaws.{view-encode}
 use Rattle.dispatch.proofs.RuleLaws.{applied-encode, rule-never}
@@ -39,12 +39,12 @@ abbrev beside : Config → Host
 beside c = record { state = encode (c .model); positions = c .positions }
 
 abbrev replied : Outcome → Reply
-replied o = record { answer = o .answer; host = beside (o .config) }
+replied o = record { answer = o .answer; report = o .report; host = beside (o .config) }
 
 module _ (c : Config) (s : sound (c .model) ≡ true) where
   -- the method that a step calls does what the step does
   called-is : (x : Step) → called (encode (c .model)) x ≡
-      record { answer = perform (c .model) x .answer; state = encode (perform (c .model) x .model) }
+      record { answer = perform (c .model) x .answer; report = perform (c .model) x .report; state = encode (perform (c .model) x .model) }
   unfolding called perform answerTo eventOf apply
   called-is (Enter o) = applied-encode (c .model) s (event.Enter o)
   called-is (Leave o) = applied-encode (c .model) s (event.Leave o)
@@ -96,7 +96,7 @@ hosted-from r k (e ∷ es) c b i =
 opened-is : (r : Roster) → Orderly r → opening r ≡ beside (startOf r)
 unfolding opening startOf
 opened-is r k =
-    ap (λ (x : Stepped). record { state = x .state; positions = replicate (length (r .bases)) 0 })
+    ap (λ (x : Started). record { state = x .state; positions = replicate (length (r .bases)) 0 })
     (let s = k .start in sym (done-0 (setupOf r) (s .some) (s .count) (s .objects) (s .bases) (s .ceilings)))
 
 module _ (r : Roster) (k : Orderly r) (es : List history.Event) where
@@ -107,15 +107,16 @@ module _ (r : Roster) (k : Orderly r) (es : List history.Event) where
   here-sound : sound (after r es .model) ≡ true
   here-sound = good-sound (after r es .model) (invariant r k es .good)
 
-  answer-is : (e : history.Event) → call r (host r es) e .answer ≡ happen r (after r es) (inputOf e) .answer
-  answer-is e = ap (λ (h : Host). call r h e .answer) host-is ∙ ap (λ (x : Reply). x .answer) (call-is (after r es) here-sound r e)
+  reply-is : (e : history.Event) → call r (host r es) e ≡ replied (happen r (after r es) (inputOf e))
+  reply-is e = ap (λ (h : Host). call r h e) host-is ∙ call-is (after r es) here-sound r e
 
   pub hosted : Hosted r es
   hosted = record {
     meaning = ap (λ (h : Host). view (h .state)) host-is ∙ view-encode (after r es .model) here-sound;
     positions = ap (λ (h : Host). h .positions) host-is;
-    answer = answer-is;
-    never = λ e u. event-never (after r es) here-sound r e (sym (answer-is e) ∙ u);
+    answer = λ e. ap (λ (x : Reply). x .answer) (reply-is e);
+    report = λ e. ap (λ (x : Reply). x .report) (reply-is e);
+    never = λ e u. event-never (after r es) here-sound r e (sym (ap (λ (x : Reply). x .answer) (reply-is e)) ∙ u);
   }
 
 -- the bridge

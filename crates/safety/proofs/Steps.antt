@@ -19,6 +19,7 @@ use Rattle.rules.specs.Events.{setBase}
 use Rattle.rules.specs.Events.{work, finish, badReading, takeReading}
 use Rattle.rules.specs.declared.Place.{Place}
 use Rattle.rules.specs.declared.Place.the-variants.{Running, Ready, Delayed, Suspended, Ended}
+use Rattle.rules.specs.declared.Runner.{Runner}
 use Rattle.rules.specs.declared.Runner.the-variants.{Task}
 use Rattle.rules.specs.declared.Answer.the-variants.{Done}
 use Rattle.rules.specs.Lists.{timesIn, without}
@@ -44,10 +45,10 @@ pub record Fine (ps : List ℕ) (b : Reckoning) (v : Moved) : Type 0 where
   pub agree : Agree b (v .model .now) (v .model .tasks) ps
 
 -- from the Model before its dispatch
-pub fine : (ps : List ℕ) (b : Reckoning) (v : Moved) (n : Model) → v ≡ accepted n → Pending true n → Agree b (n .now) (n .tasks) ps →
+pub fine : (w : Runner) (ps : List ℕ) (b : Reckoning) (v : Moved) (n : Model) → v ≡ accepted w n → Pending true n → Agree b (n .now) (n .tasks) ps →
     Fine ps b v
 unfolding accepted
-fine ps b v n e p a =
+fine w ps b v n e p a =
     subst (Fine ps b) (sym e)
     (record { done = refl; good = good-dispatch n p; agree = agree-alike b n (dispatch n) ps (alike-dispatch n (p .core)) a })
 
@@ -129,7 +130,7 @@ module _ (ps : List ℕ) (b : Reckoning) (m : Model) (h : Good true m) (a : Agre
 
   -- Work
   pub fine-work : Fine ps b (work m)
-  fine-work = fine ps b (work m) m (work-0 m t e) (h .pending) a
+  fine-work = fine (m .running) ps b (work m) m (work-0 m t e) (h .pending) a
 
   -- Enter
   pub fine-enter : (o : ℕ) → o < length (m .ceilings) → timesIn o (statusAt b t .inside) ≡ 0 →
@@ -139,7 +140,7 @@ module _ (ps : List ℕ) (b : Reckoning) (m : Model) (h : Good true m) (a : Agre
       let known = lt-leb (length (m .ceilings)) o l in
       let free = le-ltb 0 (timesIn o (taskAt m t .held)) (omega (arith, z, ap (timesIn o) held-is)) in
       let high = le-ltb (ceilingOf (m .ceilings) o) (active m t) g in
-      fine ps _ (enter m o) (takeHold m o t) (enter-0 m o t known e free high) (pending-enter m o t h e known free high)
+      fine (m .running) ps _ (enter m o) (takeHold m o t) (enter-0 m o t known e free high) (pending-enter m o t h e known free high)
       (agree-task b (m .now) (m .tasks) ps a t _ _ low (ap (λ (v : Status). insideOf v (v .inside ++ (o ∷ []))) is))
 
   -- Delay
@@ -147,7 +148,7 @@ module _ (ps : List ℕ) (b : Reckoning) (m : Model) (h : Good true m) (a : Agre
       Fine ps (withStatus b t (cond (eqb d 0) (statusAt b t) (goes (statusAt b t) (until (b .now + d))))) (delay m d)
   unfolding becomeReady stopped awayOf
   fine-delay d l z =
-      fine ps _ (delay m d) (putOff (stopped m) t d) (delay-0 m d t e (outside z)) (pending-delay m d t l h e (outside z))
+      fine (m .running) ps _ (delay m d) (putOff (stopped m) t d) (delay-0 m d t e (outside z)) (pending-delay m d t l h e (outside z))
       (put (eqb d 0) refl)
     where
       later : goes (statusAt b t) (until (b .now + d)) ≡ statusOf (withPlace (taskAt m t) (Delayed (m .now + d))) (getD ps t 0)
@@ -173,7 +174,7 @@ module _ (ps : List ℕ) (b : Reckoning) (m : Model) (h : Good true m) (a : Agre
       (suspend m)
   unfolding stopped awayOf
   fine-suspend z =
-      fine ps _ (suspend m) (rest m t) (suspend-0 m t e (outside z)) (pending-rest m t h e (outside z)) (rests (taskAt m t .permit) refl)
+      fine (m .running) ps _ (suspend m) (rest m t) (suspend-0 m t e (outside z)) (pending-rest m t h e (outside z)) (rests (taskAt m t .permit) refl)
     where
       permit-is : statusAt b t .permit ≡ taskAt m t .permit
       permit-is = ap (λ (v : Status). v .permit) is
@@ -194,14 +195,14 @@ module _ (ps : List ℕ) (b : Reckoning) (m : Model) (h : Good true m) (a : Agre
   pub fine-finish : length (statusAt b t .inside) ≡ 0 → Fine ps (withStatus b t (goes (statusAt b t) gone)) (finish m)
   unfolding stopped awayOf
   fine-finish z =
-      fine ps _ (finish m) (end m t) (finish-0 m t e (outside z)) (pending-end m t h e (outside z))
+      fine (m .running) ps _ (finish m) (end m t) (finish-0 m t e (outside z)) (pending-end m t h e (outside z))
       (agree-task b (m .now) (m .tasks) ps a t _ _ low (ap (λ (v : Status). goes v gone) is))
 
   -- Set of the running task itself
   pub fine-set : (p : ℕ) → inRange p ≡ true → Fine ps (withStatus b t (afterSet (statusAt b t) p)) (setBase m t p)
   unfolding isEnded
   fine-set p g =
-      fine ps _ (setBase m t p) (rebase m t p) (set-0 m t p (lt-leb (length (m .tasks)) t low) g (ap isEnded place-is))
+      fine (m .running) ps _ (setBase m t p) (rebase m t p) (set-0 m t p (lt-leb (length (m .tasks)) t low) g (ap isEnded place-is))
       (pending-rebase m t p (h .pending) low g) (sets (inside (taskAt m t)) refl)
     where
       x : Status
@@ -243,7 +244,7 @@ module _ (ps : List ℕ) (b : Reckoning) (m : Model) (h : Good true m) (a : Agre
       Fine ps (withStatus b t (atLeave (insideOf (statusAt b t) (without o (statusAt b t .inside))))) (leave m o)
   unfolding becomesBase
   fine-leave o l i f =
-      fine ps _ (leave m o) (settle (giveUp m t) t) (leave-0 m o t (lt-leb (length (m .ceilings)) o l) e i) (pending-leave m t h e)
+      fine (m .running) ps _ (leave m o) (settle (giveUp m t) t) (leave-0 m o t (lt-leb (length (m .ceilings)) o l) e i) (pending-leave m t h e)
       (settles (inside (taskAt n t)) refl)
     where
       n : Model
@@ -300,7 +301,7 @@ pub fine-release : (ps : List ℕ) (b : Reckoning) (m : Model) → Good true m �
     Fine ps (releasedIn b u) (release m u)
 unfolding releaseFrom released awayOf becomeReady
 fine-release ps b m h a u l =
-    fine ps _ (release m u) _ (release-0 m u (lt-leb (length (m .tasks)) u l)) (pending-release m u (h .pending) l)
+    fine (m .running) ps _ (release m u) _ (release-0 m u (lt-leb (length (m .tasks)) u l)) (pending-release m u (h .pending) l)
     (subst (λ (x : Away). Agree (withStatus b u (released (statusAt b u) x)) (releaseFrom m u (taskAt m u .place) .now)
     (releaseFrom m u (taskAt m u .place) .tasks) ps)
     (sym (ap (λ (v : Status). v .away) (a .each u))) (go (taskAt m u .place)))
@@ -333,7 +334,7 @@ pub fine-clock : (ps : List ℕ) (b : Reckoning) (m : Model) → Good true m →
     badReading (m .now) r ≡ false → Fine ps (record { now = r; tasks = map (readAt r) (b .tasks) }) (clock m r)
 unfolding awayAfter
 fine-clock ps b m h a r e =
-    fine ps _ (clock m r) n (clock-0 m r e)
+    fine (m .running) ps _ (clock m r) n (clock-0 m r e)
     (pending-clock m r (h .pending) (reading-early (m .now) r e) (reading-low (m .now) r e)) (record {
       reading = sym (w .now);
       size = length-map (b .tasks) (readAt r) ∙ a .size ∙ sym (w .count);

@@ -6,6 +6,8 @@ use Prim.Native.Nat.{ℕ}
 use lib.ListN.{length, getD, set, replicate}
 use Rattle.rules.specs.declared.Runner.{Runner}
 use Rattle.rules.specs.declared.Runner.the-variants.{Nobody, Task}
+use Rattle.rules.specs.declared.Report.{Report}
+use Rattle.rules.specs.declared.Report.the-variants.{Unchanged}
 use Rattle.rules.specs.declared.Answer.{Answer}
 use Rattle.rules.specs.declared.Answer.the-variants.{Done, Unsound}
 use Rattle.words.specs.Words.{Bytes}
@@ -27,6 +29,7 @@ pub record Host : Type 0 where
 
 pub record Reply : Type 0 where
   pub answer : Answer
+  pub report : Report
   pub host : Host
 
 -- `State::fresh`, with every script at its start
@@ -42,17 +45,18 @@ called s Work = workOf s
 called s Suspend = suspendOf s
 called s (Release t) = releaseOf s t
 called s (Set t p) = setOf s t p
-called s Again = record { answer = Done; state = s }
+called s Again = record { answer = Done; report = Unchanged; state = s }
 called s Finish = finishOf s
 
 abbrev pub kept : Host → Stepped → Reply
-kept h x = record { answer = x .answer; host = record { state = x .state; positions = h .positions } }
+kept h x = record { answer = x .answer; report = x .report; host = record { state = x .state; positions = h .positions } }
 
 -- task t calls for its step, and its position becomes k if that is accepted
 abbrev pub movedTo : Host → ℕ → ℕ → Stepped → Reply
 movedTo h t k x =
     record {
       answer = x .answer;
+      report = x .report;
       host = record { state = x .state; positions = cond (isDone (x .answer)) (set (h .positions) t k) (h .positions) };
     }
 
@@ -75,11 +79,12 @@ hostFrom r h (e ∷ es) = hostFrom r (call r h e .host) es
 abbrev pub host : Roster → List Event → Host
 host r es = hostFrom r (opening r) es
 
--- after every list: the State means the claim's Model, and the next call answers as the claim's event does, which is never 10
+-- after every list: the State means the claim's Model, and the next call answers and reports as the claim's event does; it never answers 10
 pub record Hosted (r : Roster) (es : List Event) : Type 0 where
   pub meaning : view (host r es .state) ≡ after r es .model
   pub positions : host r es .positions ≡ after r es .positions
   pub answer : (e : Event) → call r (host r es) e .answer ≡ happen r (after r es) (inputOf e) .answer
+  pub report : (e : Event) → call r (host r es) e .report ≡ happen r (after r es) (inputOf e) .report
   pub never : (e : Event) → call r (host r es) e .answer ≡ Unsound → ⊥
 
 abbrev pub Bridge : Type 0

@@ -18,28 +18,28 @@ use Rattle.words.proofs.TableLaws.{length-tabulate}
 use Rattle.trace.specs.declared.Input.{Input}
 use Rattle.trace.specs.declared.RunAnswer.{RunAnswer}
 use Rattle.trace.specs.declared.RunAnswer.the-variants.{Done, BadRoster, BadEvents, ShortBuffer}
-use Rattle.trace.specs.Limits.{pairSize}
+use Rattle.trace.specs.Limits.{replySize}
 use Rattle.trace.specs.Config.{Config, happen}
 use Rattle.trace.specs.Inputs.{eventCount, eventsGood, inputAt, inputsOf}
 use Rattle.trace.specs.Answers.{ran}
-use Rattle.trace.specs.Run.{answerOf, pairOf, pairsFrom, pairsOf, bufferOf}
+use Rattle.trace.specs.Run.{answerOf, replyOf, repliesFrom, repliesOf, bufferOf}
 use Rattle.words.proofs.CopyLaws.{sets-front}
 
 -- two bytes for each event
-pub pairs-count : (r : Roster) (c : Config) (es : List Input) → length (pairsFrom r c es) ≡ pairSize * length es
-unfolding pairsFrom pairOf
-pairs-count r c [] = refl
-pairs-count r c (e ∷ es) = omega (arith, pairs-count r (happen r c e .config) es)
+pub replies-count : (r : Roster) (c : Config) (es : List Input) → length (repliesFrom r c es) ≡ replySize * length es
+unfolding repliesFrom replyOf
+replies-count r c [] = refl
+replies-count r c (e ∷ es) = omega (arith, replies-count r (happen r c e .config) es)
 
-pub pairs-length : (roster events : List ℕ) → length (pairsOf roster events) ≡ pairSize * eventCount events
-unfolding pairsOf inputsOf
-pairs-length roster events =
-    pairs-count _ _ (inputsOf events) ∙ ap (λ (n : ℕ). pairSize * n) (length-tabulate (eventCount events) (inputAt events))
+pub replies-length : (roster events : List ℕ) → length (repliesOf roster events) ≡ replySize * eventCount events
+unfolding repliesOf inputsOf
+replies-length roster events =
+    replies-count _ _ (inputsOf events) ∙ ap (λ (n : ℕ). replySize * n) (length-tabulate (eventCount events) (inputAt events))
 
 -- what a run answers, by its tests in their order
 module _ (roster events : List ℕ) (size : ℕ) where
   abbrev on-roster : RunAnswer
-  on-roster = cond (not (eventsGood events)) BadEvents (cond (ltb size (pairSize * eventCount events)) ShortBuffer Done)
+  on-roster = cond (not (eventsGood events)) BadEvents (cond (ltb size (replySize * eventCount events)) ShortBuffer Done)
 
   pub answer-roster : passed (checkOf roster) ≡ false → answerOf roster events size ≡ BadRoster (checkOf roster)
   unfolding answerOf
@@ -50,19 +50,19 @@ module _ (roster events : List ℕ) (size : ℕ) where
   answer-on e = ap (λ (x : Bool). cond (not x) (BadRoster (checkOf roster)) on-roster) e
 
   answer-good : passed (checkOf roster) ≡ true → eventsGood events ≡ true →
-      answerOf roster events size ≡ cond (ltb size (pairSize * eventCount events)) ShortBuffer Done
+      answerOf roster events size ≡ cond (ltb size (replySize * eventCount events)) ShortBuffer Done
   answer-good e f =
-      answer-on e ∙ ap (λ (x : Bool). cond (not x) BadEvents (cond (ltb size (pairSize * eventCount events)) ShortBuffer Done)) f
+      answer-on e ∙ ap (λ (x : Bool). cond (not x) BadEvents (cond (ltb size (replySize * eventCount events)) ShortBuffer Done)) f
 
   pub answer-events : passed (checkOf roster) ≡ true → eventsGood events ≡ false → answerOf roster events size ≡ BadEvents
   answer-events e f =
-      answer-on e ∙ ap (λ (x : Bool). cond (not x) BadEvents (cond (ltb size (pairSize * eventCount events)) ShortBuffer Done)) f
+      answer-on e ∙ ap (λ (x : Bool). cond (not x) BadEvents (cond (ltb size (replySize * eventCount events)) ShortBuffer Done)) f
 
   pub answer-short : passed (checkOf roster) ≡ true → eventsGood events ≡ true →
-      ltb size (pairSize * eventCount events) ≡ true → answerOf roster events size ≡ ShortBuffer
+      ltb size (replySize * eventCount events) ≡ true → answerOf roster events size ≡ ShortBuffer
   answer-short e f g = answer-good e f ∙ ap (λ (x : Bool). cond x ShortBuffer Done) g
 
-  pub answer-done : passed (checkOf roster) ≡ true → eventsGood events ≡ true → pairSize * eventCount events ≤ size →
+  pub answer-done : passed (checkOf roster) ≡ true → eventsGood events ≡ true → replySize * eventCount events ≤ size →
       answerOf roster events size ≡ Done
   answer-done e f h = answer-good e f ∙ ap (λ (x : Bool). cond x ShortBuffer Done) (le-ltb _ _ h)
 
@@ -76,7 +76,7 @@ module _ (roster events buffer : List ℕ) where
   unfolding bufferOf
   refuses a e f = (
     sym e,
-    sym (ap (λ (b : Bool). cond b (pairsOf roster events ++ drop (length (pairsOf roster events)) buffer) buffer) (ap ran e ∙ f)),
+    sym (ap (λ (b : Bool). cond b (repliesOf roster events ++ drop (length (repliesOf roster events)) buffer) buffer) (ap ran e ∙ f)),
   )
 
   pub run-roster : (v : Verdict) (b : Bool) → v ≡ checkOf roster → b ≡ passed v → b ≡ false → Ran (BadRoster v) buffer
@@ -94,18 +94,18 @@ module _ (roster events buffer : List ℕ) where
     pub run-events : (g : Bool) → g ≡ eventsGood events → g ≡ false → Ran BadEvents buffer
     run-events g e f = refuses BadEvents (answer-events roster events (length buffer) passed-check (sym e ∙ f)) refl
 
-    pub run-short : (g : Bool) → g ≡ eventsGood events → g ≡ true → length buffer < pairSize * eventCount events → Ran ShortBuffer buffer
+    pub run-short : (g : Bool) → g ≡ eventsGood events → g ≡ true → length buffer < replySize * eventCount events → Ran ShortBuffer buffer
     run-short g e f h =
         refuses ShortBuffer (answer-short roster events (length buffer) passed-check (sym e ∙ f) (lt-ltb _ _ h)) refl
 
-    pub run-done : (g : Bool) (after : List ℕ) → g ≡ eventsGood events → g ≡ true → pairSize * eventCount events ≤ length buffer →
-        after ≡ sets buffer 0 (pairsOf roster events) → Ran Done after
+    pub run-done : (g : Bool) (after : List ℕ) → g ≡ eventsGood events → g ≡ true → replySize * eventCount events ≤ length buffer →
+        after ≡ sets buffer 0 (repliesOf roster events) → Ran Done after
     unfolding bufferOf
     run-done g after e f h k =
         let is : answerOf roster events (length buffer) ≡ Done = answer-done roster events (length buffer) passed-check (sym e ∙ f) h in
-        let room : length (pairsOf roster events) ≤ length buffer = omega (arith, pairs-length roster events) in (
+        let room : length (repliesOf roster events) ≤ length buffer = omega (arith, replies-length roster events) in (
           sym is,
-          k ∙ (sets-front buffer (pairsOf roster events) room ∙
-              sym (ap (λ (a : RunAnswer). cond (ran a) (pairsOf roster events ++ drop (length (pairsOf roster events)) buffer)
+          k ∙ (sets-front buffer (repliesOf roster events) room ∙
+              sym (ap (λ (a : RunAnswer). cond (ran a) (repliesOf roster events ++ drop (length (repliesOf roster events)) buffer)
               buffer) is)),
         )

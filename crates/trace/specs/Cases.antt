@@ -37,9 +37,11 @@ twice more = 1 ∷ 0 ∷ more ∷ 184 ∷ 76 ∷ 10 ∷ 0 ∷ 0 ∷ []
 abbrev pub wholeEvents : List ℕ
 wholeEvents = step ++ step ++ clock 5 ++ step ++ step ++ step ++ clock 4 ++ step ++ step ++ step ++ step
 
--- "`0 0`, `0 0`, `0 0`, `0 0`, `0 1`, `0 1`, `4 1`, `0 1`, `0 0`, `0 -`, `5 -`"
-abbrev pub wholePairs : List ℕ
-wholePairs = 0 ∷ 0 ∷ 0 ∷ 0 ∷ 0 ∷ 0 ∷ 0 ∷ 0 ∷ 0 ∷ 1 ∷ 0 ∷ 1 ∷ 4 ∷ 1 ∷ 0 ∷ 1 ∷ 0 ∷ 0 ∷ 0 ∷ 255 ∷ 5 ∷ 255 ∷ []
+-- "`0 0`, `0 0`, `0 0`, `0 0`, `0 1`, `0 1`, `4 1`, `0 1`, `0 0`, `0 -`, `5 -`", each with its report: task 1 is delayed, which is 2; at 0's
+-- Leave it preempts, which is 1; it finishes and then 0 does, which is 2 both times; all the others are 0
+abbrev pub wholeReplies : List ℕ
+wholeReplies =
+    0 ∷ 0 ∷ 2 ∷ 0 ∷ 0 ∷ 0 ∷ 0 ∷ 0 ∷ 0 ∷ 0 ∷ 0 ∷ 0 ∷ 0 ∷ 1 ∷ 1 ∷ 0 ∷ 1 ∷ 0 ∷ 4 ∷ 1 ∷ 0 ∷ 0 ∷ 1 ∷ 0 ∷ 0 ∷ 0 ∷ 2 ∷ 0 ∷ 255 ∷ 2 ∷ 5 ∷ 255 ∷ 0 ∷ []
 
 -- a roster, events, a lent buffer, the answer's number, task and step, and the buffer afterwards
 pub record Case : Type 0 where
@@ -51,13 +53,13 @@ pub record Case : Type 0 where
 
 -- a run that is done: two bytes more than it writes stay
 abbrev pub done : List ℕ → List ℕ → List ℕ → Case
-done roster events pairs =
+done roster events replies =
     record {
       roster = roster;
       events = events;
-      buffer = replicate (length pairs) 7 ++ (8 ∷ 9 ∷ []);
+      buffer = replicate (length replies) 7 ++ (8 ∷ 9 ∷ []);
       says = 0 ∷ 0 ∷ 0 ∷ [];
-      after = pairs ++ (8 ∷ 9 ∷ []);
+      after = replies ++ (8 ∷ 9 ∷ []);
     }
 
 -- one that is refused: all bytes of a buffer of size bytes stay
@@ -73,35 +75,41 @@ refused roster events size number task position =
 
 unfoldable pub cases : List Case
 cases =
-    done (wholeCase 20) wholeEvents wholePairs ∷
+    done (wholeCase 20) wholeEvents wholeReplies ∷
     -- "With ceiling 19 .. `refused 18 1 1`"
-    refused (wholeCase 19) wholeEvents 22 18 1 1 ∷
+    refused (wholeCase 19) wholeEvents 33 18 1 1 ∷
     -- no events: nothing is written
     done (wholeCase 20) [] [] ∷
     -- "It refuses with 11 to 20; then 21 (..); then 22 (buffer shorter than needed)."
     refused (wholeCase 19) (9 ∷ []) 0 18 1 1 ∷
     refused (wholeCase 20) (step ++ (5 ∷ 0 ∷ 0 ∷ 0 ∷ 0 ∷ 0 ∷ 0 ∷ 0 ∷ [])) 0 21 0 0 ∷
-    refused (wholeCase 20) (step ++ step) 3 22 0 0 ∷
+    refused (wholeCase 20) (step ++ step) 5 22 0 0 ∷
+    refused (wholeCase 20) wholeEvents 22 22 0 0 ∷
     -- 21 "length no multiple of 8, .., an unknown kind, an unused field not 0"
-    refused (wholeCase 20) (step ++ (3 ∷ [])) 4 21 0 0 ∷
-    refused (wholeCase 20) (0 ∷ 0 ∷ 0 ∷ 0 ∷ 0 ∷ 0 ∷ 0 ∷ 0 ∷ []) 2 21 0 0 ∷
-    refused (wholeCase 20) (1 ∷ 1 ∷ 0 ∷ 0 ∷ 0 ∷ 0 ∷ 0 ∷ 0 ∷ []) 2 21 0 0 ∷
-    refused (wholeCase 20) (2 ∷ 0 ∷ 0 ∷ 0 ∷ 0 ∷ 0 ∷ 0 ∷ 1 ∷ []) 2 21 0 0 ∷
-    refused (wholeCase 20) (3 ∷ 1 ∷ 0 ∷ 0 ∷ 0 ∷ 0 ∷ 0 ∷ 0 ∷ []) 2 21 0 0 ∷
-    refused (wholeCase 20) (3 ∷ 0 ∷ 0 ∷ 0 ∷ 0 ∷ 0 ∷ 0 ∷ 1 ∷ []) 2 21 0 0 ∷
+    refused (wholeCase 20) (step ++ (3 ∷ [])) 6 21 0 0 ∷
+    refused (wholeCase 20) (0 ∷ 0 ∷ 0 ∷ 0 ∷ 0 ∷ 0 ∷ 0 ∷ 0 ∷ []) 3 21 0 0 ∷
+    refused (wholeCase 20) (1 ∷ 1 ∷ 0 ∷ 0 ∷ 0 ∷ 0 ∷ 0 ∷ 0 ∷ []) 3 21 0 0 ∷
+    refused (wholeCase 20) (2 ∷ 0 ∷ 0 ∷ 0 ∷ 0 ∷ 0 ∷ 0 ∷ 1 ∷ []) 3 21 0 0 ∷
+    refused (wholeCase 20) (3 ∷ 1 ∷ 0 ∷ 0 ∷ 0 ∷ 0 ∷ 0 ∷ 0 ∷ []) 3 21 0 0 ∷
+    refused (wholeCase 20) (3 ∷ 0 ∷ 0 ∷ 0 ∷ 0 ∷ 0 ∷ 0 ∷ 1 ∷ []) 3 21 0 0 ∷
     -- all six bytes of a value count
-    done (wholeCase 20) (lateClock ++ clock 255) (4 ∷ 1 ∷ 0 ∷ 1 ∷ []) ∷
-    done (wholeCase 20) (4 ∷ 1 ∷ 10 ∷ 0 ∷ 0 ∷ 0 ∷ 0 ∷ 1 ∷ []) (3 ∷ 1 ∷ []) ∷
+    done (wholeCase 20) (lateClock ++ clock 255) (4 ∷ 1 ∷ 0 ∷ 0 ∷ 1 ∷ 0 ∷ []) ∷
+    done (wholeCase 20) (4 ∷ 1 ∷ 10 ∷ 0 ∷ 0 ∷ 0 ∷ 0 ∷ 1 ∷ []) (3 ∷ 1 ∷ 0 ∷ []) ∷
     -- 2026-08: a leap is 4 and wakes nobody, task 1 being due from 5 on; the next reading is measured from the old now
     done (wholeCase 20) (step ++ longest 1 ++ clock 5 ++ longest 6 ++ longest 5 ++ twice 6 ++ twice 5)
-    (0 ∷ 0 ∷ 4 ∷ 0 ∷ 0 ∷ 1 ∷ 4 ∷ 1 ∷ 0 ∷ 1 ∷ 4 ∷ 1 ∷ 0 ∷ 1 ∷ []) ∷
+    (0 ∷ 0 ∷ 2 ∷ 4 ∷ 0 ∷ 0 ∷ 0 ∷ 1 ∷ 1 ∷ 4 ∷ 1 ∷ 0 ∷ 0 ∷ 1 ∷ 0 ∷ 4 ∷ 1 ∷ 0 ∷ 0 ∷ 1 ∷ 0 ∷ []) ∷
     -- a Release of the task that it names; of none
-    done (two suspend suspend) (step ++ step ++ release 1 ++ release 2) (0 ∷ 1 ∷ 0 ∷ 255 ∷ 0 ∷ 1 ∷ 1 ∷ 1 ∷ []) ∷
+    done (two suspend suspend) (step ++ step ++ release 1 ++ release 2) (0 ∷ 1 ∷ 2 ∷ 0 ∷ 255 ∷ 2 ∷ 0 ∷ 1 ∷ 2 ∷ 1 ∷ 1 ∷ 0 ∷ []) ∷
     -- Again: "the place goes back to the first step"; "A step asked at the script's end is Finish."
-    done (alone (work ++ again) 10 10 20) (step ++ step ++ step) (0 ∷ 0 ∷ 0 ∷ 0 ∷ 0 ∷ 0 ∷ []) ∷
-    done (alone work 10 10 20) (step ++ step) (0 ∷ 0 ∷ 0 ∷ 255 ∷ []) ∷
+    done (alone (work ++ again) 10 10 20) (step ++ step ++ step) (0 ∷ 0 ∷ 0 ∷ 0 ∷ 0 ∷ 0 ∷ 0 ∷ 0 ∷ 0 ∷ []) ∷
+    done (alone work 10 10 20) (step ++ step) (0 ∷ 0 ∷ 0 ∷ 0 ∷ 255 ∷ 2 ∷ []) ∷
     -- "One step moves its task's place on, if accepted": a refused one is tried again
-    done (alone (enter 0 ++ leave 0) 10 10 20) (set 0 30 ++ step ++ set 0 10 ++ step ++ step) (0 ∷ 0 ∷ 8 ∷ 0 ∷ 0 ∷ 0 ∷ 0 ∷ 0 ∷ 0 ∷ 0 ∷ []) ∷
+    done (alone (enter 0 ++ leave 0) 10 10 20) (set 0 30 ++ step ++ set 0 10 ++ step ++ step)
+    (0 ∷ 0 ∷ 0 ∷ 8 ∷ 0 ∷ 0 ∷ 0 ∷ 0 ∷ 0 ∷ 0 ∷ 0 ∷ 0 ∷ 0 ∷ 0 ∷ 0 ∷ []) ∷
+    -- 2026-10: another preempts; it goes to a tail and a higher one replaces it; that one goes to a tail and is picked again; away, away,
+    -- back, a lower one back, the end
+    done (two suspend suspend) (set 1 30 ++ set 1 1 ++ set 0 5 ++ step ++ step ++ release 0 ++ release 1 ++ step)
+    (0 ∷ 1 ∷ 1 ∷ 0 ∷ 0 ∷ 2 ∷ 0 ∷ 0 ∷ 0 ∷ 0 ∷ 1 ∷ 2 ∷ 0 ∷ 255 ∷ 2 ∷ 0 ∷ 0 ∷ 2 ∷ 0 ∷ 0 ∷ 0 ∷ 0 ∷ 1 ∷ 2 ∷ []) ∷
     []
 
 -- what a run answers, and the buffer afterwards

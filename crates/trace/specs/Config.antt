@@ -13,6 +13,8 @@ use Rattle.rules.specs.declared.Event.{Event}
 use Rattle.rules.specs.declared.Event.the-variants as E
 use Rattle.rules.specs.declared.Runner.{Runner}
 use Rattle.rules.specs.declared.Runner.the-variants.{Nobody, Task}
+use Rattle.rules.specs.declared.Report.{Report}
+use Rattle.rules.specs.declared.Report.the-variants.{Unchanged}
 use Rattle.rules.specs.declared.Answer.{Answer}
 use Rattle.rules.specs.declared.Answer.the-variants.{Done, NobodyRuns}
 use Rattle.format.specs.Steps.{stepIn}
@@ -30,6 +32,7 @@ pub record Config : Type 0 where
 -- what an event of a run gives back
 pub record Outcome : Type 0 where
   pub answer : Answer
+  pub report : Report
   pub config : Config
 
 -- "with every script at its start", from the fresh state
@@ -53,9 +56,9 @@ eventOf (Set t p) = event (E.Set t p)
 eventOf Again = nothing
 eventOf Finish = event E.Finish
 
--- Again: "the state stays", and the answer is 0
+-- Again: "the state stays", and the answer and the report are 0
 abbrev pub stays : Model → Moved
-stays m = record { answer = Done; model = m }
+stays m = record { answer = Done; report = Unchanged; model = m }
 
 -- an event by its rule
 unfoldable pub answerTo : Model → Asked → Moved
@@ -86,6 +89,7 @@ unfoldable pub advance : Config → ℕ → ℕ → Moved → Outcome
 advance c t k r =
     record {
       answer = r .answer;
+      report = r .report;
       config = record { model = r .model; positions = cond (isDone (r .answer)) (set (c .positions) t k) (c .positions) };
     }
 
@@ -98,13 +102,13 @@ positionAt c t = getD (c .positions) t 0
 
 -- a Step is taken by the running task; answer 5 where nobody runs
 unfoldable pub stepBy : Roster → Config → Runner → Outcome
-stepBy r c Nobody = record { answer = NobodyRuns; config = c }
+stepBy r c Nobody = record { answer = NobodyRuns; report = Unchanged; config = c }
 stepBy r c (Task t) =
     advance c t (positionAfter (positionAt c t) (nextStep r t (positionAt c t))) (perform (c .model) (nextStep r t (positionAt c t)))
 
 -- Clock, Release and Set are the rules' own, and move no position
 unfoldable pub outside : Config → Moved → Outcome
-outside c r = record { answer = r .answer; config = record { model = r .model; positions = c .positions } }
+outside c r = record { answer = r .answer; report = r .report; config = record { model = r .model; positions = c .positions } }
 
 -- "1 Clock value; 2 Release a; 3 Step; 4 Set a, value"
 unfoldable pub happen : Roster → Config → Input → Outcome

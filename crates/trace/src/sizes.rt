@@ -11,6 +11,6 @@ pub const STEP: u8 = 3;
 
 pub const SET: u8 = 4;
 
-pub const PAIR_SIZE: usize = 2;
+pub const REPLY_SIZE: usize = 3;
 
 pub const NOBODY: u8 = 255;

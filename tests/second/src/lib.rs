@@ -7,6 +7,7 @@ pub mod board;
 pub mod check;
 pub mod limits;
 pub mod machine;
+pub mod report;
 pub mod roster;
 pub mod rules;
 pub mod run;

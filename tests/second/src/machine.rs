@@ -1,6 +1,8 @@
-//! The nine events: how an accepted event moves the state, and that a refused one does not.
+//! The nine events: how an accepted event moves the state and what it reports, and that a refused
+//! one moves nothing.
 
 use crate::answer;
+use crate::report;
 use crate::rules;
 use crate::state::{Place, State};
 
@@ -18,21 +20,34 @@ pub enum Event {
     Finish,
 }
 
-/// The answer to an event and the state after it; a refused event hands the state back as it was.
-pub fn apply(mut state: State, event: Event) -> (u8, State) {
-    let answer = apply_to(&mut state, event);
-    (answer, state)
+/// What an event gives beside the state: its answer, and its report of why the processor changed
+/// hands.
+#[derive(Clone, Copy, Debug, PartialEq, Eq)]
+pub struct Outcome {
+    pub answer: u8,
+    pub report: u8,
+}
+
+/// The outcome of an event and the state after it; a refused event hands the state back as it was
+/// and reports no change.
+pub fn apply(mut state: State, event: Event) -> (Outcome, State) {
+    let outcome = apply_to(&mut state, event);
+    (outcome, state)
 }
 
 /// The same on a state in its place.
-pub fn apply_to(state: &mut State, event: Event) -> u8 {
+pub fn apply_to(state: &mut State, event: Event) -> Outcome {
     let answer = rules::answer(state, event);
+    let mut report = report::UNCHANGED;
     if answer == answer::DONE {
         // Only sound states come here, so every number in them can be used as an index.
+        let before = state.running;
         perform(state, event);
-        state.dispatch();
+        // No event itself makes a task run: whom the dispatch finds running is the old task.
+        let sent_to_head = state.dispatch();
+        report = report::of(before, state.running, sent_to_head);
     }
-    answer
+    Outcome { answer, report }
 }
 
 fn perform(state: &mut State, event: Event) {

@@ -12,7 +12,7 @@ fn main() -> ExitCode {
     let roster = read_roster().unwrap_or_default();
     // Events that cannot be read to their end count as a stray byte, refused with 21.
     let events = read_events().unwrap_or(vec![0]);
-    let text = run::report(&roster, &events);
+    let text = run::printed(&roster, &events);
     match io::stdout().write_all(text.as_bytes()) {
         Ok(()) => ExitCode::SUCCESS,
         Err(_) => ExitCode::FAILURE,

@@ -122,7 +122,8 @@ pub fn step_count(bytes: &[u8], t: usize) -> Result<u64, u8> {
     Ok((script.len() / STEP) as u64)
 }
 
-/// The four bytes of a step of task `t`; at the script's end and behind it Finish, which is four zeros. Refused with 11 to 16, then 1.
+/// The four bytes of a step of task `t`; at the script's end and behind it Finish, which is four
+/// zeros. Refused with 11 to 16, then 1.
 pub fn step(bytes: &[u8], t: usize, step: u64) -> Result<[u8; STEP], u8> {
     let mut steps = script(bytes, t)?.chunks_exact(STEP);
     // A script of so few bytes has no step whose number is too large for this machine.

@@ -4,13 +4,16 @@ use std::fmt::Write;
 
 use crate::answer;
 use crate::limits::MAX_EVENT_BYTES;
-use crate::machine::{self, Event};
+use crate::machine::{self, Event, Outcome};
 use crate::roster::{self, Refusal, Roster, Step};
 use crate::state::{self, State};
 
 const RECORD: usize = 8;
 
-/// The second byte of a pair when nobody runs.
+/// How many bytes the reply to an event has: answer, running task, report.
+pub const REPLY_SIZE: usize = 3;
+
+/// The second byte of a reply when nobody runs.
 pub const NOBODY: u8 = 255;
 
 /// An event of a run.
@@ -67,8 +70,8 @@ impl Run {
         }
     }
 
-    /// Takes one event and gives its answer; a refused event changes nothing.
-    pub fn take(&mut self, command: Command) -> u8 {
+    /// Takes one event and gives its outcome; a refused event changes nothing.
+    pub fn take(&mut self, command: Command) -> Outcome {
         match command {
             Command::Clock(value) => machine::apply_to(&mut self.state, Event::Clock(value)),
             Command::Release(t) => machine::apply_to(&mut self.state, Event::Release(t)),
@@ -84,16 +87,16 @@ impl Run {
     }
 
     /// The running task takes the next step of its script.
-    fn step(&mut self) -> u8 {
+    fn step(&mut self) -> Outcome {
         // The dispatch after the event may let another task run: the place is the taker's.
         let taker = self.state.running;
         let next = self.next_step();
         let event = next.map_or(Event::Finish, |(step, _)| event_of(step));
-        let answer = machine::apply_to(&mut self.state, event);
-        if let (answer::DONE, Some(t), Some((step, place))) = (answer, taker, next) {
+        let outcome = machine::apply_to(&mut self.state, event);
+        if let (answer::DONE, Some(t), Some((step, place))) = (outcome.answer, taker, next) {
             self.places[t] = if step == Step::Again { 0 } else { place + 1 };
         }
-        answer
+        outcome
     }
 
     /// The step that the running task is at, with its place; none at the script's end, and none
@@ -119,28 +122,28 @@ fn event_of(step: Step) -> Event {
     }
 }
 
-/// Runs a roster under events and writes two bytes per event into the buffer; a refused run
-/// (11 to 20, then 21, then 22) writes nothing, and bytes past the last pair stay.
+/// Runs a roster under events and writes a reply per event into the buffer; a refused run
+/// (11 to 20, then 21, then 22) writes nothing, and bytes past the last reply stay.
 pub fn run(roster: &[u8], events: &[u8], buffer: &mut [u8]) -> Result<(), Refusal> {
     let roster = roster::admit(roster)?;
     let commands = decode(events).map_err(Refusal::plain)?;
-    if buffer.len() < 2 * commands.len() {
+    if buffer.len() < REPLY_SIZE * commands.len() {
         return Err(Refusal::plain(answer::SHORT_BUFFER));
     }
     let mut run = Run::start(roster);
-    for (pair, &command) in buffer.chunks_exact_mut(2).zip(&commands) {
-        pair[0] = run.take(command);
-        pair[1] = run.running_byte();
+    for (reply, &command) in buffer.chunks_exact_mut(REPLY_SIZE).zip(&commands) {
+        let outcome = run.take(command);
+        reply.copy_from_slice(&[outcome.answer, run.running_byte(), outcome.report]);
     }
     Ok(())
 }
 
 /// The lines that the program prints, each ended by one newline.
-pub fn report(roster: &[u8], events: &[u8]) -> String {
-    let mut buffer = vec![0; events.len() / RECORD * 2];
+pub fn printed(roster: &[u8], events: &[u8]) -> String {
+    let mut buffer = vec![0; events.len() / RECORD * REPLY_SIZE];
     match run(roster, events, &mut buffer) {
         Err(refusal) => refusal_line(refusal),
-        Ok(()) => pair_lines(&buffer),
+        Ok(()) => reply_lines(&buffer),
     }
 }
 
@@ -154,13 +157,14 @@ fn refusal_line(refusal: Refusal) -> String {
     }
 }
 
-fn pair_lines(pairs: &[u8]) -> String {
+fn reply_lines(replies: &[u8]) -> String {
     let mut text = String::from("passed\n");
-    for pair in pairs.chunks_exact(2) {
+    for reply in replies.chunks_exact(REPLY_SIZE) {
+        let (answer, report) = (reply[0], reply[2]);
         // Writing into a string cannot fail.
-        let _ = match pair[1] {
-            NOBODY => writeln!(text, "{} -", pair[0]),
-            task => writeln!(text, "{} {task}", pair[0]),
+        let _ = match reply[1] {
+            NOBODY => writeln!(text, "{answer} - {report}"),
+            task => writeln!(text, "{answer} {task} {report}"),
         };
     }
     text.push_str("end\n");

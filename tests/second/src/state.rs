@@ -87,14 +87,16 @@ impl State {
     }
 
     /// One dispatch: a running task below a ready queue is preempted, and where nobody runs the
-    /// head of the highest queue does.
-    pub(crate) fn dispatch(&mut self) {
+    /// head of the highest queue does. Says whether it sent the running task to the head of its
+    /// queue: afterwards a queue of one does not tell its head from its tail.
+    pub(crate) fn dispatch(&mut self) -> bool {
         let Some(top) = self.highest_ready() else {
-            return;
+            return false;
         };
-        if let Some(t) = self.running {
+        let old = self.running;
+        if let Some(t) = old {
             if self.active(t) >= Some(top) {
-                return;
+                return false;
             }
             self.join_head(t);
         }
@@ -102,6 +104,7 @@ impl State {
         if let Some(t) = self.running {
             self.tasks[t].place = Place::Running;
         }
+        old.is_some()
     }
 }
 
@@ -150,6 +153,7 @@ fn start(bases: &[u64], ceilings: &[u64]) -> State {
     for t in 0..bases.len() {
         state.join_tail(t);
     }
+    // It preempts nobody, and a fresh start reports nothing.
     state.dispatch();
     state
 }

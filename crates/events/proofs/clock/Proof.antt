@@ -3,14 +3,13 @@ use mathlib.Core.Path.{_∙_, sym}
 use Prim.Native.Nat.{_-_}
 use borrow.Author.Needs.{needs}
 use borrow.Author.Tests.{not-true}
-use Rattle.rules.specs.Moves.{dispatch}
 use Rattle.rules.specs.declared.Answer.the-variants.{BadReading}
 use Rattle.rules.proofs.EventLaws.{clock-4, clock-0}
 use Rattle.rules.proofs.Readings.{reading-early, reading-low}
 use Rattle.rules.proofs.Pending.{pending-clock}
 use Rattle.moves.proofs.EffectLaws.{clock-law, due-now}
-use Rattle.moves.proofs.EventLaws.{did-not, did, quiet-clock}
-use Rattle.memory.proofs.MemoryLaws.{then-means, means-by, now-law}
+use Rattle.moves.proofs.EventLaws.{did-not, did, did-quiet, quiet-clock}
+use Rattle.memory.proofs.MemoryLaws.{now-law}
 use Rattle.moves.proofs.RoomLaws.{clock-wakes}
 use Rattle.events.proofs.ValidLaws.{dispatchable, good}
 use Rattle.events.proofs.clock.Statement.{statement}
@@ -28,12 +27,15 @@ returns c =
     let entry = at-test .before .before .before .before .before .before in
     did-not BadReading (entry .pre .laid) (clock-4 _ _ (sym (at-test .bad-reading .ensures) ∙ c .if1 .taken))
 
+element-copy-out-running : tie.Need-element-copy-out-running
+element-copy-out-running c = search needs
+
 element-write-head : tie.Need-element-write-head
 element-write-head c = search needs
 
 wake-up-requires : tie.Need-wake-up-requires
 wake-up-requires c κs =
-    let entry = c .before .before .before .before .before .before .before .before .before .before in
+    let entry = c .before .before .before .before .before .before .before .before .before .before .before in
     let v = entry .pre in
     let d = v .laid in
     let x = now-law d (entry .args .r) in
@@ -48,20 +50,19 @@ same-length-2 c = search needs
 returns-2 : tie.Need-returns-2
 returns-2 c =
     let at-wake-up = c .before .before .before .before .before in
-    let at-if1 = at-wake-up .before .before .before .before in
+    let at-if1 = at-wake-up .before .before .before .before .before in
     let at-test = at-if1 .before in
     let entry = at-test .before .before .before .before .before .before in
     let taken = sym (at-test .bad-reading .ensures) ∙ at-if1 .if1 .left in
     let v = entry .pre in
     let d = v .laid in
     let none = due-now d _ ∙ (sym (at-wake-up .wake-up .ensures .1) ∙ not-true _ (c .if2 .taken)) in
-    let x = means-by (clock-law d _ (at-wake-up .wake-up .ensures .0)) (quiet-clock _ _ _ (good v) none) in
-    did _ x (clock-0 _ _ taken)
+    did-quiet (clock-law d _ (at-wake-up .wake-up .ensures .0)) (quiet-clock _ _ _ (good v) none) (clock-0 _ _ taken)
 
-dispatch-requires : tie.Need-dispatch-requires
-dispatch-requires c κs =
+conclude-requires : tie.Need-conclude-requires
+conclude-requires c κs =
     let at-wake-up = c .before .before .before .before .before .before .before .before in
-    let at-if1 = at-wake-up .before .before .before .before in
+    let at-if1 = at-wake-up .before .before .before .before .before in
     let at-test = at-if1 .before in
     let entry = at-test .before .before .before .before .before .before in
     let taken = sym (at-test .bad-reading .ensures) ∙ at-if1 .if1 .left in
@@ -78,16 +79,15 @@ same-length-4 c = search needs
 
 returns-3 : tie.Need-returns-3
 returns-3 c =
-    let at-dispatch = c .before .before .before .before in
-    let at-wake-up = at-dispatch .before .before .before .before .before .before .before .before .before in
-    let at-if1 = at-wake-up .before .before .before .before in
+    let at-conclude = c .before .before .before .before in
+    let at-wake-up = at-conclude .before .before .before .before .before .before .before .before .before in
+    let at-if1 = at-wake-up .before .before .before .before .before in
     let at-test = at-if1 .before in
     let entry = at-test .before .before .before .before .before .before in
     let taken = sym (at-test .bad-reading .ensures) ∙ at-if1 .if1 .left in
     let v = entry .pre in
     let d = v .laid in
-    let x = then-means dispatch (clock-law d _ (at-wake-up .wake-up .ensures .0)) (at-dispatch .dispatch .ensures) in
-    did _ x (clock-0 _ _ taken)
+    did _ (clock-law d _ (at-wake-up .wake-up .ensures .0)) (at-conclude .conclude .ensures) (clock-0 _ _ taken)
 
 pub clock-spec : {M : Type 1} → statement M
 clock-spec =
@@ -96,12 +96,13 @@ clock-spec =
     element-copy-out-at
     bad-reading-requires
     returns
+    element-copy-out-running
     element-write-head
     wake-up-requires
     same-length
     same-length-2
     returns-2
-    dispatch-requires
+    conclude-requires
     same-length-3
     same-length-4
     returns-3)

@@ -5,7 +5,6 @@ use borrow.Author.Needs.{needs}
 use lib.ListN.{getD}
 use Rattle.rules.specs.Events.{putOff}
 use Rattle.rules.specs.Model.{Model}
-use Rattle.rules.specs.Moves.{dispatch}
 use Rattle.rules.specs.declared.Answer.the-variants.{NobodyRuns, InsideAction}
 use Rattle.rules.proofs.EventLaws.{delay-5, delay-7, delay-0}
 use Rattle.rules.proofs.Pending.{pending-delay}
@@ -69,8 +68,8 @@ put-off-requires c κs =
     let x = stop-law d in
     (x .laid, (rw (x .same) (delay-joins _ _ (good v) e bare), rw (still-read _ _) (good v .pending .sizes .reading)))
 
-dispatch-requires : tie.Need-dispatch-requires
-dispatch-requires c κs =
+conclude-requires : tie.Need-conclude-requires
+conclude-requires c κs =
     let at-put-off = c .before .before .before .before .before .before .before in
     let at-if2 = at-put-off .before .before .before .before in
     let at-depth = at-if2 .before in
@@ -93,8 +92,8 @@ same-length-2 c = search needs
 
 returns-3 : tie.Need-returns-3
 returns-3 c =
-    let at-dispatch = c .before .before .before .before in
-    let at-put-off = at-dispatch .before .before .before .before .before .before .before .before in
+    let at-conclude = c .before .before .before .before in
+    let at-put-off = at-conclude .before .before .before .before .before .before .before .before in
     let at-if2 = at-put-off .before .before .before .before in
     let at-depth = at-if2 .before in
     let at-if1 = at-depth .before in
@@ -106,7 +105,7 @@ returns-3 c =
     let bare = outside-is d _ _ g (at-depth .depth .ensures) (at-if2 .if2 .left) in
     let t = getD (entry .args .head .now) runningCell 0 - 1 in
     let x = then-means (λ (m : Model). putOff m t (entry .args .d)) (stop-law d) (at-put-off .put-off .ensures) in
-    did _ (then-means dispatch x (at-dispatch .dispatch .ensures)) (delay-0 _ _ t e bare)
+    did _ x (at-conclude .conclude .ensures) (delay-0 _ _ t e bare)
 
 pub delay-spec : {M : Type 1} → statement M
 delay-spec =
@@ -119,7 +118,7 @@ delay-spec =
     returns-2
     element-write-head
     put-off-requires
-    dispatch-requires
+    conclude-requires
     same-length
     same-length-2
     returns-3)

@@ -1,13 +1,12 @@
 -- `events::enter` meets its contract.
-use mathlib.Core.Path.{_∙_, sym}
+use mathlib.Core.Path.{_∙_}
 use Prim.Native.Nat.{_-_}
 use borrow.Author.Needs.{needs}
 use Rattle.rules.specs.declared.Answer.the-variants.{NoSuchObject, NobodyRuns, InsideAction, AboveCeiling}
 use Rattle.rules.proofs.EventLaws.{enter-2, enter-5, enter-7, enter-8, enter-0}
-use Rattle.rules.proofs.StillLaws.{still-enter}
 use Rattle.moves.proofs.EffectLaws.{holdable, hold-law}
-use Rattle.moves.proofs.EventLaws.{did-not, did}
-use Rattle.memory.proofs.MemoryLaws.{means-by, idle}
+use Rattle.moves.proofs.EventLaws.{did-not, did-quiet, quiet-enter}
+use Rattle.memory.proofs.MemoryLaws.{idle}
 use Rattle.events.proofs.ValidLaws.{runner, runner-counted, holds-is, hold-room, good, known-object}
 use Rattle.events.proofs.ValidLaws.{unknown-object, above-ceiling, within-ceiling}
 use Rattle.events.proofs.enter.Statement.{statement}
@@ -131,8 +130,7 @@ returns-5 c =
     let g = runner-counted v (at-if2 .if2 .left) in
     let free = holds-is v _ _ _ g (at-holds .holds .ensures) ∙ at-if3 .if3 .left in
     let within = within-ceiling v _ _ _ (at-if1 .if1 .left) (at-active .active .ensures) (at-if4 .if4 .left) in
-    let x = means-by (hold-law d _ _ g (at-push .push .ensures)) (sym (still-enter _ _ (good v) e _)) in
-    did _ x (enter-0 _ _ _ (known-object v _ (at-if1 .if1 .left)) e free within)
+    did-quiet (hold-law d _ _ g (at-push .push .ensures)) (quiet-enter _ _ _ (good v) e) (enter-0 _ _ _ (known-object v _ (at-if1 .if1 .left)) e free within)
 
 pub enter-spec : {M : Type 1} → statement M
 enter-spec =

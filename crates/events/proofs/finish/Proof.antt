@@ -1,14 +1,13 @@
 -- `events::finish` meets its contract.
 use Prim.Native.Nat.{_-_}
 use borrow.Author.Needs.{needs}
-use Rattle.rules.specs.Moves.{dispatch}
 use Rattle.rules.specs.declared.Answer.the-variants.{NobodyRuns, InsideAction}
 use Rattle.rules.specs.declared.Place.the-variants.{Ended}
 use Rattle.rules.proofs.EventLaws.{finish-5, finish-7, finish-0}
 use Rattle.rules.proofs.Pending.{pending-end}
 use Rattle.moves.proofs.EffectLaws.{readable, holdable, away-law, inside-is, outside-is}
 use Rattle.moves.proofs.EventLaws.{did-not, did}
-use Rattle.memory.proofs.MemoryLaws.{then-means, idle}
+use Rattle.memory.proofs.MemoryLaws.{idle}
 use Rattle.events.proofs.ValidLaws.{dispatchable, runner, runner-counted, good}
 use Rattle.events.proofs.finish.Statement.{statement}
 use Rattle.events.proofs.finish.Tie as tie
@@ -60,8 +59,8 @@ set-place-requires c κs =
     let g = runner-counted v (at-if1 .if1 .left) in
     readable d _ g
 
-dispatch-requires : tie.Need-dispatch-requires
-dispatch-requires c κs =
+conclude-requires : tie.Need-conclude-requires
+conclude-requires c κs =
     let at-set-place = c .before .before .before .before .before in
     let at-if2 = at-set-place .before .before in
     let at-depth = at-if2 .before in
@@ -82,8 +81,8 @@ same-length-2 c = search needs
 
 returns-3 : tie.Need-returns-3
 returns-3 c =
-    let at-dispatch = c .before .before .before .before in
-    let at-set-place = at-dispatch .before .before .before .before .before .before in
+    let at-conclude = c .before .before .before .before in
+    let at-set-place = at-conclude .before .before .before .before .before .before in
     let at-if2 = at-set-place .before .before in
     let at-depth = at-if2 .before in
     let at-if1 = at-depth .before in
@@ -94,7 +93,7 @@ returns-3 c =
     let g = runner-counted v (at-if1 .if1 .left) in
     let bare = outside-is d _ _ g (at-depth .depth .ensures) (at-if2 .if2 .left) in
     let x = away-law d _ Ended g (at-set-place .set-place .ensures) in
-    did _ (then-means dispatch x (at-dispatch .dispatch .ensures)) (finish-0 _ _ e bare)
+    did _ x (at-conclude .conclude .ensures) (finish-0 _ _ e bare)
 
 pub finish-spec : {M : Type 1} → statement M
 finish-spec =
@@ -107,7 +106,7 @@ finish-spec =
     returns-2
     element-write-head
     set-place-requires
-    dispatch-requires
+    conclude-requires
     same-length
     same-length-2
     returns-3)

@@ -5,7 +5,6 @@ use borrow.Author.Needs.{needs}
 use lib.ListN.{getD}
 use Rattle.rules.specs.Events.{settle}
 use Rattle.rules.specs.Model.{Model}
-use Rattle.rules.specs.Moves.{dispatch}
 use Rattle.rules.specs.declared.Answer.the-variants.{NoSuchObject, NobodyRuns, NotInnermost}
 use Rattle.rules.proofs.EventLaws.{leave-2, leave-5, leave-9, leave-0}
 use Rattle.rules.proofs.Pending.{pending-leave}
@@ -129,8 +128,8 @@ settle-requires c κs =
     let x = give-up-law d _ g (at-drop-last .drop-last .ensures) in
     (x .laid, rw (x .same) (leave-settles _ _ (good v) e))
 
-dispatch-requires : tie.Need-dispatch-requires
-dispatch-requires c κs =
+conclude-requires : tie.Need-conclude-requires
+conclude-requires c κs =
     let at-settle = c .before .before .before .before .before .before .before .before in
     let at-drop-last = at-settle .before .before .before .before .before .before .before in
     let at-if2 = at-drop-last .before .before .before .before .before .before .before .before in
@@ -154,8 +153,8 @@ same-length-5 c = search needs
 
 returns-5 : tie.Need-returns-5
 returns-5 c =
-    let at-dispatch = c .before .before .before .before in
-    let at-settle = at-dispatch .before .before .before .before .before .before .before .before .before in
+    let at-conclude = c .before .before .before .before in
+    let at-settle = at-conclude .before .before .before .before .before .before .before .before .before in
     let at-drop-last = at-settle .before .before .before .before .before .before .before in
     let at-if4 = at-drop-last .before .before in
     let at-last = at-if4 .before in
@@ -170,11 +169,10 @@ returns-5 c =
     let g = runner-counted v (at-if2 .if2 .left) in
     let t = getD (entry .args .head .now) runningCell 0 - 1 in
     let x = then-means (λ (m : Model). settle m t) (give-up-law d t g (at-drop-last .drop-last .ensures)) (at-settle .settle .ensures) in
-    let y = then-means dispatch x (at-dispatch .dispatch .ensures) in
     let own =
     innermost-is d _ _ _ _ g (at-depth .depth .ensures) (omega (arith, at-if3 .if3 .left)) (at-last .last .ensures)
     (at-if4 .if4 .left) in
-    did _ y (leave-0 _ _ t (known-object v _ (at-if1 .if1 .left)) e own)
+    did _ x (at-conclude .conclude .ensures) (leave-0 _ _ t (known-object v _ (at-if1 .if1 .left)) e own)
 
 pub leave-spec : {M : Type 1} → statement M
 leave-spec =
@@ -194,7 +192,7 @@ leave-spec =
     returns-4
     drop-last-requires
     settle-requires
-    dispatch-requires
+    conclude-requires
     same-length-3
     same-length-4
     same-length-5

@@ -3,12 +3,10 @@ use mathlib.Core.Path.{_∙_, sym}
 use Prim.Native.Nat.{_-_}
 use borrow.Author.Needs.{needs}
 use borrow.Author.Tests.{not-true}
-use Rattle.rules.specs.Moves.{dispatch}
 use Rattle.rules.specs.declared.Answer.the-variants.{NoSuchTask}
 use Rattle.rules.proofs.EventLaws.{release-1, release-0}
 use Rattle.rules.proofs.Pending.{pending-release}
-use Rattle.moves.proofs.EventLaws.{did-not, did, quiet-release}
-use Rattle.memory.proofs.MemoryLaws.{then-means, means-by}
+use Rattle.moves.proofs.EventLaws.{did-not, did, did-quiet, quiet-release}
 use Rattle.moves.proofs.RoomLaws.{release-needs}
 use Rattle.events.proofs.ValidLaws.{dispatchable, there, good, known-task, unknown-task}
 use Rattle.events.proofs.release.Statement.{statement}
@@ -24,9 +22,12 @@ returns c =
     let d = v .laid in
     did-not NoSuchTask d (release-1 _ _ (unknown-task v _ (c .if1 .taken)))
 
+element-copy-out-running : tie.Need-element-copy-out-running
+element-copy-out-running c = search needs
+
 release-from-requires : tie.Need-release-from-requires
 release-from-requires c κs =
-    let at-if1 = c .before .before .before in
+    let at-if1 = c .before .before .before .before in
     let entry = at-if1 .before .before .before .before .before .before in
     let v = entry .pre in
     let d = v .laid in
@@ -42,17 +43,16 @@ same-length-2 c = search needs
 returns-2 : tie.Need-returns-2
 returns-2 c =
     let at-release-from = c .before .before .before .before .before in
-    let at-if1 = at-release-from .before .before .before .before in
+    let at-if1 = at-release-from .before .before .before .before .before in
     let entry = at-if1 .before .before .before .before .before .before in
     let v = entry .pre in
     let no = sym (at-release-from .release-from .ensures .1) ∙ not-true _ (c .if2 .taken) in
-    let x = means-by (at-release-from .release-from .ensures .0) (quiet-release _ _ _ (good v) no) in
-    did _ x (release-0 _ _ (known-task v _ (at-if1 .if1 .left)))
+    did-quiet (at-release-from .release-from .ensures .0) (quiet-release _ _ _ (good v) no) (release-0 _ _ (known-task v _ (at-if1 .if1 .left)))
 
-dispatch-requires : tie.Need-dispatch-requires
-dispatch-requires c κs =
+conclude-requires : tie.Need-conclude-requires
+conclude-requires c κs =
     let at-release-from = c .before .before .before .before .before .before .before .before in
-    let at-if1 = at-release-from .before .before .before .before in
+    let at-if1 = at-release-from .before .before .before .before .before in
     let entry = at-if1 .before .before .before .before .before .before in
     let v = entry .pre in
     let l = there v _ (at-if1 .if1 .left) in
@@ -66,13 +66,12 @@ same-length-4 c = search needs
 
 returns-3 : tie.Need-returns-3
 returns-3 c =
-    let at-dispatch = c .before .before .before .before in
-    let at-release-from = at-dispatch .before .before .before .before .before .before .before .before .before in
-    let at-if1 = at-release-from .before .before .before .before in
+    let at-conclude = c .before .before .before .before in
+    let at-release-from = at-conclude .before .before .before .before .before .before .before .before .before in
+    let at-if1 = at-release-from .before .before .before .before .before in
     let entry = at-if1 .before .before .before .before .before .before in
     let v = entry .pre in
-    let x = then-means dispatch (at-release-from .release-from .ensures .0) (at-dispatch .dispatch .ensures) in
-    did _ x (release-0 _ _ (known-task v _ (at-if1 .if1 .left)))
+    did _ (at-release-from .release-from .ensures .0) (at-conclude .conclude .ensures) (release-0 _ _ (known-task v _ (at-if1 .if1 .left)))
 
 pub release-spec : {M : Type 1} → statement M
 release-spec =
@@ -80,11 +79,12 @@ release-spec =
     (tie.spec
     element-copy-out-if1
     returns
+    element-copy-out-running
     release-from-requires
     same-length
     same-length-2
     returns-2
-    dispatch-requires
+    conclude-requires
     same-length-3
     same-length-4
     returns-3)

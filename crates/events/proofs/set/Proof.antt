@@ -4,13 +4,12 @@ use Prim.Native.Nat.{_-_}
 use borrow.Author.Needs.{needs}
 use lib.ListN.{set}
 use Rattle.rules.specs.Events.{isEnded}
-use Rattle.rules.specs.Moves.{dispatch}
 use Rattle.rules.specs.declared.Answer.the-variants.{NoSuchTask, BadPriority, EndedTask}
 use Rattle.rules.proofs.EventLaws.{set-1, set-3, set-6, set-0}
 use Rattle.rules.proofs.Pending.{pending-rebase}
 use Rattle.rules.proofs.PriorityLaws.{bounds-in}
 use Rattle.moves.proofs.EventLaws.{did-not, did}
-use Rattle.memory.proofs.MemoryLaws.{then-means, place-is}
+use Rattle.memory.proofs.MemoryLaws.{place-is}
 use Rattle.moves.proofs.RoomLaws.{rebase-needs}
 use Rattle.events.proofs.ValidLaws.{dispatchable, there, too-low, too-high, good, known-task, unknown-task}
 use Rattle.events.proofs.set.Statement.{statement}
@@ -70,9 +69,12 @@ returns-4 c =
     let ended = ap isEnded place ∙ (sym (at-is-ended .is-ended .ensures) ∙ c .if4 .taken) in
     did-not EndedTask d (set-6 _ _ _ here range ended)
 
+element-copy-out-running : tie.Need-element-copy-out-running
+element-copy-out-running c = search needs
+
 rebase-requires : tie.Need-rebase-requires
 rebase-requires c κs =
-    let at-if3 = c .before .before .before .before .before .before .before in
+    let at-if3 = c .before .before .before .before .before .before .before .before in
     let at-if2 = at-if3 .before .before .before in
     let at-if1 = at-if2 .before .before .before in
     let entry = at-if1 .before .before .before .before .before .before in
@@ -82,10 +84,10 @@ rebase-requires c κs =
     let range = bounds-in _ (at-if2 .if2 .left) (at-if3 .if3 .left) in
     (d, rebase-needs _ _ _ (good v .pending .core) l range)
 
-dispatch-requires : tie.Need-dispatch-requires
-dispatch-requires c κs =
+conclude-requires : tie.Need-conclude-requires
+conclude-requires c κs =
     let at-rebase = c .before .before .before .before .before .before .before in
-    let at-if3 = at-rebase .before .before .before .before .before .before .before .before in
+    let at-if3 = at-rebase .before .before .before .before .before .before .before .before .before in
     let at-if2 = at-if3 .before .before .before in
     let at-if1 = at-if2 .before .before .before in
     let entry = at-if1 .before .before .before .before .before .before in
@@ -103,9 +105,9 @@ same-length-3 c = search needs
 
 returns-5 : tie.Need-returns-5
 returns-5 c =
-    let at-dispatch = c .before .before .before .before in
-    let at-rebase = at-dispatch .before .before .before .before .before .before .before .before in
-    let at-if4 = at-rebase .before .before .before .before in
+    let at-conclude = c .before .before .before .before in
+    let at-rebase = at-conclude .before .before .before .before .before .before .before .before in
+    let at-if4 = at-rebase .before .before .before .before .before in
     let at-is-ended = at-if4 .before in
     let at-place = at-is-ended .before in
     let at-if3 = at-place .before .before in
@@ -118,8 +120,7 @@ returns-5 c =
     let range = bounds-in _ (at-if2 .if2 .left) (at-if3 .if3 .left) in
     let place = place-is d _ (at-if1 .if1 .left) ∙ sym (at-place .place .ensures) in
     let alive = ap isEnded place ∙ (sym (at-is-ended .is-ended .ensures) ∙ at-if4 .if4 .left) in
-    let x = then-means dispatch (at-rebase .rebase .ensures) (at-dispatch .dispatch .ensures) in
-    did _ x (set-0 _ _ _ here range alive)
+    did _ (at-rebase .rebase .ensures) (at-conclude .conclude .ensures) (set-0 _ _ _ here range alive)
 
 pub set-spec : {M : Type 1} → statement M
 set-spec =
@@ -133,8 +134,9 @@ set-spec =
     is-ended-requires
     same-length
     returns-4
+    element-copy-out-running
     rebase-requires
-    dispatch-requires
+    conclude-requires
     same-length-2
     same-length-3
     returns-5)

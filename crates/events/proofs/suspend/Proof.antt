@@ -2,13 +2,12 @@
 use mathlib.Core.Path.{_∙_, sym}
 use Prim.Native.Nat.{_-_}
 use borrow.Author.Needs.{needs}
-use Rattle.rules.specs.Moves.{dispatch}
 use Rattle.rules.specs.declared.Answer.the-variants.{NobodyRuns, InsideAction}
 use Rattle.rules.proofs.EventLaws.{suspend-5, suspend-7, suspend-0}
 use Rattle.rules.proofs.Pending.{pending-rest}
 use Rattle.moves.proofs.EffectLaws.{holdable, inside-is, outside-is}
-use Rattle.moves.proofs.EventLaws.{did-not, did, quiet-rest}
-use Rattle.memory.proofs.MemoryLaws.{then-means, means-by, idle}
+use Rattle.moves.proofs.EventLaws.{did-not, did, did-quiet, quiet-rest}
+use Rattle.memory.proofs.MemoryLaws.{idle}
 use Rattle.events.proofs.ValidLaws.{dispatchable, runner, runner-counted, good}
 use Rattle.events.proofs.suspend.Statement.{statement}
 use Rattle.events.proofs.suspend.Tie as tie
@@ -76,10 +75,10 @@ returns-3 c =
     let g = runner-counted v (at-if1 .if1 .left) in
     let bare = outside-is d _ _ g (at-depth .depth .ensures) (at-if2 .if2 .left) in
     let on = sym (at-rest .rest .ensures .1) ∙ c .if3 .taken in
-    did _ (means-by (at-rest .rest .ensures .0) (quiet-rest _ _ (good v) on)) (suspend-0 _ _ e bare)
+    did-quiet (at-rest .rest .ensures .0) (quiet-rest _ _ (good v) on) (suspend-0 _ _ e bare)
 
-dispatch-requires : tie.Need-dispatch-requires
-dispatch-requires c κs =
+conclude-requires : tie.Need-conclude-requires
+conclude-requires c κs =
     let at-rest = c .before .before .before .before .before .before in
     let at-if2 = at-rest .before .before .before .before in
     let at-depth = at-if2 .before in
@@ -100,8 +99,8 @@ same-length-4 c = search needs
 
 returns-4 : tie.Need-returns-4
 returns-4 c =
-    let at-dispatch = c .before .before .before .before in
-    let at-rest = at-dispatch .before .before .before .before .before .before .before in
+    let at-conclude = c .before .before .before .before in
+    let at-rest = at-conclude .before .before .before .before .before .before .before in
     let at-if2 = at-rest .before .before .before .before in
     let at-depth = at-if2 .before in
     let at-if1 = at-depth .before in
@@ -111,7 +110,7 @@ returns-4 c =
     let e = runner v (at-if1 .if1 .left) in
     let g = runner-counted v (at-if1 .if1 .left) in
     let bare = outside-is d _ _ g (at-depth .depth .ensures) (at-if2 .if2 .left) in
-    did _ (then-means dispatch (at-rest .rest .ensures .0) (at-dispatch .dispatch .ensures)) (suspend-0 _ _ e bare)
+    did _ (at-rest .rest .ensures .0) (at-conclude .conclude .ensures) (suspend-0 _ _ e bare)
 
 pub suspend-spec : {M : Type 1} → statement M
 suspend-spec =
@@ -126,7 +125,7 @@ suspend-spec =
     same-length
     same-length-2
     returns-3
-    dispatch-requires
+    conclude-requires
     same-length-3
     same-length-4
     returns-4)

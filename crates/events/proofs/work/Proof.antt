@@ -1,12 +1,10 @@
 -- `events::work` meets its contract.
-use mathlib.Core.Path.{sym}
 use Prim.Native.Nat.{_-_}
 use borrow.Author.Needs.{needs}
 use Rattle.rules.specs.declared.Answer.the-variants.{NobodyRuns}
 use Rattle.rules.proofs.EventLaws.{work-5, work-0}
-use Rattle.rules.proofs.StillLaws.{still}
-use Rattle.moves.proofs.EventLaws.{did-not, did}
-use Rattle.memory.proofs.MemoryLaws.{as-laid, means-by, idle}
+use Rattle.moves.proofs.EventLaws.{did-not, did-quiet, quiet-work}
+use Rattle.memory.proofs.MemoryLaws.{as-laid, idle}
 use Rattle.events.proofs.ValidLaws.{runner, good}
 use Rattle.events.proofs.work.Statement.{statement}
 use Rattle.events.proofs.work.Tie as tie
@@ -27,7 +25,7 @@ returns-2 c =
     let v = entry .pre in
     let d = v .laid in
     let e = runner v (c .if1 .left) in
-    did _ (means-by (as-laid d) (sym (still _ _ (good v) e))) (work-0 _ _ e)
+    did-quiet (as-laid d) (quiet-work _ _ (good v) e) (work-0 _ _ e)
 
 pub work-spec : {M : Type 1} → statement M
 work-spec = tie.close (tie.spec element-copy-out-if1 returns returns-2)

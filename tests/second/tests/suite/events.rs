@@ -1,6 +1,6 @@
 //! The nine events: what each does when accepted, and each number 0 to 9 at its boundaries.
 
-use crate::support::{answer, at, fresh, play, queue, LARGEST};
+use crate::support::{answer, at, fresh, play, queue, refused, LARGEST};
 use second::machine::apply;
 use second::machine::Event::{
     self, Clock, Delay, Enter, Finish, Leave, Release, Set, Suspend, Work,
@@ -450,6 +450,6 @@ fn an_unsound_state_is_10_before_everything() {
         Finish,
     ];
     for event in events {
-        assert_eq!(apply(state.clone(), event), (10, state.clone()));
+        assert_eq!(apply(state.clone(), event), (refused(10), state.clone()));
     }
 }

@@ -3,13 +3,14 @@
 use crate::program::printed_for;
 use crate::random::is_taken;
 use crate::support::{
-    answer, at, clock_event, delay, enter, fresh, hex, leave, pairs, place, play, queue, record,
-    release, release_event, roster, Random, AGAIN, LARGEST, LONGEST, STEP, SUSPEND, WORK,
+    answer, at, clock_event, delay, done, enter, fresh, hex, leave, place, play, queue, record,
+    refused, release, release_event, replies, roster, Random, AGAIN, LARGEST, LONGEST, STEP,
+    SUSPEND, WORK,
 };
 use second::machine::apply;
 use second::machine::Event::{Clock, Delay, Enter, Finish, Leave, Release, Set, Suspend, Work};
 use second::roster::admit;
-use second::run::{decode, report, run, Command, Run};
+use second::run::{decode, printed, run, Command, Run};
 use second::sound::{broken, is_sound};
 use second::state::{self, Place, State};
 
@@ -158,7 +159,7 @@ fn a_refused_leap_leaves_the_whole_state() {
     let leaps = [7 + LONGEST + 1, 7 + 2 * LONGEST, LARGEST - 1, LARGEST];
     for reading in leaps.into_iter().chain([LARGEST + 1, u64::MAX]) {
         let (given, after) = apply(state.clone(), Clock(reading));
-        assert_eq!((given, &after), (4, &state), "reading {reading}");
+        assert_eq!((given, &after), (refused(4), &state), "reading {reading}");
     }
     let after = play(state, &[Clock(7 + LONGEST)]);
     assert_eq!((after.running, queue(&after, 20)), (Some(0), vec![3]));
@@ -169,7 +170,7 @@ fn a_refused_leap_leaves_the_whole_state() {
 fn a_refused_leap_wakes_nobody_though_a_task_is_due() {
     let state = play(fresh(&[10, 20], &[]), &[Delay(5)]);
     let (given, after) = apply(state.clone(), Clock(LONGEST + 1));
-    assert_eq!((given, &after), (4, &state));
+    assert_eq!((given, &after), (refused(4), &state));
     assert_eq!((after.running, after.now), (Some(0), 0));
     assert_eq!(after.tasks[1].place, Place::Delayed { due: 5 });
     let early = play(after, &[Clock(4)]);
@@ -181,7 +182,8 @@ fn a_refused_leap_wakes_nobody_though_a_task_is_due() {
 fn a_refused_leap_wakes_nobody_where_all_are_delayed() {
     let state = play(fresh(&[10, 20], &[]), &[Delay(5), Delay(65535)]);
     let (given, after) = apply(state.clone(), Clock(LONGEST + 1));
-    assert_eq!((given, &after, after.running), (4, &state, None));
+    assert_eq!((given, &after), (refused(4), &state));
+    assert_eq!(after.running, None);
     let woken = play(after, &[Clock(LONGEST)]);
     assert_eq!((woken.running, queue(&woken, 10)), (Some(1), vec![0]));
 }
@@ -190,7 +192,7 @@ fn a_refused_leap_wakes_nobody_where_all_are_delayed() {
 fn the_next_reading_is_judged_from_the_old_now() {
     let state = play(alone(), &[Clock(100)]);
     let (given, state) = apply(state, Clock(LONGEST + 101));
-    assert_eq!((given, state.now), (4, 100));
+    assert_eq!((given, state.now), (refused(4), 100));
     assert_eq!(answer(&state, Clock(99)), 4);
     assert_eq!(answer(&state, Clock(100)), 0);
     assert_eq!(answer(&state, Clock(LONGEST + 100)), 0);
@@ -203,7 +205,7 @@ fn refused_leaps_do_not_add_up() {
     let mut state = play(alone(), &[Clock(100)]);
     for past in (LONGEST + 1..).take(100) {
         let (given, after) = apply(state.clone(), Clock(100 + past));
-        assert_eq!((given, &after), (4, &state));
+        assert_eq!((given, &after), (refused(4), &state));
         state = after;
     }
     assert_eq!(play(state, &[Clock(100 + LONGEST)]).now, 100 + LONGEST);
@@ -213,7 +215,7 @@ fn refused_leaps_do_not_add_up() {
 fn a_reading_below_now_does_not_move_the_measure() {
     let state = play(alone(), &[Clock(100)]);
     let (given, state) = apply(state, Clock(1));
-    assert_eq!((given, state.now), (4, 100));
+    assert_eq!((given, state.now), (refused(4), 100));
     assert_eq!(answer(&state, Clock(LONGEST + 100)), 0);
     assert_eq!(answer(&state, Clock(LONGEST + 101)), 4);
 }
@@ -343,7 +345,11 @@ fn a_leap_in_an_unsound_state_is_10() {
         let nearby = [0, 1, LONGEST, LONGEST + 1].map(|past| now.wrapping_add(past));
         for reading in ends.into_iter().chain(nearby) {
             let (given, after) = apply(state.clone(), Clock(reading));
-            assert_eq!((given, &after), (10, &state), "now {now}, {reading}");
+            assert_eq!(
+                (given, &after),
+                (refused(10), &state),
+                "now {now}, {reading}"
+            );
         }
     }
     let mut idle = fresh(&[10, 10], &[]);
@@ -381,8 +387,10 @@ fn events_with_leaps() -> Vec<u8> {
          01 00 0414730F0000")
 }
 
-const LINES_WITH_LEAPS: &str =
-    "passed\n0 0\n4 0\n4 0\n0 0\n0 0\n4 0\n0 1\n4 1\n0 1\n0 1\n4 1\n0 1\nend\n";
+/// Task 1 is delayed first, and its waking preempts task 0.
+const LINES_WITH_LEAPS: &str = "passed\n\
+    0 0 2\n4 0 0\n4 0 0\n0 0 0\n0 0 0\n4 0 0\n\
+    0 1 1\n4 1 0\n0 1 0\n0 1 0\n4 1 0\n0 1 0\nend\n";
 
 #[test]
 fn the_bytes_are_the_readings_meant() {
@@ -405,18 +413,19 @@ fn the_bytes_are_the_readings_meant() {
 
 #[test]
 fn a_run_with_leaps_writes_4_and_goes_on() {
-    let mut buffer = [0xEE; 26];
+    let mut buffer = [0xEE; 38];
     assert_eq!(run(&two_tasks(), &events_with_leaps(), &mut buffer), Ok(()));
-    let expected = hex("0000 0400 0400 0000 0000 0400 0001 0401 0001 0001 0401 0001 EEEE");
+    let expected = hex("000002 040000 040000 000000 000000 040000 \
+                        000101 040100 000100 000100 040100 000100 EEEE");
     assert_eq!(buffer[..], expected);
 }
 
 #[test]
 fn the_lines_of_a_run_with_leaps() {
-    let lines = report(&two_tasks(), &events_with_leaps());
+    let lines = printed(&two_tasks(), &events_with_leaps());
     assert_eq!(lines, LINES_WITH_LEAPS);
-    let printed = printed_for("leaps", &two_tasks(), &events_with_leaps());
-    assert_eq!(printed, LINES_WITH_LEAPS);
+    let by_command = printed_for("leaps", &two_tasks(), &events_with_leaps());
+    assert_eq!(by_command, LINES_WITH_LEAPS);
 }
 
 #[test]
@@ -430,22 +439,23 @@ fn the_lines_of_leaps_where_nobody_runs() {
         clock_event(LARGEST),
         release_event(0),
     ];
-    let lines = "passed\n0 -\n4 -\n4 -\n0 -\n4 -\n0 0\nend\n";
-    assert_eq!(report(&bytes, &events.concat()), lines);
+    let lines = "passed\n0 - 2\n4 - 0\n4 - 0\n0 - 0\n4 - 0\n0 0 2\nend\n";
+    assert_eq!(printed(&bytes, &events.concat()), lines);
     assert_eq!(printed_for("idle_leaps", &bytes, &events.concat()), lines);
 }
 
 #[test]
 fn a_refused_leap_leaves_the_state_and_every_script_place() {
     let mut run = Run::start(admit(&two_tasks()).expect("it passes"));
-    assert_eq!((run.take(Command::Step), run.take(Command::Step)), (0, 0));
+    assert_eq!(run.take(Command::Step), done(2));
+    assert_eq!(run.take(Command::Step), done(0));
     assert_eq!(run.places, [1, 1]);
     let before = run.clone();
     for reading in [LONGEST + 1, LONGEST + 2, LARGEST] {
-        assert_eq!(run.take(Command::Clock(reading)), 4);
+        assert_eq!(run.take(Command::Clock(reading)), refused(4));
         assert_eq!((&run, run.running_byte()), (&before, 0));
     }
-    assert_eq!(run.take(Command::Clock(LONGEST)), 0);
+    assert_eq!(run.take(Command::Clock(LONGEST)), done(1));
     assert_eq!((&run.places, run.running_byte()), (&before.places, 1));
 }
 
@@ -454,24 +464,24 @@ fn a_leap_is_a_good_record() {
     for reading in [LONGEST + 1, 1 << 32, 1 << 40, LARGEST - 1, LARGEST] {
         let events = clock_event(reading);
         assert_eq!(decode(&events), Ok(vec![Command::Clock(reading)]));
-        assert_eq!(pairs(&two_tasks(), &[events]), [(4, 1)]);
-        assert_eq!(report(&two_tasks(), &events), "passed\n4 1\nend\n");
+        assert_eq!(replies(&two_tasks(), &[events]), [(4, 1, 0)]);
+        assert_eq!(printed(&two_tasks(), &events), "passed\n4 1 0\nend\n");
     }
 }
 
 #[test]
 fn a_leap_does_not_hide_a_bad_record_or_a_short_buffer() {
     let leap = clock_event(LARGEST);
-    let refused = |events: &[u8], room: usize| {
+    let refusal = |events: &[u8], room: usize| {
         let mut buffer = vec![0xEE; room];
         let result = run(&two_tasks(), events, &mut buffer);
         assert_eq!(buffer, vec![0xEE; room]);
         place(result)
     };
-    assert_eq!(refused(&record(1, 1, LARGEST), 2), (21, 0, 0));
-    assert_eq!(refused(&[leap, record(5, 0, 0)].concat(), 4), (21, 0, 0));
-    assert_eq!(refused(&leap[..7], 2), (21, 0, 0));
-    assert_eq!(refused(&[leap, leap].concat(), 3), (22, 0, 0));
+    assert_eq!(refusal(&record(1, 1, LARGEST), 3), (21, 0, 0));
+    assert_eq!(refusal(&[leap, record(5, 0, 0)].concat(), 6), (21, 0, 0));
+    assert_eq!(refusal(&leap[..7], 3), (21, 0, 0));
+    assert_eq!(refusal(&[leap, leap].concat(), 5), (22, 0, 0));
 }
 
 #[test]
@@ -480,12 +490,12 @@ fn a_run_of_longest_advances_goes_as_far_as_its_events() {
         .map(|count| clock_event(count * LONGEST))
         .collect();
     let bytes = roster(&[(10, vec![])], &[]);
-    assert_eq!(pairs(&bytes, &events), [(0, 0); 4096]);
+    assert_eq!(replies(&bytes, &events), [(0, 0, 0); 4096]);
     // With one of them refused as a leap, every later one is a leap too.
     events[1000] = clock_event(1001 * LONGEST + 1);
-    let given = pairs(&bytes, &events);
-    assert_eq!(given[..1000], [(0, 0); 1000]);
-    assert_eq!(given[1000..], [(4, 0); 3096]);
+    let given = replies(&bytes, &events);
+    assert_eq!(given[..1000], [(0, 0, 0); 1000]);
+    assert_eq!(given[1000..], [(4, 0, 0); 3096]);
 }
 
 #[test]
@@ -496,7 +506,7 @@ fn a_run_near_the_largest_reading_meets_both_limits() {
         run.state.now = now;
         let events: Vec<_> = readings.iter().map(|&r| clock_event(r)).collect();
         let commands = decode(&events.concat()).expect("good records");
-        commands.into_iter().map(|c| run.take(c)).collect()
+        commands.into_iter().map(|c| run.take(c).answer).collect()
     };
     let first = LARGEST - LONGEST - 1;
     assert_eq!(answers(first, &[LARGEST, LARGEST - 1, LARGEST]), [4, 0, 0]);
@@ -508,7 +518,7 @@ fn a_run_near_the_largest_reading_meets_both_limits() {
 // A whole list of events.
 
 /// Four tasks that are delayed, wait, enter the same object and release each other for ever.
-fn busy() -> Vec<u8> {
+pub fn busy() -> Vec<u8> {
     let tasks = [
         (10, vec![enter(0), WORK, leave(0), delay(3), AGAIN]),
         (10, vec![delay(0), release(2), delay(1), AGAIN]),
@@ -520,7 +530,7 @@ fn busy() -> Vec<u8> {
 
 #[test]
 fn a_list_without_its_refused_readings_does_the_same() {
-    let (mut taken, mut refused) = (0, 0);
+    let (mut taken, mut not_taken) = (0, 0);
     for seed in 0..300 {
         let mut random = Random::new(seed);
         let start = Run::start(admit(&busy()).expect("it passes"));
@@ -535,16 +545,16 @@ fn a_list_without_its_refused_readings_does_the_same() {
             let given = all.take(command);
             match command {
                 Command::Clock(reading) if !is_taken(now, reading) => {
-                    assert_eq!(given, 4, "seed {seed}");
-                    refused += 1;
+                    assert_eq!(given, refused(4), "seed {seed}");
+                    not_taken += 1;
                     continue;
                 }
                 Command::Clock(reading) => {
-                    assert_eq!(given, 0, "seed {seed}");
+                    assert_eq!(given.answer, 0, "seed {seed}");
                     now = reading;
                     taken += 1;
                 }
-                _ => assert_ne!(given, 4, "seed {seed}"),
+                _ => assert_ne!(given.answer, 4, "seed {seed}"),
             }
             assert_eq!((given, &all), (kept.take(command), &kept), "seed {seed}");
             assert_eq!(all.state.now, now);
@@ -552,7 +562,7 @@ fn a_list_without_its_refused_readings_does_the_same() {
         assert_eq!(all, kept, "seed {seed}");
     }
     assert!(
-        taken > 1000 && refused > 1000,
-        "{taken} taken, {refused} refused"
+        taken > 1000 && not_taken > 1000,
+        "{taken} taken, {not_taken} refused"
     );
 }

@@ -9,6 +9,7 @@ mod leaps;
 mod marked_cases;
 mod program;
 mod random;
+mod reports;
 mod run;
 mod same_base;
 mod soundness;

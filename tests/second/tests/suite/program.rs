@@ -73,7 +73,8 @@ fn an_unreadable_roster_is_11() {
 fn a_roster_too_short_or_too_long_is_11() {
     let long = roster(&[(15, vec![WORK; 8188])], &[15]);
     assert_eq!(long.len(), 32768);
-    assert_eq!(printed_for("longest", &long, &STEP), "passed\n0 0\nend\n");
+    let text = printed_for("longest", &long, &STEP);
+    assert_eq!(text, "passed\n0 0 0\nend\n");
     let longer = [&[0][..], &long].concat();
     assert_eq!(printed_for("longer", &longer, &STEP), "refused 11\n");
     let longer = [&long[..], &[0; 100_000]].concat();
@@ -86,7 +87,7 @@ fn a_roster_too_short_or_too_long_is_11() {
 fn events_up_to_the_limit_and_over_it() {
     let bytes = roster(&[(15, vec![WORK; 8188])], &[15]);
     let all = printed_for("limit", &bytes, &STEP.repeat(4096));
-    assert_eq!(all, format!("passed\n{}end\n", "0 0\n".repeat(4096)));
+    assert_eq!(all, format!("passed\n{}end\n", "0 0 0\n".repeat(4096)));
     let over = printed_for("over", &bytes, &STEP.repeat(4097));
     assert_eq!(over, "refused 21\n");
     let far_over = printed_for("far_over", &bytes, &STEP.repeat(100_000));

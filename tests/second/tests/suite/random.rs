@@ -2,15 +2,15 @@
 
 use std::collections::BTreeMap;
 
-use crate::support::{answer, at, fresh, Random, LARGEST, LONGEST};
+use crate::support::{answer, at, fresh, refused, Random, LARGEST, LONGEST};
 use second::board::{fill, next, Kind, Row};
 use second::machine::{apply, Event};
 use second::roster::{admit, base, ceiling, script};
-use second::run::{decode, report};
+use second::run::{decode, printed};
 use second::sound::{broken, is_sound};
 use second::state::{Place, State};
 
-fn random_fresh(random: &mut Random) -> State {
+pub fn random_fresh(random: &mut Random) -> State {
     let value = |random: &mut Random| 1 + random.below(4);
     let tasks = 1 + random.index(5);
     let bases: Vec<u64> = (0..tasks).map(|_| value(random)).collect();
@@ -20,7 +20,7 @@ fn random_fresh(random: &mut Random) -> State {
 }
 
 /// An event that is mostly in range and likely to be accepted.
-fn random_event(random: &mut Random, state: &State) -> Event {
+pub fn random_event(random: &mut Random, state: &State) -> Event {
     let innermost = state.running_task().and_then(|task| task.held.last());
     let object = random.index(state.ceilings.len() + 1);
     let task = random.index(state.tasks.len() + 1);
@@ -62,7 +62,8 @@ fn fresh_histories_stay_sound_with_one_holder_for_each_object() {
         let mut state = random_fresh(&mut random);
         for _ in 0..60 {
             let event = random_event(&mut random, &state);
-            let (answer, after) = apply(state.clone(), event);
+            let (outcome, after) = apply(state.clone(), event);
+            let answer = outcome.answer;
             assert!(answer == 0 || after == state, "seed {seed}");
             assert_eq!(broken(&after), [""; 0], "seed {seed}, {event:?}");
             assert!(holders_are_single(&after), "seed {seed}, {event:?}");
@@ -209,14 +210,14 @@ fn scrambled_states_never_panic_and_unsound_ones_are_refused() {
             0 => Event::Clock(random.reading(state.now)),
             _ => random_event(&mut random, &fresh(&[10], &[20])),
         };
-        let (answer, after) = apply(state.clone(), event);
+        let (outcome, after) = apply(state.clone(), event);
         if is_sound(&state) {
             sound += 1;
-            assert_ne!(answer, 10, "seed {seed}");
+            assert_ne!(outcome.answer, 10, "seed {seed}");
             assert_eq!(broken(&after), [""; 0], "seed {seed}, {event:?}");
         } else {
             unsound += 1;
-            assert_eq!((answer, &after), (10, &state), "seed {seed}");
+            assert_eq!((outcome, &after), (refused(10), &state), "seed {seed}");
         }
     }
     assert!(
@@ -241,7 +242,7 @@ fn random_bytes_never_panic() {
         }
         roster.truncate(random.index(200) + 10);
         events.truncate(random.index(12) * 8 + random.index(2));
-        let text = report(&roster, &events);
+        let text = printed(&roster, &events);
         let expected = match (admit(&roster), decode(&events)) {
             (Err(refusal), _) => format!("refused {}", refusal.number),
             (Ok(_), Err(number)) => format!("refused {number}\n"),

@@ -1,8 +1,8 @@
 //! Request 2026-04: a Set to the base that a task already has, wherever the task is.
 
 use crate::support::{
-    answer, enter, fresh, leave, pairs, play, queue, roster, set, set_event, AGAIN, STEP, SUSPEND,
-    WORK,
+    answer, done, enter, fresh, leave, play, queue, replies, roster, set, set_event, AGAIN, STEP,
+    SUSPEND, WORK,
 };
 use second::machine::Event::{Clock, Delay, Enter, Finish, Leave, Release, Set, Suspend};
 use second::roster::admit;
@@ -245,8 +245,8 @@ fn an_outside_set_of_the_running_task_lets_its_equal_run() {
     let script = vec![WORK, AGAIN];
     let bytes = roster(&[(10, script.clone()), (10, script)], &[]);
     let mut run = start(&bytes);
-    assert_eq!(run.take(Command::Step), 0);
-    assert_eq!(run.take(Command::Set(0, 10)), 0);
+    assert_eq!(run.take(Command::Step), done(0));
+    assert_eq!(run.take(Command::Set(0, 10)), done(2));
     stands(&run.state, Some(1), &[(10, &[0])]);
     assert_eq!(run.places, [1, 0]);
     let events = [
@@ -256,8 +256,8 @@ fn an_outside_set_of_the_running_task_lets_its_equal_run() {
         set_event(0, 10),
         set_event(1, 10),
     ];
-    let expected = [(0, 0), (0, 1), (0, 1), (0, 1), (0, 0)];
-    assert_eq!(pairs(&bytes, &events), expected);
+    let expected = [(0, 0, 0), (0, 1, 2), (0, 1, 0), (0, 1, 0), (0, 0, 2)];
+    assert_eq!(replies(&bytes, &events), expected);
 }
 
 #[test]
@@ -265,28 +265,31 @@ fn an_outside_set_of_a_ready_task_lets_its_equal_run_first() {
     // Marked case C, and then task 1 makes room.
     let bytes = roster(&[(10, vec![]), (20, vec![SUSPEND]), (10, vec![])], &[]);
     let mut run = start(&bytes);
-    assert_eq!(run.take(Command::Set(0, 10)), 0);
+    assert_eq!(run.take(Command::Set(0, 10)), done(0));
     stands(&run.state, Some(1), &[(10, &[2, 0])]);
     let events = [set_event(0, 10), STEP, STEP];
-    assert_eq!(pairs(&bytes, &events), [(0, 1), (0, 2), (0, 0)]);
+    let expected = [(0, 1, 0), (0, 2, 2), (0, 0, 2)];
+    assert_eq!(replies(&bytes, &events), expected);
 }
 
 #[test]
 fn a_set_step_to_the_same_base_lets_the_equal_run_and_is_taken_once() {
     let bytes = roster(&[(10, vec![set(0, 10), WORK]), (10, vec![WORK])], &[]);
     let mut run = start(&bytes);
-    assert_eq!(run.take(Command::Step), 0);
+    assert_eq!(run.take(Command::Step), done(2));
     stands(&run.state, Some(1), &[(10, &[0])]);
     assert_eq!(run.places, [1, 0]);
-    let expected = [(0, 1), (0, 1), (0, 0), (0, 0), (0, 255)];
-    assert_eq!(pairs(&bytes, &[STEP; 5]), expected);
+    let expected = [(0, 1, 2), (0, 1, 0), (0, 0, 2), (0, 0, 0), (0, 255, 2)];
+    assert_eq!(replies(&bytes, &[STEP; 5]), expected);
 }
 
 #[test]
 fn set_steps_of_equals_let_them_take_turns() {
     let tasks = [(10, vec![set(0, 10), AGAIN]), (10, vec![set(1, 10), AGAIN])];
-    let expected = [(0, 1), (0, 0), (0, 0), (0, 1), (0, 1), (0, 0)];
-    assert_eq!(pairs(&roster(&tasks, &[]), &[STEP; 6]), expected);
+    let taken = replies(&roster(&tasks, &[]), &[STEP; 6]);
+    // A Set lets the other run and the Again after it lets nobody.
+    assert_eq!(taken[..3], [(0, 1, 2), (0, 0, 2), (0, 0, 0)]);
+    assert_eq!(taken[3..], [(0, 1, 2), (0, 1, 0), (0, 0, 2)]);
 }
 
 #[test]
@@ -295,11 +298,11 @@ fn a_set_step_inside_an_action_lets_the_equal_run_at_the_leave() {
     let bytes = roster(&[(10, script), (10, vec![WORK])], &[20]);
     let mut run = start(&bytes);
     for place in [1, 2] {
-        assert_eq!(run.take(Command::Step), 0);
+        assert_eq!(run.take(Command::Step), done(0));
         stands(&run.state, Some(0), &[(10, &[1])]);
         assert_eq!(run.places, [place, 0]);
     }
-    assert_eq!(run.take(Command::Step), 0);
+    assert_eq!(run.take(Command::Step), done(2));
     stands(&run.state, Some(1), &[(10, &[0])]);
     assert_eq!(run.places, [3, 0]);
 }
@@ -308,5 +311,6 @@ fn a_set_step_inside_an_action_lets_the_equal_run_at_the_leave() {
 fn an_outside_set_of_a_holder_waits_for_its_leave_step() {
     let bytes = roster(&[(10, vec![enter(0), leave(0)]), (10, vec![WORK])], &[20]);
     let events = [STEP, set_event(0, 10), STEP];
-    assert_eq!(pairs(&bytes, &events), [(0, 0), (0, 0), (0, 1)]);
+    let expected = [(0, 0, 0), (0, 0, 0), (0, 1, 2)];
+    assert_eq!(replies(&bytes, &events), expected);
 }

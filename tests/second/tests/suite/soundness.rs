@@ -26,8 +26,8 @@ fn breaks(expected: &[&str], change: impl Fn(&mut State)) {
         Release(0)
     };
     let (given, after) = apply(state.clone(), event);
-    assert_eq!(given, answer);
-    assert!(answer == 0 || after == state);
+    assert_eq!(given.answer, answer);
+    assert!(answer == 0 || (given.report, after) == (0, state));
 }
 
 fn queue_mut(state: &mut State, priority: usize) -> &mut VecDeque<usize> {

@@ -1,6 +1,6 @@
 //! Helpers of the tests: rosters and events from parts, states from events, random numbers.
 
-use second::machine::{apply, Event};
+use second::machine::{apply, Event, Outcome};
 use second::roster::{admit, Refusal};
 use second::run;
 use second::state::{self, State};
@@ -16,6 +16,9 @@ pub type RawStep = [u8; 4];
 
 /// An event of a run as its eight bytes.
 pub type Record = [u8; 8];
+
+/// The reply to an event of a run: answer, running task or 255, report.
+pub type Reply = (u8, u8, u8);
 
 pub const WORK: RawStep = [4, 0, 0, 0];
 pub const SUSPEND: RawStep = [5, 0, 0, 0];
@@ -99,14 +102,24 @@ pub fn place(result: Result<(), Refusal>) -> (u8, usize, usize) {
     }
 }
 
-/// The pairs that a run writes for a roster that passes.
-pub fn pairs(roster: &[u8], events: &[Record]) -> Vec<(u8, u8)> {
-    let mut buffer = vec![0xEE; 2 * events.len()];
+/// The replies that a run writes for a roster that passes.
+pub fn replies(roster: &[u8], events: &[Record]) -> Vec<Reply> {
+    let mut buffer = vec![0xEE; 3 * events.len()];
     assert_eq!(run::run(roster, &events.concat(), &mut buffer), Ok(()));
     buffer
-        .chunks_exact(2)
-        .map(|pair| (pair[0], pair[1]))
+        .chunks_exact(3)
+        .map(|reply| (reply[0], reply[1], reply[2]))
         .collect()
+}
+
+/// The outcome of an accepted event that reports this.
+pub fn done(report: u8) -> Outcome {
+    Outcome { answer: 0, report }
+}
+
+/// The outcome of an event refused with this number: every refused event reports 0.
+pub fn refused(answer: u8) -> Outcome {
+    Outcome { answer, report: 0 }
 }
 
 /// The fresh state of bases and ceilings that are good.
@@ -121,19 +134,28 @@ pub fn at(now: u64, state: State) -> State {
     State { now, ..state }
 }
 
-/// The state after events that are all accepted.
-pub fn play(state: State, events: &[Event]) -> State {
-    events.iter().fold(state, |state, &event| {
-        let (answer, state) = apply(state, event);
-        assert_eq!(answer, 0, "{event:?}");
-        state
-    })
+/// The reports of events that are all accepted, and the state after them.
+pub fn play_reporting(mut state: State, events: &[Event]) -> (Vec<u8>, State) {
+    let mut reports = Vec::new();
+    for &event in events {
+        let (outcome, after) = apply(state, event);
+        assert_eq!(outcome.answer, 0, "{event:?}");
+        reports.push(outcome.report);
+        state = after;
+    }
+    (reports, state)
 }
 
-/// The answer to an event, having seen that a refusal hands the same state back.
+/// The state after events that are all accepted.
+pub fn play(state: State, events: &[Event]) -> State {
+    play_reporting(state, events).1
+}
+
+/// The answer to an event, having seen that a refusal hands the same state back and reports 0.
 pub fn answer(state: &State, event: Event) -> u8 {
-    let (answer, after) = apply(state.clone(), event);
-    assert!(answer == 0 || after == *state, "{event:?}");
+    let (outcome, after) = apply(state.clone(), event);
+    let Outcome { answer, report } = outcome;
+    assert!(answer == 0 || (report, &after) == (0, state), "{event:?}");
     answer
 }
 

@@ -76,40 +76,50 @@ apply-requires c κs =
 number-requires : tie.Need-number-requires
 number-requires c κs = search needs
 
+answer-requires : tie.Need-answer-requires
+answer-requires c κs = search needs
+
+report-requires : tie.Need-report-requires
+report-requires c κs = search needs
+
 returns-3 : tie.Need-returns-3
 returns-3 c =
-    let c5 = c .before .before .before .before .before in
-    let c11 = c5 .before .before .before .before .before .before in
-    let c12 = c11 .before in
-    let at-sound = c12 in
+    let at-if3 = c .before .before in
+    let at-apply = at-if3 .before .before .before .before .before in
+    let at-if2 = at-apply .before .before .before .before .before .before in
+    let at-sound = at-if2 .before in
     let at-load = at-sound .before .before .before .before .before .before .before .before .before .before .before in
     let a = at-load .before .before .before in
     let s = a .args .self in
     let fit = sym (at-load .before .before .fits2 .ensures) ∙ not-false _ (at-load .before .if1 .left) in
     let slices = at-load .load .ensures in
-    let good = sym (tested s fit slices _ (at-sound .sound .ensures)) ∙ not-false _ (c11 .if2 .left) in
-    let did = c5 .apply .ensures in
-    refused-by s fit slices (a .args .event) good _ did _ (c .before .number .ensures) (c .if3 .taken)
+    let good = sym (tested s fit slices _ (at-sound .sound .ensures)) ∙ not-false _ (at-if2 .if2 .left) in
+    refused-by s fit slices (a .args .event) good _ (at-apply .apply .ensures) _ (at-if3 .before .number .ensures) _
+    (c .before .answer .ensures) _ (c .report .ensures) (at-if3 .if3 .taken)
+
+answer-requires-2 : tie.Need-answer-requires-2
+answer-requires-2 c κs = search needs
+
+report-requires-2 : tie.Need-report-requires-2
+report-requires-2 c κs = search needs
 
 store-requires : tie.Need-store-requires
 store-requires c κs = search needs
 
 returns-4 : tie.Need-returns-4
 returns-4 c =
-    let c2 = c .before .before in
-    let c6 = c2 .before .before .before .before in
-    let c12 = c6 .before .before .before .before .before .before in
-    let c13 = c12 .before in
-    let at-sound = c13 in
+    let at-if3 = c .before .before .before in
+    let at-apply = at-if3 .before .before .before .before .before in
+    let at-if2 = at-apply .before .before .before .before .before .before in
+    let at-sound = at-if2 .before in
     let at-load = at-sound .before .before .before .before .before .before .before .before .before .before .before in
     let a = at-load .before .before .before in
     let s = a .args .self in
     let fit = sym (at-load .before .before .fits2 .ensures) ∙ not-false _ (at-load .before .if1 .left) in
     let slices = at-load .load .ensures in
-    let good = sym (tested s fit slices _ (at-sound .sound .ensures)) ∙ not-false _ (c12 .if2 .left) in
-    let did = c6 .apply .ensures in
-    let zero = c .before .if3 .left in
-    accepted-by s fit slices (a .args .event) good _ did _ (c2 .number .ensures) zero _ (c .store .ensures)
+    let good = sym (tested s fit slices _ (at-sound .sound .ensures)) ∙ not-false _ (at-if2 .if2 .left) in
+    accepted-by s fit slices (a .args .event) good _ (at-apply .apply .ensures) _ (at-if3 .before .number .ensures) _
+    (c .before .before .answer2 .ensures) _ (c .before .report2 .ensures) (at-if3 .if3 .left) _ (c .store .ensures)
 
 pub applied-spec : {M : Type 1} → statement M
 applied-spec =
@@ -132,6 +142,10 @@ applied-spec =
     slice-aggregate-apply-4
     apply-requires
     number-requires
+    answer-requires
+    report-requires
     returns-3
+    answer-requires-2
+    report-requires-2
     store-requires
     returns-4)

@@ -49,7 +49,7 @@ put-refused-requires c κs =
     let c6 = c5 .before in
     let c9 = c6 .before .before .before in
     let a = c9 .args in
-    let room : roomFor (a .pairs .now) ≤ length (a .out .now) = leb-true _ _
+    let room : roomFor (a .replies .now) ≤ length (a .out .now) = leb-true _ _
     (sym (c6 .has-room .ensures) ∙ not-false _ (c5 .if1 .left)) in
     omega arith
 

@@ -17,9 +17,9 @@ put-byte-requires : tie.Need-put-byte-requires
 unfolding roomFor
 put-byte-requires c κs = omega (arith, put-length (c .before .before .before .put .ensures))
 
-put-pairs-requires : tie.Need-put-pairs-requires
+put-replies-requires : tie.Need-put-replies-requires
 unfolding roomFor
-put-pairs-requires c κs =
+put-replies-requires c κs =
     let c3 = c .before .before .before in
     let c7 = c3 .before .before .before .before in
     omega (arith, put-length (c7 .put .ensures), put-length (c3 .put-byte .ensures))
@@ -33,7 +33,7 @@ put-requires-2 c κs =
     let c4 = c .before .before .before .before in
     let c8 = c4 .before .before .before .before in
     let c12 = c8 .before .before .before .before in
-    omega (arith, put-length (c12 .put .ensures), put-length (c8 .put-byte .ensures), put-length (c4 .put-pairs .ensures .0))
+    omega (arith, put-length (c12 .put .ensures), put-length (c8 .put-byte .ensures), put-length (c4 .put-replies .ensures .0))
 
 put-byte-requires-2 : tie.Need-put-byte-requires-2
 unfolding roomFor
@@ -46,7 +46,7 @@ put-byte-requires-2 c κs =
       arith,
       put-length (c16 .put .ensures),
       put-length (c12 .put-byte .ensures),
-      put-length (c8 .put-pairs .ensures .0),
+      put-length (c8 .put-replies .ensures .0),
       put-length (c3 .put2 .ensures),
     )
 
@@ -60,7 +60,7 @@ returns c =
     let c11 = c6 .before .before .before .before .before in
     let c15 = c11 .before .before .before .before in
     let c19 = c15 .before .before .before .before in
-    put-passed _ (c19 .put .ensures) (c15 .put-byte .ensures) (c11 .put-pairs .ensures .0) (c6 .put2 .ensures) (c2 .put-byte2 .ensures)
+    put-passed _ (c19 .put .ensures) (c15 .put-byte .ensures) (c11 .put-replies .ensures .0) (c6 .put2 .ensures) (c2 .put-byte2 .ensures)
 
 pub put-passed-spec : {M : Type 1} → statement M
 put-passed-spec =
@@ -69,7 +69,7 @@ put-passed-spec =
     slice-aggregate-put
     put-requires
     put-byte-requires
-    put-pairs-requires
+    put-replies-requires
     slice-aggregate-put-2
     put-requires-2
     put-byte-requires-2

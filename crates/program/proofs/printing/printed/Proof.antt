@@ -11,17 +11,17 @@ use Rattle.program.proofs.printing.printed.Tie as tie
 run-requires : tie.Need-run-requires
 run-requires c κs = search needs
 
-pairs-written-requires : tie.Need-pairs-written-requires
-pairs-written-requires c κs = search needs
+replies-written-requires : tie.Need-replies-written-requires
+replies-written-requires c κs = search needs
 
 slice-reshare-prefix-lines : tie.Need-slice-reshare-prefix-lines
 slice-reshare-prefix-lines c =
     let c3 = c .before .before .before in
     let c9 = c3 .before .before .before .before .before .before in
     let a = c9 .args in
-    let same : length (c3 .run .last .1 .1 .0) ≡ length (a .pairs .now) = search needs in
-    let fits = written-fits (a .roster .now) (a .events .now) (a .pairs .now) (c3 .run .last .1 .1 .0) _ _
-    (c3 .run .ensures .0) (c .pairs-written .ensures)
+    let same : length (c3 .run .last .1 .1 .0) ≡ length (a .replies .now) = search needs in
+    let fits = written-fits (a .roster .now) (a .events .now) (a .replies .now) (c3 .run .last .1 .1 .0) _ _
+    (c3 .run .ensures .0) (c .replies-written .ensures)
     in
     omega arith
 
@@ -30,11 +30,11 @@ slice-aggregate-lines c =
     let c4 = c .before .before .before .before in
     let c10 = c4 .before .before .before .before .before .before in
     let a = c10 .args in
-    let same : length (c4 .run .last .1 .1 .0) ≡ length (a .pairs .now) = search needs in
-    let fits = written-fits (a .roster .now) (a .events .now) (a .pairs .now) (c4 .run .last .1 .1 .0) _ _
-    (c4 .run .ensures .0) (c .before .pairs-written .ensures)
+    let same : length (c4 .run .last .1 .1 .0) ≡ length (a .replies .now) = search needs in
+    let fits = written-fits (a .roster .now) (a .events .now) (a .replies .now) (c4 .run .last .1 .1 .0) _ _
+    (c4 .run .ensures .0) (c .before .replies-written .ensures)
     in
-    sym (length-take-le (c .before .pairs-written .result) (c4 .run .last .1 .1 .0) (omega arith))
+    sym (length-take-le (c .before .replies-written .result) (c4 .run .last .1 .1 .0) (omega arith))
 
 lines-requires : tie.Need-lines-requires
 lines-requires c κs = search needs
@@ -52,7 +52,7 @@ returns c =
     let c8 = c5 .before .before .before in
     let c14 = c8 .before .before .before .before .before .before in
     let a = c14 .args in
-    printed-is (a .roster .now) (a .events .now) (a .pairs .now) _ (a .out .now) _ _ _ _ (c8 .run .ensures .0) (c5 .pairs-written .ensures)
+    printed-is (a .roster .now) (a .events .now) (a .replies .now) _ (a .out .now) _ _ _ _ (c8 .run .ensures .0) (c5 .replies-written .ensures)
     (c8 .run .ensures .1) (c2 .lines .ensures .0) (c2 .lines .ensures .1)
 
 pub printed-spec : {M : Type 1} → statement M
@@ -60,7 +60,7 @@ printed-spec =
     tie.close
     (tie.spec
     run-requires
-    pairs-written-requires
+    replies-written-requires
     slice-reshare-prefix-lines
     slice-aggregate-lines
     lines-requires

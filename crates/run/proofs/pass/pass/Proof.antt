@@ -1,25 +1,26 @@
 -- `run::pass::pass` meets its contract.
 use native.Mathlib.Omega.{arith}
 use borrow.Author.Needs.{needs}
-use mathlib.Core.Path.{_≡_, refl}
+use mathlib.Core.Path.{_≡_, refl, ap, _∙_}
 use Prim.Native.Nat.{_*_, _≤_, _-_}
 use lib.ListN.{length, drop, length-set}
 use lib.Seq.{sets}
+use Rattle.rules.specs.Answers.{reportNumber}
 use Rattle.format.specs.Roster.{rosterOf}
-use Rattle.trace.specs.Limits.{pairSize}
+use Rattle.trace.specs.Limits.{replySize}
 use Rattle.trace.specs.Inputs.{inputsOf}
-use Rattle.trace.specs.Run.{pairsFrom}
+use Rattle.trace.specs.Run.{repliesFrom}
 use Rattle.run.specs.Slices.{configOf, Going}
-use Rattle.run.proofs.PassLaws.{pairs-turn, pairs-over, runner-low}
+use Rattle.run.proofs.PassLaws.{replies-turn, replies-over, runner-low}
 use Rattle.run.proofs.pass.pass.Statement.{statement}
 use Rattle.run.proofs.pass.pass.Tie as tie
 
 abbrev Inv-loop : tie.InvT-loop
 Inv-loop roster table events buffer₀ head₀ tasks₀ held₀ ceilings queues₀ positions₀ n i₀ buffer head tasks held queues positions i =
     (i ≤ n) × (length buffer ≡ length buffer₀) × Going roster head tasks held ceilings queues positions ×
-    (sets buffer₀ 0 (pairsFrom (rosterOf roster) (configOf roster head₀ tasks₀ held₀ ceilings queues₀ positions₀) (inputsOf events)) ≡
-    sets buffer (pairSize * i)
-    (pairsFrom (rosterOf roster) (configOf roster head tasks held ceilings queues positions) (drop i (inputsOf events))))
+    (sets buffer₀ 0 (repliesFrom (rosterOf roster) (configOf roster head₀ tasks₀ held₀ ceilings queues₀ positions₀) (inputsOf events)) ≡
+    sets buffer (replySize * i)
+    (repliesFrom (rosterOf roster) (configOf roster head tasks held ceilings queues positions) (drop i (inputsOf events))))
 
 abbrev μ-loop : tie.MeasureT-loop
 μ-loop roster table events buffer₀ head₀ tasks₀ held₀ ceilings queues₀ positions₀ n i₀ buffer head tasks held queues positions i = n - i
@@ -62,30 +63,47 @@ add-buffer c =
 slice-write-buffer-2 : tie.Need-slice-write-buffer-2 Inv-loop μ-loop
 slice-write-buffer-2 c = simp length-set (omega arith)
 
+report-requires : tie.Need-report-requires Inv-loop μ-loop
+report-requires c κs = search needs
+
+number-requires-2 : tie.Need-number-requires-2 Inv-loop μ-loop
+number-requires-2 c κs = search needs
+
+add-buffer-2 : tie.Need-add-buffer-2 Inv-loop μ-loop
+add-buffer-2 c =
+    let at-turn = c .before .before .before .before .before .before .before .before .before .before .before .before .before .before in
+    let at-loop = at-turn .before .before .before .before .before .before in
+    let entry = at-loop .before .before .before .before .before .before .before .before .before .before in
+    omega (arith, entry .good .1 .1 .0 .0, at-loop .loop-test .taken)
+
+slice-write-buffer-3 : tie.Need-slice-write-buffer-3 Inv-loop μ-loop
+slice-write-buffer-3 c = simp length-set (omega arith)
+
 add-i : tie.Need-add-i Inv-loop μ-loop
 add-i c =
-    let c12 = c .before .before .before .before .before .before .before .before .before .before .before .before in
-    let c18 = c12 .before .before .before .before .before .before in
-    let c28 = c18 .before .before .before .before .before .before .before .before .before .before in
-    omega (arith, c28 .good .1 .1 .0 .0, c18 .loop-test .taken)
+    let at-turn = c .before .before .before .before .before .before .before .before .before .before .before .before .before .before in
+    let at-loop = at-turn .before .before .before .before .before .before in
+    let entry = at-loop .before .before .before .before .before .before .before .before .before .before in
+    omega (arith, entry .good .1 .1 .0 .0, at-loop .loop-test .taken)
 
 loop-less : tie.Need-loop-less Inv-loop μ-loop
 loop-less c = omega arith
 
 loop-again : tie.Need-loop-again Inv-loop μ-loop
 loop-again c =
-    let c2 = c .before .before in
-    let c11 = c2 .before .before .before .before .before .before .before .before .before in
-    let c17 = c11 .before .before .before .before .before .before in
-    let c18 = c17 .before in
-    let c19 = c18 .before in
-    let loop = c19 .loop in
-    let event = c11 .happen .ensures in (
+    let at-running = c .before .before in
+    let at-number = at-running .before .before in
+    let at-happen = at-number .before .before .before .before .before .before .before .before .before in
+    let at-input = at-happen .before .before .before .before .before .before in
+    let at-test = at-input .before in
+    let loop = at-test .before .loop in
+    let event = at-happen .happen .ensures in
+    let number = c .number2 .ensures ∙ ap reportNumber (c .before .report .ensures) in (
       omega arith,
       simp length-set (loop .inv .1),
       event .going,
-      pairs-turn _ _ _ _ _ _ _ _ _ _ _ (c18 .loop-test .taken) (c17 .input-at .ensures) (event .answer) (event .same)
-          (c2 .number .ensures) (c .running-byte .ensures) (loop .inv .3),
+      replies-turn _ _ _ _ _ _ _ _ _ _ _ (at-happen .happen .result) (at-test .loop-test .taken) (at-input .input-at .ensures) (event .answer) (event .report)
+          (event .same) (at-number .number .ensures) (at-running .running-byte .ensures) number (loop .inv .3),
     )
 
 same-length : tie.Need-same-length Inv-loop μ-loop
@@ -104,7 +122,7 @@ same-length-5 : tie.Need-same-length-5 Inv-loop μ-loop
 same-length-5 c = search needs
 
 returns : tie.Need-returns Inv-loop μ-loop
-returns c = pairs-over _ _ _ _ _ _ (c .loop-test .left) (c .before .loop .inv .3)
+returns c = replies-over _ _ _ _ _ _ (c .loop-test .left) (c .before .loop .inv .3)
 
 pub pass-spec : {M : Type 1} → statement M
 pass-spec =
@@ -121,6 +139,10 @@ pass-spec =
     running-byte-requires
     add-buffer
     slice-write-buffer-2
+    report-requires
+    number-requires-2
+    add-buffer-2
+    slice-write-buffer-3
     add-i
     loop-less
     loop-again

@@ -3,7 +3,7 @@ use mathlib.Core.Path.{ap, _∙_}
 use mathlib.Core.List.{List}
 use Prim.Native.Nat.{ℕ}
 use lib.Seq.{sets}
-use Rattle.run.proofs.StartLaws.{started, pairs-are}
+use Rattle.run.proofs.StartLaws.{started, replies-are}
 use borrow.Author.Needs.{needs}
 use Rattle.run.proofs.pass.run_through.Statement.{statement}
 use Rattle.run.proofs.pass.run_through.Tie as tie
@@ -58,7 +58,7 @@ returns c =
     let c28 = c18 .before .before .before .before .before .before .before .before .before .before in
     let a = c28 .args in
     c6 .pass .ensures ∙
-    ap (λ (l : List ℕ). sets (a .buffer .now) 0 l) (pairs-are (a .roster .now) (c28 .pre .0) (c18 .start .ensures) (a .events .now))
+    ap (λ (l : List ℕ). sets (a .buffer .now) 0 l) (replies-are (a .roster .now) (c28 .pre .0) (c18 .start .ensures) (a .events .now))
 
 pub run-through-spec : {M : Type 1} → statement M
 run-through-spec =
