@@ -29,11 +29,37 @@ fn room_around(random: &mut Random, needed: usize) -> usize {
     }
 }
 
+/// The replies of runs by their answers, and by their reports.
+#[derive(Default)]
+struct Replies {
+    answers: Histogram,
+    reports: Histogram,
+}
+
+impl Replies {
+    fn count(&mut self, replies: &[u8]) {
+        for reply in replies.chunks_exact(REPLY_SIZE) {
+            self.answers.count(reply[0]);
+            self.reports.count(reply[2]);
+        }
+    }
+
+    /// A roster that passes names only what is listed and leaves in order, so no event of a run is answered 2, 7 or 9.
+    fn require(&self) {
+        let answers = [0, 1, 3, 4, 5, 6, 8];
+        self.answers.print("events by answer");
+        self.answers.require(&answers, LEAST);
+        self.answers.require_no_other(&answers);
+        self.reports.print("events by report");
+        self.reports.require(&[0, 1, 2], LEAST);
+        self.reports.require_no_other(&[0, 1, 2]);
+    }
+}
+
 #[test]
 fn a_run_agrees_with_the_second_program() {
     let mut answers = Histogram::new();
-    let mut replies = Histogram::new();
-    let mut reports = Histogram::new();
+    let mut replies = Replies::default();
     for seed in 0..CASES {
         let mut random = Random::new(seed);
         let roster = roster_of(&mut random, seed);
@@ -57,22 +83,13 @@ fn a_run_agrees_with_the_second_program() {
         assert!(found == wanted, "buffer, {}", input());
         answers.count(answer.0);
         if answer.0 == 0 {
-            for reply in found[..needed].chunks_exact(REPLY_SIZE) {
-                replies.count(reply[0]);
-                reports.count(reply[2]);
-            }
+            replies.count(&found[..needed]);
         }
     }
     answers.print("runs by answer");
     answers.require(&[0, 11, 12, 13, 14, 15, 16, 17, 18, 19, 20, 21, 22], LEAST);
     assert!(2 * answers.of(0) >= CASES as usize, "at least half run");
-    // A roster that passes names only what is listed and leaves in order, so no event of a run is answered 2, 7 or 9.
-    replies.print("events by answer");
-    replies.require(&[0, 1, 3, 4, 5, 6, 8], LEAST);
-    replies.require_no_other(&[0, 1, 3, 4, 5, 6, 8]);
-    reports.print("events by report");
-    reports.require(&[0, 1, 2], LEAST);
-    reports.require_no_other(&[0, 1, 2]);
+    replies.require();
 }
 
 /// Document 01's whole case.

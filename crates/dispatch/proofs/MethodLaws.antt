@@ -51,6 +51,7 @@ module _ (s : State) where
       unfolding answered
       refused-by z = sym (by-rule ∙ rw (← d .answer, ← d .report, ← i, ne-eqb n 0 z, p, q))
 
-      pub accepted-by : n ≡ 0 → (t : State) → t ≡ encode (modelOf h' ts' hd' cs' qs') → record { answer = a; report = w; state = t } ≡ appliedOf s e
+      pub accepted-by : n ≡ 0 → (t : State) → t ≡ encode (modelOf h' ts' hd' cs' qs') →
+          record { answer = a; report = w; state = t } ≡ appliedOf s e
       unfolding answered
       accepted-by z t f = sym (by-rule ∙ rw (← d .answer, ← d .report, ← i, eq-eqb n 0 z, f, d .same, p, q))

@@ -57,7 +57,8 @@ module _ (b : List ℕ) (e : Event) where
   unfolding eventReport
   event-unread n i h w j =
       let same = unread-number h in
-      (i ∙ sym same, (bytes-kept (λ z. let clash = sym same ∙ z in omega arith), j ∙ sym (cond-false (readable b) _ (reportNumber Unchanged) h)))
+      let none = cond-false (readable b) _ (reportNumber Unchanged) h in
+      (i ∙ sym same, (bytes-kept (λ z. let clash = sym same ∙ z in omega arith), j ∙ sym none))
 
   module _ (r : Stepped) (step : r ≡ appliedOf (stateOfBytes b) e) (n : ℕ) (i : n ≡ numberOf (r .answer)) (w : ℕ)
       (j : w ≡ reportNumber (r .report)) (h : readable b ≡ true) where

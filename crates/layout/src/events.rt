@@ -1,6 +1,7 @@
 // A fresh start and the events, on a state in lent bytes.
 ghost use mathlib.Core.Path.{_≡_};
-ghost use Rattle.layout.specs.Events.{eventNumber, eventBytes, eventReport, freshNumber, freshBytes, soundNumber, listedCode, runningNumber};
+ghost use Rattle.layout.specs.Events.{eventNumber, eventBytes, eventReport, freshNumber, freshBytes, soundNumber, listedCode};
+ghost use Rattle.layout.specs.Events.{runningNumber};
 use crate::decode::read;
 use crate::encode::write;
 use crate::ranges::readable;

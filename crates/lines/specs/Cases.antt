@@ -6,8 +6,8 @@ use Rattle.format.specs.Cases.{wholeCase}
 use Rattle.trace.specs.Cases.{wholeEvents}
 use Rattle.lines.specs.Printed.{printed}
 
--- "`passed`, `0 0`, `0 0`, `0 0`, `0 0`, `0 1`, `0 1`, `4 1`, `0 1`, `0 0`, `0 -`, `5 -`, `end`", one line each, with the reports of 2026-10:
--- `0 0 2`, `0 0 0`, `0 0 0`, `0 0 0`, `0 1 1`, `0 1 0`, `4 1 0`, `0 1 0`, `0 0 2`, `0 - 2`, `5 - 0`
+-- "`passed`, `0 0`, `0 0`, `0 0`, `0 0`, `0 1`, `0 1`, `4 1`, `0 1`, `0 0`, `0 -`, `5 -`, `end`", one line each, and with the reports of
+-- 2026-10 `0 0 2`, `0 0 0`, `0 0 0`, `0 0 0`, `0 1 1`, `0 1 0`, `4 1 0`, `0 1 0`, `0 0 2`, `0 - 2`, `5 - 0`
 abbrev pub wholeText : List ℕ
 wholeText =
     112 ∷ 97 ∷ 115 ∷ 115 ∷ 101 ∷ 100 ∷ 10 ∷

@@ -14,12 +14,12 @@ use Rattle.rules.specs.Reports.{ReportCasesClaim}
 
 -- both at once, so that what they unfold is named once
 computed : CasesClaim × ReportCasesClaim
-unfolding Reports.reportsFrom Reports.reportsIn Reports.reported Reports.reportCases Cases.outcomeFrom Cases.outcome Cases.queuesOf Cases.expected Cases.case Cases.markedCases Model.highestOf
-    Moves.becomeReady Moves.stopped Moves.preempt Moves.start Moves.highestTo Moves.highest Moves.dispatchBy
-    Moves.dispatch Moved.isNobody Moved.sameRunner Moved.reportBy Moved.accepted Moved.refuseIfNobody Lists.allOf Fresh.newTasks Fresh.joinFrom Fresh.freshModel
-    Fresh.refusedFresh Fresh.fresh Lists.timesIn Events.enter Events.settleWith Events.settle Events.leave Events.putOff
-    Events.delay Events.rest Events.suspend Events.releaseFrom Events.release Events.dueAt Events.earlier
-    Events.firstDue Events.wake Events.wakeUp Events.badReading Events.clock Lists.without Events.requeue Events.rebase
+unfolding Reports.reportsFrom Reports.reportsIn Reports.reported Reports.reportCases Cases.outcomeFrom Cases.outcome Cases.queuesOf
+    Cases.expected Cases.case Cases.markedCases Model.highestOf Moves.becomeReady Moves.stopped Moves.preempt Moves.start Moves.highestTo
+    Moves.highest Moves.dispatchBy Moves.dispatch Moved.isNobody Moved.sameRunner Moved.reportBy Moved.accepted Moved.refuseIfNobody
+    Lists.allOf Fresh.newTasks Fresh.joinFrom Fresh.freshModel Fresh.refusedFresh Fresh.fresh Lists.timesIn Events.enter Events.settleWith
+    Events.settle Events.leave Events.putOff Events.delay Events.rest Events.suspend Events.releaseFrom Events.release Events.dueAt
+    Events.earlier Events.firstDue Events.wake Events.wakeUp Events.badReading Events.clock Lists.without Events.requeue Events.rebase
     Events.isEnded Events.setBase Events.work Events.finish Events.apply
 computed = (refl, refl)
 

@@ -237,7 +237,8 @@ module _ (m : Model) (t p : ℕ) where
   unfolding known
   set-6 e g h = on-known e g ∙ cond-true (isEnded (taskAt m t .place)) (refused m EndedTask) _ h
 
-  pub set-0 : noTask m t ≡ false → inRange p ≡ true → isEnded (taskAt m t .place) ≡ false → setBase m t p ≡ accepted (m .running) (rebase m t p)
+  pub set-0 : noTask m t ≡ false → inRange p ≡ true → isEnded (taskAt m t .place) ≡ false →
+      setBase m t p ≡ accepted (m .running) (rebase m t p)
   unfolding known
   set-0 e g h = on-known e g ∙ cond-false (isEnded (taskAt m t .place)) (refused m EndedTask) _ h
 

@@ -32,7 +32,8 @@ answer-cond false x y = refl
 
 -- an event of the running task with the tests f and g: refused, or accepted
 one-test : (m : Model) (w : Runner) (a : Answer) (f : ℕ → Bool) (x : ℕ → Model) →
-    refuseIfNobody m w (λ t. cond (f t) (refused m a) (accepted (m .running) (x t))) .answer ≡ cond (isNobody w) NobodyRuns (cond (ofRunner w f) a Done)
+    refuseIfNobody m w (λ t. cond (f t) (refused m a) (accepted (m .running) (x t))) .answer ≡
+    cond (isNobody w) NobodyRuns (cond (ofRunner w f) a Done)
 unfolding refuseIfNobody ofRunner isNobody accepted
 one-test m Nobody a f x = refl
 one-test m (Task t) a f x = answer-cond (f t) (refused m a) (accepted (m .running) (x t))

@@ -47,9 +47,9 @@ unfolding sameRunner
 same-self Nobody = refl
 same-self (Task t) = eq-eqb t t refl
 
--- one report is no other
-apart : {C : Type 0} (x y : Report) → (reportNumber x ≡ reportNumber y → ⊥) → x ≡ y → C
-apart x y n e = absurd (n (ap reportNumber e))
+-- no report is two
+apart : {C : Type 0} (r x y : Report) → r ≡ x → r ≡ y → (reportNumber x ≡ reportNumber y → ⊥) → C
+apart r x y e i n = absurd (n (ap reportNumber (sym e ∙ i)))
 
 somebody-is : (w : Runner) → not (isNobody w) ≡ true → (t : ℕ) × (w ≡ Task t)
 unfolding isNobody
@@ -92,13 +92,15 @@ module _ (b d a : Runner) where
 
   pub same-report : (reportBy b d a ≡ Unchanged) ↔ (a ≡ b)
   same-report =
-      by-report (λ k e. (λ x. k, λ x. e)) (λ s e. (λ x. apart Preempted Unchanged (λ z. omega (arith, z)) (sym e ∙ x), λ k. absurd (s .1 .2 (k ∙ s .1 .0))))
-      (λ n m e. (λ x. apart Changed Unchanged (λ z. omega (arith, z)) (sym e ∙ x), λ k. absurd (n k)))
+      by-report (λ k e. (λ i. k, λ i. e))
+      (λ s e. (λ i. apart _ Preempted Unchanged e i (λ z. omega (arith, z)), λ k. absurd (s .1 .2 (k ∙ s .1 .0))))
+      (λ n m e. (λ i. apart _ Changed Unchanged e i (λ z. omega (arith, z)), λ k. absurd (n k)))
 
   sent-report : (reportBy b d a ≡ Preempted) ↔ Sent
   sent-report =
-      by-report (λ k e. (λ x. apart Unchanged Preempted (λ z. omega (arith, z)) (sym e ∙ x), λ s. absurd (s .1 .2 (k ∙ s .1 .0)))) (λ s e. (λ x. s, λ x. e))
-      (λ n m e. (λ x. apart Changed Preempted (λ z. omega (arith, z)) (sym e ∙ x), λ s. absurd (m s)))
+      by-report (λ k e. (λ i. apart _ Unchanged Preempted e i (λ z. omega (arith, z)), λ s. absurd (s .1 .2 (k ∙ s .1 .0))))
+      (λ s e. (λ i. s, λ i. e))
+      (λ n m e. (λ i. apart _ Changed Preempted e i (λ z. omega (arith, z)), λ s. absurd (m s)))
 
 -- a dispatch after which another runs than before it preempted that task
 switched : (n : Model) (t : ℕ) → n .running ≡ Task t → (dispatch n .running ≡ Task t → ⊥) → active n t < highest n
@@ -134,7 +136,8 @@ module _ (m : Model) (e : Event) where
     where
       only : apply m e .report ≡ Preempted → Preempts m e
       only x =
-          let d = by-answer (apply m e .answer) (λ i. i) (λ n. apart Unchanged Preempted (λ z. omega (arith, z)) (sym (report-refused n) ∙ x)) in
+          let d = by-answer (apply m e .answer) (λ i. i)
+          (λ n. apart _ Unchanged Preempted (report-refused n) x (λ z. omega (arith, z))) in
           let is = done-model m e d in
           let (t, (r, s, o)) = sent-report (m .running) (effect m e .running) (apply m e .model .running) .0 (sym (done-report d) ∙ x) in
           let above = switched (effect m e) t s (λ k. o (ap (λ (v : Model). v .running) is ∙ k)) in

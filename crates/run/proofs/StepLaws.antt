@@ -185,7 +185,7 @@ module _ {s h ts hd cs qs ps : List ℕ} (g : Going s h ts hd cs qs ps) where
           (made v refl
           (sym (ap (λ (b : Bool). cond b (set (take (taskCount s) ps) t (positionAfter k x)) (take (taskCount s) ps)) no)))
 
-      pub step-accepted : {h' ts' hd' qs' : List ℕ} {y : Ruling} (n : ℕ) (j : ℕ) → n ≡ numberOf (answerOf y) → n ≡ 0 → j ≡ positionAfter k x →
+      pub step-accepted : {h' ts' hd' qs' : List ℕ} {y : Ruling} (n j : ℕ) → n ≡ numberOf (answerOf y) → n ≡ 0 → j ≡ positionAfter k x →
           Moves h' ts' hd' cs qs' y (perform (modelOf h ts hd cs qs) x) →
           Happened s h' ts' hd' cs qs' (set ps t j) y (happen (rosterOf s) c Stepped)
       step-accepted {h'} {ts'} {hd'} {qs'} {y} n j e z f v =

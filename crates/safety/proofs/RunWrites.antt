@@ -109,7 +109,8 @@ module _ (s ev buffer : List ℕ) (es : List Event) (e : answerOf s ev (length b
     report-written = written 2 (omega arith)
 
 pub run-writes : RunWrites
-run-writes s ev buffer es y e f = record { answer = answer; task = task-written s ev buffer es e f; report = report-written s ev buffer es e f }
+run-writes s ev buffer es y e f =
+    record { answer = answer; task = task-written s ev buffer es e f; report = report-written s ev buffer es e f }
   where
     answer : (before behind : List Event) → es ≡ before ++ (step ∷ behind) →
         (getD (bufferOf s ev buffer) (replySize * length before) 0 ≡ 0 → ⊥) ↔ Idle (rosterOf s) before

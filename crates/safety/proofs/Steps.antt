@@ -45,8 +45,8 @@ pub record Fine (ps : List ℕ) (b : Reckoning) (v : Moved) : Type 0 where
   pub agree : Agree b (v .model .now) (v .model .tasks) ps
 
 -- from the Model before its dispatch
-pub fine : (w : Runner) (ps : List ℕ) (b : Reckoning) (v : Moved) (n : Model) → v ≡ accepted w n → Pending true n → Agree b (n .now) (n .tasks) ps →
-    Fine ps b v
+pub fine : (w : Runner) (ps : List ℕ) (b : Reckoning) (v : Moved) (n : Model) → v ≡ accepted w n → Pending true n →
+    Agree b (n .now) (n .tasks) ps → Fine ps b v
 unfolding accepted
 fine w ps b v n e p a =
     subst (Fine ps b) (sym e)
@@ -174,7 +174,8 @@ module _ (ps : List ℕ) (b : Reckoning) (m : Model) (h : Good true m) (a : Agre
       (suspend m)
   unfolding stopped awayOf
   fine-suspend z =
-      fine (m .running) ps _ (suspend m) (rest m t) (suspend-0 m t e (outside z)) (pending-rest m t h e (outside z)) (rests (taskAt m t .permit) refl)
+      fine (m .running) ps _ (suspend m) (rest m t) (suspend-0 m t e (outside z)) (pending-rest m t h e (outside z))
+      (rests (taskAt m t .permit) refl)
     where
       permit-is : statusAt b t .permit ≡ taskAt m t .permit
       permit-is = ap (λ (v : Status). v .permit) is
@@ -244,7 +245,8 @@ module _ (ps : List ℕ) (b : Reckoning) (m : Model) (h : Good true m) (a : Agre
       Fine ps (withStatus b t (atLeave (insideOf (statusAt b t) (without o (statusAt b t .inside))))) (leave m o)
   unfolding becomesBase
   fine-leave o l i f =
-      fine (m .running) ps _ (leave m o) (settle (giveUp m t) t) (leave-0 m o t (lt-leb (length (m .ceilings)) o l) e i) (pending-leave m t h e)
+      fine (m .running) ps _ (leave m o) (settle (giveUp m t) t) (leave-0 m o t (lt-leb (length (m .ceilings)) o l) e i)
+      (pending-leave m t h e)
       (settles (inside (taskAt n t)) refl)
     where
       n : Model

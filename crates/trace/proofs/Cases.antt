@@ -27,42 +27,25 @@ use Rattle.trace.specs.Cases.{Traced, LongEventsRefused}
 
 pub traced : Traced
 unfolding Lists.timesIn Lists.without Lists.allOf Lists.below Model.highestOf Moves.becomeReady Moves.stopped Moves.preempt Moves.start
-    Moves.highestTo Moves.highest Moves.dispatchBy Moves.dispatch Moved.isNobody Moved.sameRunner Moved.reportBy Moved.accepted Moved.refuseIfNobody Fresh.newTasks Fresh.joinFrom
-    Fresh.freshModel Fresh.refusedFresh Fresh.fresh Events.enter Events.settleWith Events.settle Events.leave Events.putOff Events.delay
-    Events.rest Events.suspend Events.releaseFrom Events.release Events.dueAt Events.earlier Events.firstDue Events.wake Events.wakeUp
-    Events.badReading Events.clock Events.requeue Events.rebase Events.isEnded Events.setBase Events.work Events.finish Events.apply
-    Words.wordAt Words.numberAt Words.tabulate FormAnswers.first Format.trailer Format.taskCount Format.objectCount Format.objectTable
-    Format.taskTable Format.taskRow Format.baseAt Format.startAt Format.lengthAt Format.objectRow Format.ceilingAt Format.partAt
-    Steps.setStep Steps.stepOf Steps.codeAt Steps.aAt Steps.bAt Steps.stepAt Steps.stepsOf Roster.rosterOf Form.lengthGood Form.markGood
-    Form.countsKept Form.tablesGood Form.scriptsEnd Form.laidFrom Form.scriptLaid Form.scriptsLaid Form.layoutGood Form.taskRowGood
-    Form.objectRowGood Form.valuesGood Form.isStep Form.unusedZero Form.namesListed Form.standsRight Form.stepGood Form.stepForm
-    Form.stepsForm
-    Form.scriptForm Form.scriptsForm Form.formOf Form.scriptAnswer Form.scriptPart Check.heldAfter Check.heldBefore Check.ownSet
-    Check.topOf Check.whileHeld Check.lowCeiling Check.notInnermost Check.otherTask Check.faultOf Check.faultIn Check.stepsFault
-    Check.topAt Check.scriptFault Check.rosterFault Check.checkOf Config.startOf Config.eventOf Config.answerTo Config.perform
-    Config.positionAfter Config.advance Config.stepBy Config.outside Config.happen Inputs.decode Inputs.valueAt Inputs.decodedAt
-    Inputs.eventGood Inputs.eventsGood Inputs.inputAt Inputs.inputsOf Run.answerOf Run.runningByte Run.replyOf Run.repliesFrom Run.repliesOf
-    Run.bufferOf Cases.cases
+    Moves.highestTo Moves.highest Moves.dispatchBy Moves.dispatch Moved.isNobody Moved.sameRunner Moved.reportBy Moved.accepted
+    Moved.refuseIfNobody Fresh.newTasks Fresh.joinFrom Fresh.freshModel Fresh.refusedFresh Fresh.fresh Events.enter Events.settleWith
+    Events.settle Events.leave Events.putOff Events.delay Events.rest Events.suspend Events.releaseFrom Events.release Events.dueAt
+    Events.earlier Events.firstDue Events.wake Events.wakeUp Events.badReading Events.clock Events.requeue Events.rebase Events.isEnded
+    Events.setBase Events.work Events.finish Events.apply Words.wordAt Words.numberAt Words.tabulate FormAnswers.first Format.trailer
+    Format.taskCount Format.objectCount Format.objectTable Format.taskTable Format.taskRow Format.baseAt Format.startAt Format.lengthAt
+    Format.objectRow Format.ceilingAt Format.partAt Steps.setStep Steps.stepOf Steps.codeAt Steps.aAt Steps.bAt Steps.stepAt Steps.stepsOf
+    Roster.rosterOf Form.lengthGood Form.markGood Form.countsKept Form.tablesGood Form.scriptsEnd Form.laidFrom Form.scriptLaid
+    Form.scriptsLaid Form.layoutGood Form.taskRowGood Form.objectRowGood Form.valuesGood Form.isStep Form.unusedZero Form.namesListed
+    Form.standsRight Form.stepGood Form.stepForm Form.stepsForm Form.scriptForm Form.scriptsForm Form.formOf Form.scriptAnswer
+    Form.scriptPart Check.heldAfter Check.heldBefore Check.ownSet Check.topOf Check.whileHeld Check.lowCeiling Check.notInnermost
+    Check.otherTask Check.faultOf Check.faultIn Check.stepsFault Check.topAt Check.scriptFault Check.rosterFault Check.checkOf
+    Config.startOf Config.eventOf Config.answerTo Config.perform Config.positionAfter Config.advance Config.stepBy Config.outside
+    Config.happen Inputs.decode Inputs.valueAt Inputs.decodedAt Inputs.eventGood Inputs.eventsGood Inputs.inputAt Inputs.inputsOf
+    Run.answerOf Run.runningByte Run.replyOf Run.repliesFrom Run.repliesOf Run.bufferOf Cases.cases
 traced = refl
 
 pub long-events-refused : LongEventsRefused
-unfolding Lists.timesIn Lists.without Lists.allOf Lists.below Model.highestOf Moves.becomeReady Moves.stopped Moves.preempt Moves.start
-    Moves.highestTo Moves.highest Moves.dispatchBy Moves.dispatch Moved.isNobody Moved.sameRunner Moved.reportBy Moved.accepted Moved.refuseIfNobody Fresh.newTasks Fresh.joinFrom
-    Fresh.freshModel Fresh.refusedFresh Fresh.fresh Events.enter Events.settleWith Events.settle Events.leave Events.putOff Events.delay
-    Events.rest Events.suspend Events.releaseFrom Events.release Events.dueAt Events.earlier Events.firstDue Events.wake Events.wakeUp
-    Events.badReading Events.clock Events.requeue Events.rebase Events.isEnded Events.setBase Events.work Events.finish Events.apply
-    Words.wordAt Words.numberAt Words.tabulate FormAnswers.first Format.trailer Format.taskCount Format.objectCount Format.objectTable
-    Format.taskTable Format.taskRow Format.baseAt Format.startAt Format.lengthAt Format.objectRow Format.ceilingAt Format.partAt
-    Steps.setStep Steps.stepOf Steps.codeAt Steps.aAt Steps.bAt Steps.stepAt Steps.stepsOf Roster.rosterOf Form.lengthGood Form.markGood
-    Form.countsKept Form.tablesGood Form.scriptsEnd Form.laidFrom Form.scriptLaid Form.scriptsLaid Form.layoutGood Form.taskRowGood
-    Form.objectRowGood Form.valuesGood Form.isStep Form.unusedZero Form.namesListed Form.standsRight Form.stepGood Form.stepForm
-    Form.stepsForm
-    Form.scriptForm Form.scriptsForm Form.formOf Form.scriptAnswer Form.scriptPart Check.heldAfter Check.heldBefore Check.ownSet
-    Check.topOf Check.whileHeld Check.lowCeiling Check.notInnermost Check.otherTask Check.faultOf Check.faultIn Check.stepsFault
-    Check.topAt Check.scriptFault Check.rosterFault Check.checkOf Config.startOf Config.eventOf Config.answerTo Config.perform
-    Config.positionAfter Config.advance Config.stepBy Config.outside Config.happen Inputs.decode Inputs.valueAt Inputs.decodedAt
-    Inputs.eventGood Inputs.eventsGood Inputs.inputAt Inputs.inputsOf Run.answerOf Run.runningByte Run.replyOf Run.repliesFrom Run.repliesOf
-    Run.bufferOf Cases.cases
+unfolding Inputs.eventsGood
 long-events-refused events h =
     sym (and-no _ _ (and-none (eqb (length events % 8) 0) (leb (length events) 32768) (lt-leb (length events) 32768 h)))
   where

@@ -37,11 +37,12 @@ twice more = 1 ∷ 0 ∷ more ∷ 184 ∷ 76 ∷ 10 ∷ 0 ∷ 0 ∷ []
 abbrev pub wholeEvents : List ℕ
 wholeEvents = step ++ step ++ clock 5 ++ step ++ step ++ step ++ clock 4 ++ step ++ step ++ step ++ step
 
--- "`0 0`, `0 0`, `0 0`, `0 0`, `0 1`, `0 1`, `4 1`, `0 1`, `0 0`, `0 -`, `5 -`", each with its report: task 1 is delayed, which is 2; at 0's
--- Leave it preempts, which is 1; it finishes and then 0 does, which is 2 both times; all the others are 0
+-- "`0 0`, `0 0`, `0 0`, `0 0`, `0 1`, `0 1`, `4 1`, `0 1`, `0 0`, `0 -`, `5 -`", each with its report: task 1 is delayed, which is 2;
+-- at 0's Leave it preempts, which is 1; it finishes and then 0 does, which is 2 both times; all the others are 0
 abbrev pub wholeReplies : List ℕ
 wholeReplies =
-    0 ∷ 0 ∷ 2 ∷ 0 ∷ 0 ∷ 0 ∷ 0 ∷ 0 ∷ 0 ∷ 0 ∷ 0 ∷ 0 ∷ 0 ∷ 1 ∷ 1 ∷ 0 ∷ 1 ∷ 0 ∷ 4 ∷ 1 ∷ 0 ∷ 0 ∷ 1 ∷ 0 ∷ 0 ∷ 0 ∷ 2 ∷ 0 ∷ 255 ∷ 2 ∷ 5 ∷ 255 ∷ 0 ∷ []
+    0 ∷ 0 ∷ 2 ∷ 0 ∷ 0 ∷ 0 ∷ 0 ∷ 0 ∷ 0 ∷ 0 ∷ 0 ∷ 0 ∷ 0 ∷ 1 ∷ 1 ∷ 0 ∷ 1 ∷ 0 ∷
+    4 ∷ 1 ∷ 0 ∷ 0 ∷ 1 ∷ 0 ∷ 0 ∷ 0 ∷ 2 ∷ 0 ∷ 255 ∷ 2 ∷ 5 ∷ 255 ∷ 0 ∷ []
 
 -- a roster, events, a lent buffer, the answer's number, task and step, and the buffer afterwards
 pub record Case : Type 0 where

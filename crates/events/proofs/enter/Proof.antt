@@ -130,7 +130,8 @@ returns-5 c =
     let g = runner-counted v (at-if2 .if2 .left) in
     let free = holds-is v _ _ _ g (at-holds .holds .ensures) ∙ at-if3 .if3 .left in
     let within = within-ceiling v _ _ _ (at-if1 .if1 .left) (at-active .active .ensures) (at-if4 .if4 .left) in
-    did-quiet (hold-law d _ _ g (at-push .push .ensures)) (quiet-enter _ _ _ (good v) e) (enter-0 _ _ _ (known-object v _ (at-if1 .if1 .left)) e free within)
+    did-quiet (hold-law d _ _ g (at-push .push .ensures)) (quiet-enter _ _ _ (good v) e)
+    (enter-0 _ _ _ (known-object v _ (at-if1 .if1 .left)) e free within)
 
 pub enter-spec : {M : Type 1} → statement M
 enter-spec =

@@ -47,7 +47,8 @@ returns-2 c =
     let entry = at-if1 .before .before .before .before .before .before in
     let v = entry .pre in
     let no = sym (at-release-from .release-from .ensures .1) ∙ not-true _ (c .if2 .taken) in
-    did-quiet (at-release-from .release-from .ensures .0) (quiet-release _ _ _ (good v) no) (release-0 _ _ (known-task v _ (at-if1 .if1 .left)))
+    did-quiet (at-release-from .release-from .ensures .0) (quiet-release _ _ _ (good v) no)
+    (release-0 _ _ (known-task v _ (at-if1 .if1 .left)))
 
 conclude-requires : tie.Need-conclude-requires
 conclude-requires c κs =

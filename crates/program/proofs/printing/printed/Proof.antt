@@ -52,7 +52,8 @@ returns c =
     let c8 = c5 .before .before .before in
     let c14 = c8 .before .before .before .before .before .before in
     let a = c14 .args in
-    printed-is (a .roster .now) (a .events .now) (a .replies .now) _ (a .out .now) _ _ _ _ (c8 .run .ensures .0) (c5 .replies-written .ensures)
+    printed-is (a .roster .now) (a .events .now) (a .replies .now) _ (a .out .now) _ _ _ _ (c8 .run .ensures .0)
+    (c5 .replies-written .ensures)
     (c8 .run .ensures .1) (c2 .lines .ensures .0) (c2 .lines .ensures .1)
 
 pub printed-spec : {M : Type 1} → statement M

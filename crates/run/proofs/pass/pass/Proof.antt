@@ -102,8 +102,9 @@ loop-again c =
       omega arith,
       simp length-set (loop .inv .1),
       event .going,
-      replies-turn _ _ _ _ _ _ _ _ _ _ _ (at-happen .happen .result) (at-test .loop-test .taken) (at-input .input-at .ensures) (event .answer) (event .report)
-          (event .same) (at-number .number .ensures) (at-running .running-byte .ensures) number (loop .inv .3),
+      replies-turn _ _ _ _ _ _ _ _ _ _ _ (at-happen .happen .result) (at-test .loop-test .taken) (at-input .input-at .ensures)
+          (event .answer) (event .report) (event .same) (at-number .number .ensures) (at-running .running-byte .ensures)
+          number (loop .inv .3),
     )
 
 same-length : tie.Need-same-length Inv-loop μ-loop
