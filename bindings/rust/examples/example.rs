@@ -43,7 +43,10 @@ fn running(state: &State) -> String {
 fn show(event: &str, outcome: Outcome, state: &State) {
     let Outcome { answer, report } = outcome;
     let running = running(state);
-    println!("{event}: {answer}, running {running}, report {}", report.number());
+    println!(
+        "{event}: {answer}, running {running}, report {}",
+        report.number()
+    );
 }
 
 /// Marked cases A and B, a priority that is none, one that preempts, and readings that go backwards, too far and as far as may be.
@@ -124,7 +127,9 @@ fn run() {
     let result = roster::run(&ROSTER, EVENTS.as_flattened(), &mut buffer);
     verdict("run", result);
     let replies = buffer.chunks_exact(REPLY_SIZE);
-    let replies: Vec<String> = replies.map(|r| format!("{} {} {}", r[0], r[1], r[2])).collect();
+    let replies: Vec<String> = replies
+        .map(|r| format!("{} {} {}", r[0], r[1], r[2]))
+        .collect();
     println!("replies: {}", replies.join(", "));
 }
 

@@ -35,7 +35,13 @@ mod exported {
         pub fn dispatch_suspend(state: *mut u8, length: usize, report: *mut u8) -> u8;
         pub fn dispatch_release(state: *mut u8, length: usize, task: u64, report: *mut u8) -> u8;
         pub fn dispatch_clock(state: *mut u8, length: usize, reading: u64, report: *mut u8) -> u8;
-        pub fn dispatch_set(state: *mut u8, length: usize, task: u64, priority: u64, report: *mut u8) -> u8;
+        pub fn dispatch_set(
+            state: *mut u8,
+            length: usize,
+            task: u64,
+            priority: u64,
+            report: *mut u8,
+        ) -> u8;
         pub fn dispatch_work(state: *mut u8, length: usize, report: *mut u8) -> u8;
         pub fn dispatch_finish(state: *mut u8, length: usize, report: *mut u8) -> u8;
         pub fn dispatch_sound(state: *const u8, length: usize) -> u8;
@@ -160,47 +166,65 @@ fn reported(state: &mut [u8], event: impl FnOnce(*mut u8, usize, *mut u8) -> u8)
 
 pub fn enter(state: &mut [u8], object: u64) -> (u8, u8) {
     // SAFETY: state and report are lent for writing for the length of the call and no longer, and do not overlap.
-    reported(state, |bytes, length, report| unsafe { exported::dispatch_enter(bytes, length, object, report) })
+    reported(state, |bytes, length, report| unsafe {
+        exported::dispatch_enter(bytes, length, object, report)
+    })
 }
 
 pub fn leave(state: &mut [u8], object: u64) -> (u8, u8) {
     // SAFETY: as above.
-    reported(state, |bytes, length, report| unsafe { exported::dispatch_leave(bytes, length, object, report) })
+    reported(state, |bytes, length, report| unsafe {
+        exported::dispatch_leave(bytes, length, object, report)
+    })
 }
 
 pub fn delay(state: &mut [u8], ticks: u16) -> (u8, u8) {
     // SAFETY: as above.
-    reported(state, |bytes, length, report| unsafe { exported::dispatch_delay(bytes, length, ticks, report) })
+    reported(state, |bytes, length, report| unsafe {
+        exported::dispatch_delay(bytes, length, ticks, report)
+    })
 }
 
 pub fn suspend(state: &mut [u8]) -> (u8, u8) {
     // SAFETY: as above.
-    reported(state, |bytes, length, report| unsafe { exported::dispatch_suspend(bytes, length, report) })
+    reported(state, |bytes, length, report| unsafe {
+        exported::dispatch_suspend(bytes, length, report)
+    })
 }
 
 pub fn release(state: &mut [u8], task: u64) -> (u8, u8) {
     // SAFETY: as above.
-    reported(state, |bytes, length, report| unsafe { exported::dispatch_release(bytes, length, task, report) })
+    reported(state, |bytes, length, report| unsafe {
+        exported::dispatch_release(bytes, length, task, report)
+    })
 }
 
 pub fn clock(state: &mut [u8], reading: u64) -> (u8, u8) {
     // SAFETY: as above.
-    reported(state, |bytes, length, report| unsafe { exported::dispatch_clock(bytes, length, reading, report) })
+    reported(state, |bytes, length, report| unsafe {
+        exported::dispatch_clock(bytes, length, reading, report)
+    })
 }
 
 pub fn set(state: &mut [u8], task: u64, priority: u64) -> (u8, u8) {
     // SAFETY: as above.
-    reported(state, |bytes, length, report| unsafe { exported::dispatch_set(bytes, length, task, priority, report) })
+    reported(state, |bytes, length, report| unsafe {
+        exported::dispatch_set(bytes, length, task, priority, report)
+    })
 }
 
 pub fn work(state: &mut [u8]) -> (u8, u8) {
     // SAFETY: as above.
-    reported(state, |bytes, length, report| unsafe { exported::dispatch_work(bytes, length, report) })
+    reported(state, |bytes, length, report| unsafe {
+        exported::dispatch_work(bytes, length, report)
+    })
 }
 
 pub fn finish(state: &mut [u8]) -> (u8, u8) {
     // SAFETY: as above.
-    reported(state, |bytes, length, report| unsafe { exported::dispatch_finish(bytes, length, report) })
+    reported(state, |bytes, length, report| unsafe {
+        exported::dispatch_finish(bytes, length, report)
+    })
 }
 
 /// 0, or 10 for a state that is not sound.

@@ -10,9 +10,10 @@ use lib.ListN.{getD}
 use Rattle.rules.specs.Model.{Model}
 use Rattle.rules.specs.Moves.{dispatch}
 use Rattle.rules.specs.Moved.{isNobody, sameRunner, reportBy, accepted}
-use Rattle.rules.specs.declared.Report.{Report}
+use Rattle.rules.specs.Answers.{answerOf, reportOf}
+use Rattle.rules.specs.declared.Answer.the-variants.{Done}
 use Rattle.rules.specs.declared.Report.the-variants.{Unchanged, Preempted, Changed}
-use Rattle.rules.specs.declared.Ruling.the-variants.{Accepted}
+use Rattle.rules.specs.declared.Ruling.{Ruling}
 use Rattle.rules.proofs.Choices.{split}
 use Rattle.memory.specs.Memory.{runningCell, runnerOf, Means, Did}
 
@@ -51,14 +52,14 @@ module _ (x y z : ℕ) where
       cell-moved e = sym (by-cells ∙ rw (ne-eqb x z n, ne-eqb x 0 s, ne-eqb x y e))
 
 -- the dispatch of the Model m, and its report
-pub did-accepted : {h ts hd cs qs : List ℕ} (m : Model) (before : ℕ) (r : Report) → Means h ts hd cs qs (dispatch m) →
-    r ≡ reportBy (runnerOf before) (m .running) (runnerOf (getD h runningCell 0)) →
-    Did h ts hd cs qs (Accepted r) (accepted (runnerOf before) m)
+pub did-accepted : {h ts hd cs qs : List ℕ} (m : Model) (before : ℕ) (r : Ruling) → Means h ts hd cs qs (dispatch m) →
+    answerOf r ≡ Done → reportOf r ≡ reportBy (runnerOf before) (m .running) (runnerOf (getD h runningCell 0)) →
+    Did h ts hd cs qs r (accepted (runnerOf before) m)
 unfolding accepted
-did-accepted m before r x e =
+did-accepted m before r x d e =
     record {
       same = x .same;
       laid = x .laid;
-      answer = refl;
+      answer = d;
       report = e ∙ ap (λ (n : Model). reportBy (runnerOf before) (m .running) (n .running)) (x .same);
     }

@@ -1,27 +1,29 @@
 // How an accepted event ends: one dispatch, and the report of who had the processor before and has it after.
 ghost use mathlib.Core.Path.{_≡_};
+ghost use Rattle.rules.specs.Answers.{answerOf, reportOf};
 ghost use Rattle.rules.specs.Moved.{reportBy, accepted};
+ghost use Rattle.rules.specs.declared.Answer.the-variants.{Done};
 ghost use Rattle.memory.specs.Memory.{runnerOf, modelOf, LaidOut, Did};
 ghost use Rattle.moves.specs.Room.{Dispatches};
 use memory::sizes::HEAD_WIDTH;
 use memory::sizes::RUNNING_CELL;
-use rules::Report;
 use rules::Ruling;
 
-// By the running cell before the event, when its dispatch begins, and after it.
-fn report_by(before: u64, pending: u64, after: u64) -> Report
-    ensures { λ r. ⌜ r ≡ reportBy (runnerOf before) (runnerOf pending) (runnerOf after) ⌝ }
+// Accepted, with the report by the running cell before the event, when its dispatch begins, and after it.
+fn accepted_by(before: u64, pending: u64, after: u64) -> Ruling
+    ensures { λ r. ⌜ answerOf r ≡ Done ⌝ }
+    ensures { λ r. ⌜ reportOf r ≡ reportBy (runnerOf before) (runnerOf pending) (runnerOf after) ⌝ }
 {
     if before == after {
-        return Report::Unchanged;
+        return Ruling::Unchanged;
     }
     if before == 0 {
-        return Report::Changed;
+        return Ruling::Changed;
     }
     if before == pending {
-        return Report::Preempted;
+        return Ruling::Preempted;
     }
-    Report::Changed
+    Ruling::Changed
 }
 
 // The running cell was `before` when the event came.
@@ -42,5 +44,5 @@ pub fn conclude(
 {
     let pending = head[RUNNING_CELL];
     moves::dispatch(head, tasks, held, ceilings, queues);
-    Ruling::Accepted(report_by(before, pending, head[RUNNING_CELL]))
+    accepted_by(before, pending, head[RUNNING_CELL])
 }

@@ -18,10 +18,8 @@ use memory::sizes::RUNNING_CELL;
 use memory::sizes::TASKS_CELL;
 use memory::tasks;
 use moves::effects;
-use rules::Answer;
 use rules::Place;
 use rules::Priority;
-use rules::Report;
 use rules::Ruling;
 
 // No dispatch follows: who enters stays the highest.
@@ -41,23 +39,23 @@ pub fn enter(
         o) ⌝ }
 {
     if head[OBJECTS_CELL] <= o {
-        return Ruling::Refused(Answer::NoSuchObject);
+        return Ruling::NoSuchObject;
     }
     let running = head[RUNNING_CELL];
     if running == 0 {
-        return Ruling::Refused(Answer::NobodyRuns);
+        return Ruling::NobodyRuns;
     }
     let t = (running - 1) as usize;
     let object = o as u8;
     if held::holds(held, t, object) {
-        return Ruling::Refused(Answer::InsideAction);
+        return Ruling::InsideAction;
     }
     let a = priorities::active(head, tasks, held, ceilings, queues, t);
     if ceilings[o as usize] < a.0 {
-        return Ruling::Refused(Answer::AboveCeiling);
+        return Ruling::AboveCeiling;
     }
     held::push(held, t, object);
-    Ruling::Accepted(Report::Unchanged)
+    Ruling::Unchanged
 }
 
 pub fn leave(
@@ -76,18 +74,18 @@ pub fn leave(
         o) ⌝ }
 {
     if head[OBJECTS_CELL] <= o {
-        return Ruling::Refused(Answer::NoSuchObject);
+        return Ruling::NoSuchObject;
     }
     let running = head[RUNNING_CELL];
     if running == 0 {
-        return Ruling::Refused(Answer::NobodyRuns);
+        return Ruling::NobodyRuns;
     }
     let t = (running - 1) as usize;
     if held::depth(held, t) == 0 {
-        return Ruling::Refused(Answer::NotInnermost);
+        return Ruling::NotInnermost;
     }
     if held::last(held, t) as u64 != o {
-        return Ruling::Refused(Answer::NotInnermost);
+        return Ruling::NotInnermost;
     }
     held::drop_last(held, t);
     effects::settle(head, tasks, held, ceilings, queues, t);
@@ -111,11 +109,11 @@ pub fn delay(
 {
     let running = head[RUNNING_CELL];
     if running == 0 {
-        return Ruling::Refused(Answer::NobodyRuns);
+        return Ruling::NobodyRuns;
     }
     let t = (running - 1) as usize;
     if 0 < held::depth(held, t) {
-        return Ruling::Refused(Answer::InsideAction);
+        return Ruling::InsideAction;
     }
     head[RUNNING_CELL] = 0;
     effects::put_off(head, tasks, held, ceilings, queues, t, d);
@@ -138,14 +136,14 @@ pub fn suspend(
 {
     let running = head[RUNNING_CELL];
     if running == 0 {
-        return Ruling::Refused(Answer::NobodyRuns);
+        return Ruling::NobodyRuns;
     }
     let t = (running - 1) as usize;
     if 0 < held::depth(held, t) {
-        return Ruling::Refused(Answer::InsideAction);
+        return Ruling::InsideAction;
     }
     if effects::rest(head, tasks, held, ceilings, queues, t) {
-        return Ruling::Accepted(Report::Unchanged);
+        return Ruling::Unchanged;
     }
     conclude(head, tasks, held, ceilings, queues, running)
 }
@@ -167,11 +165,11 @@ pub fn release(
         t) ⌝ }
 {
     if head[TASKS_CELL] <= t {
-        return Ruling::Refused(Answer::NoSuchTask);
+        return Ruling::NoSuchTask;
     }
     let running = head[RUNNING_CELL];
     if !effects::release_from(head, tasks, held, ceilings, queues, t as usize) {
-        return Ruling::Accepted(Report::Unchanged);
+        return Ruling::Unchanged;
     }
     conclude(head, tasks, held, ceilings, queues, running)
 }
@@ -210,12 +208,12 @@ pub fn clock(
 {
     let at = head[NOW_CELL];
     if bad_reading(at, r) {
-        return Ruling::Refused(Answer::BadReading);
+        return Ruling::BadReading;
     }
     let running = head[RUNNING_CELL];
     head[NOW_CELL] = r;
     if !effects::wake_up(head, tasks, held, ceilings, queues, r) {
-        return Ruling::Accepted(Report::Unchanged);
+        return Ruling::Unchanged;
     }
     conclude(head, tasks, held, ceilings, queues, running)
 }
@@ -239,17 +237,17 @@ pub fn set(
     let first = Priority::FIRST;
     let last = Priority::LAST;
     if head[TASKS_CELL] <= t {
-        return Ruling::Refused(Answer::NoSuchTask);
+        return Ruling::NoSuchTask;
     }
     if p.0 < first.0 {
-        return Ruling::Refused(Answer::BadPriority);
+        return Ruling::BadPriority;
     }
     if last.0 < p.0 {
-        return Ruling::Refused(Answer::BadPriority);
+        return Ruling::BadPriority;
     }
     let place = tasks::place(tasks, t as usize);
     if effects::is_ended(place) {
-        return Ruling::Refused(Answer::EndedTask);
+        return Ruling::EndedTask;
     }
     let running = head[RUNNING_CELL];
     effects::rebase(head, tasks, held, ceilings, queues, t as usize, p);
@@ -271,9 +269,9 @@ pub fn work(
         (modelOf (now (head .entry)) (now (tasks .entry)) (now (held .entry)) (now (ceilings .entry)) (now (queues .entry)))) ⌝ }
 {
     if head[RUNNING_CELL] == 0 {
-        return Ruling::Refused(Answer::NobodyRuns);
+        return Ruling::NobodyRuns;
     }
-    Ruling::Accepted(Report::Unchanged)
+    Ruling::Unchanged
 }
 
 pub fn finish(
@@ -291,11 +289,11 @@ pub fn finish(
 {
     let running = head[RUNNING_CELL];
     if running == 0 {
-        return Ruling::Refused(Answer::NobodyRuns);
+        return Ruling::NobodyRuns;
     }
     let t = (running - 1) as usize;
     if 0 < held::depth(held, t) {
-        return Ruling::Refused(Answer::InsideAction);
+        return Ruling::InsideAction;
     }
     head[RUNNING_CELL] = 0;
     tasks::set_place(tasks, t, Place::Ended);

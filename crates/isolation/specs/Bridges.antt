@@ -20,7 +20,8 @@ use Rattle.isolation.specs.Isolated.{Excepted, Isolated}
 use Rattle.isolation.specs.Unseen.{Turn, firsts, seconds, Unnoticed}
 
 -- two buffers after runs of the events es: at each event the task byte of one names a task above p exactly if that of the other names
--- the same, and the answer bytes are equal unless the event is excepted
+-- the same, and the answer bytes are equal unless the event is excepted. Nothing is said of the report bytes (2026-10): who runs before a
+-- task above p takes over may differ
 pub record WroteAlike (p : ℕ) (r s : Roster) (one two : List ℕ) (es : List Event) : Type 0 where
   pub task : (before behind : List Event) (e : Event) → es ≡ before ++ (e ∷ behind) → (t : ℕ) → Above p r t →
       (getD one (replySize * length before + 1) 0 ≡ t) ↔ (getD two (replySize * length before + 1) 0 ≡ t)

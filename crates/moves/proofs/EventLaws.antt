@@ -13,12 +13,12 @@ use Rattle.rules.specs.Moved.{Moved, refused, accepted}
 use Rattle.rules.specs.Events.{takeHold, Due as RuleDue, rest, permitOn, releaseFrom, nobody, task, dueAt, earlier, firstDue, wake, wakeUp}
 use Rattle.rules.specs.declared.Place.{Place}
 use Rattle.rules.specs.declared.Place.the-variants.{Running, Ready, Delayed, Suspended, Ended}
-use Rattle.rules.specs.declared.Answer.{Answer}
+use Rattle.rules.specs.Answers.{answerOf, reportOf}
 use Rattle.rules.specs.declared.Runner.{Runner}
 use Rattle.rules.specs.declared.Runner.the-variants.{Task}
 use Rattle.rules.specs.declared.Report.the-variants.{Unchanged}
 use Rattle.rules.specs.declared.Ruling.{Ruling}
-use Rattle.rules.specs.declared.Ruling.the-variants.{Refused, Accepted}
+use Rattle.rules.specs.declared.Ruling.the-variants as Ruling
 use Rattle.rules.proofs.Choices.{clash, cond-true, cond-false}
 use Rattle.rules.proofs.EventLaws.{rest-permit}
 use Rattle.rules.proofs.Pending.{Good}
@@ -29,14 +29,14 @@ use Rattle.moves.specs.Room.{isSuspended, ruleDueOf, someDue}
 use Rattle.memory.specs.Memory.{modelOf, LaidOut, Means, Did}
 
 -- refused; accepted, the dispatch being of the Model n
-pub did-not : {h ts hd cs qs : List ℕ} {r : Moved} (a : Answer) → LaidOut h ts hd cs qs → r ≡ refused (modelOf h ts hd cs qs) a →
-    Did h ts hd cs qs (Refused a) r
-did-not a d e =
+pub did-not : {h ts hd cs qs : List ℕ} {r : Moved} (x : Ruling) → reportOf x ≡ Unchanged → LaidOut h ts hd cs qs →
+    r ≡ refused (modelOf h ts hd cs qs) (answerOf x) → Did h ts hd cs qs x r
+did-not x i d e =
     record {
-      same = sym (ap (λ (x : Moved). x .model) e);
+      same = sym (ap (λ (y : Moved). y .model) e);
       laid = d;
-      answer = sym (ap (λ (x : Moved). x .answer) e);
-      report = sym (ap (λ (x : Moved). x .report) e);
+      answer = sym (ap (λ (y : Moved). y .answer) e);
+      report = i ∙ sym (ap (λ (y : Moved). y .report) e);
     }
 
 pub did : {h ts hd cs qs h' ts' hd' cs' qs' : List ℕ} {x : Ruling} {r : Moved} {n : Model} (w : Runner) → Means h ts hd cs qs n →
@@ -49,7 +49,7 @@ pub record Quiet (m n : Model) : Type 0 where
   pub runner : n .running ≡ m .running
 
 pub did-quiet : {h ts hd cs qs : List ℕ} {r : Moved} {m n : Model} → Means h ts hd cs qs n → Quiet m n → r ≡ accepted (m .running) n →
-    Did h ts hd cs qs (Accepted Unchanged) r
+    Did h ts hd cs qs Ruling.Unchanged r
 unfolding accepted
 did-quiet {m = m} {n = n} x q e =
     record {

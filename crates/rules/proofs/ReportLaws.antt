@@ -154,6 +154,22 @@ module _ (m : Model) (e : Event) where
           done-report (preempts-done p) ∙
           sent-report (m .running) (effect m e .running) (apply m e .model .running) .1 (p .task, (p .ran, p .still, p .other))
 
+  -- 2 where it is neither
+  pub report-2 : (apply m e .report ≡ Changed) ↔ ((apply m e .model .running ≡ m .running → ⊥) × (Preempts m e → ⊥))
+  report-2 = (only, λ n. when n (apply m e .report) refl)
+    where
+      only : apply m e .report ≡ Changed → (apply m e .model .running ≡ m .running → ⊥) × (Preempts m e → ⊥)
+      only x = (
+        λ k. apart _ Unchanged Changed (report-0 .1 k) x (λ z. omega (arith, z)),
+        λ p. apart _ Preempted Changed (report-1 .1 p) x (λ z. omega (arith, z)),
+      )
+
+      when : (apply m e .model .running ≡ m .running → ⊥) × (Preempts m e → ⊥) → (r : Report) → apply m e .report ≡ r →
+          apply m e .report ≡ Changed
+      when n Unchanged i = absurd (n .0 (report-0 .0 i))
+      when n Preempted i = absurd (n .1 (report-1 .0 i))
+      when n Changed i = i
+
   -- the old task is the head of its queue: what its active priority is, the dispatch leaves
   pub report-head : sound m ≡ true → delayFits e ≡ true → (p : Preempts m e) →
       queue (apply m e .model) (active (apply m e .model) (p .task)) ≡ p .task ∷ queue (effect m e) (active (apply m e .model) (p .task))
@@ -184,4 +200,10 @@ module _ (m : Model) (e : Event) where
       same = ap (λ (v : Model). active v (p .task)) is ∙ alike-active (alike-dispatch n (c .core)) (p .task)
 
 pub reports : (m : Model) (e : Event) → ReportsClaim m e
-reports m e = record { same = report-0 m e; preempted = report-1 m e; head = report-head m e; refused = report-refused m e }
+reports m e = record {
+  same = report-0 m e;
+  preempted = report-1 m e;
+  changed = report-2 m e;
+  head = report-head m e;
+  refused = report-refused m e;
+}

@@ -183,11 +183,21 @@ impl Report {
     }
 }
 
-// What an event comes to: refused with its answer, or accepted with its report. The one has no report of its own, the other's answer is
-// Done.
+// What an event comes to: accepted, with one of the three reports, or refused, with one of the nine answers of the table. It is one
+// number of the machine, which a report beside an answer is not.
 pub enum Ruling {
-    Refused(Answer),
-    Accepted(Report),
+    Unchanged,
+    Preempted,
+    Changed,
+    NoSuchTask,
+    NoSuchObject,
+    BadPriority,
+    BadReading,
+    NobodyRuns,
+    EndedTask,
+    InsideAction,
+    AboveCeiling,
+    NotInnermost,
 }
 
 impl Ruling {
@@ -195,8 +205,18 @@ impl Ruling {
         ensures { λ r. ⌜ r ≡ answerOf self ⌝ }
     {
         match self {
-            Ruling::Refused(answer) => answer,
-            Ruling::Accepted(_) => Answer::Done,
+            Ruling::Unchanged => Answer::Done,
+            Ruling::Preempted => Answer::Done,
+            Ruling::Changed => Answer::Done,
+            Ruling::NoSuchTask => Answer::NoSuchTask,
+            Ruling::NoSuchObject => Answer::NoSuchObject,
+            Ruling::BadPriority => Answer::BadPriority,
+            Ruling::BadReading => Answer::BadReading,
+            Ruling::NobodyRuns => Answer::NobodyRuns,
+            Ruling::EndedTask => Answer::EndedTask,
+            Ruling::InsideAction => Answer::InsideAction,
+            Ruling::AboveCeiling => Answer::AboveCeiling,
+            Ruling::NotInnermost => Answer::NotInnermost,
         }
     }
 
@@ -204,8 +224,18 @@ impl Ruling {
         ensures { λ r. ⌜ r ≡ reportOf self ⌝ }
     {
         match self {
-            Ruling::Refused(_) => Report::Unchanged,
-            Ruling::Accepted(report) => report,
+            Ruling::Unchanged => Report::Unchanged,
+            Ruling::Preempted => Report::Preempted,
+            Ruling::Changed => Report::Changed,
+            Ruling::NoSuchTask => Report::Unchanged,
+            Ruling::NoSuchObject => Report::Unchanged,
+            Ruling::BadPriority => Report::Unchanged,
+            Ruling::BadReading => Report::Unchanged,
+            Ruling::NobodyRuns => Report::Unchanged,
+            Ruling::EndedTask => Report::Unchanged,
+            Ruling::InsideAction => Report::Unchanged,
+            Ruling::AboveCeiling => Report::Unchanged,
+            Ruling::NotInnermost => Report::Unchanged,
         }
     }
 

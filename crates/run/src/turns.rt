@@ -13,10 +13,8 @@ use fields::steps;
 use format::Step;
 use memory::sizes::HEAD_WIDTH;
 use memory::sizes::RUNNING_CELL;
-use rules::Answer;
 use rules::Checked;
 use rules::Priority;
-use rules::Report;
 use rules::Ruling;
 use trace::Input;
 
@@ -44,7 +42,7 @@ fn perform(
         Step::Suspend => events::suspend(head, tasks, held, ceilings, queues),
         Step::Release(t) => events::release(head, tasks, held, ceilings, queues, t as u64),
         Step::Set(t, p) => events::set(head, tasks, held, ceilings, queues, t as u64, p),
-        Step::Again => Ruling::Accepted(Report::Unchanged),
+        Step::Again => Ruling::Unchanged,
         Step::Finish => events::finish(head, tasks, held, ceilings, queues),
     }
 }
@@ -90,7 +88,7 @@ fn step(
 {
     let running = head[RUNNING_CELL];
     if running == 0 {
-        return Ruling::Refused(Answer::NobodyRuns);
+        return Ruling::NobodyRuns;
     }
     let t = (running - 1) as usize;
     let part = script_in(roster, table, t as u8);

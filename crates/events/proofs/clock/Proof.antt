@@ -1,9 +1,9 @@
 -- `events::clock` meets its contract.
-use mathlib.Core.Path.{_∙_, sym}
+use mathlib.Core.Path.{refl, _∙_, sym}
 use Prim.Native.Nat.{_-_}
 use borrow.Author.Needs.{needs}
 use borrow.Author.Tests.{not-true}
-use Rattle.rules.specs.declared.Answer.the-variants.{BadReading}
+use Rattle.rules.specs.declared.Ruling.the-variants as Ruling
 use Rattle.rules.proofs.EventLaws.{clock-4, clock-0}
 use Rattle.rules.proofs.Readings.{reading-early, reading-low}
 use Rattle.rules.proofs.Pending.{pending-clock}
@@ -25,7 +25,7 @@ returns : tie.Need-returns
 returns c =
     let at-test = c .before in
     let entry = at-test .before .before .before .before .before .before in
-    did-not BadReading (entry .pre .laid) (clock-4 _ _ (sym (at-test .bad-reading .ensures) ∙ c .if1 .taken))
+    did-not Ruling.BadReading refl (entry .pre .laid) (clock-4 _ _ (sym (at-test .bad-reading .ensures) ∙ c .if1 .taken))
 
 element-copy-out-running : tie.Need-element-copy-out-running
 element-copy-out-running c = search needs

@@ -1,7 +1,8 @@
 -- `events::finish` meets its contract.
+use mathlib.Core.Path.{refl}
 use Prim.Native.Nat.{_-_}
 use borrow.Author.Needs.{needs}
-use Rattle.rules.specs.declared.Answer.the-variants.{NobodyRuns, InsideAction}
+use Rattle.rules.specs.declared.Ruling.the-variants as Ruling
 use Rattle.rules.specs.declared.Place.the-variants.{Ended}
 use Rattle.rules.proofs.EventLaws.{finish-5, finish-7, finish-0}
 use Rattle.rules.proofs.Pending.{pending-end}
@@ -20,7 +21,7 @@ returns c =
     let entry = c .before .before .before .before .before .before in
     let v = entry .pre in
     let d = v .laid in
-    did-not NobodyRuns d (finish-5 _ (idle d (c .if1 .taken)))
+    did-not Ruling.NobodyRuns refl d (finish-5 _ (idle d (c .if1 .taken)))
 
 sub-t : tie.Need-sub-t
 sub-t c = search needs
@@ -44,7 +45,7 @@ returns-2 c =
     let e = runner v (at-if1 .if1 .left) in
     let g = runner-counted v (at-if1 .if1 .left) in
     let in-action = inside-is d _ _ g (at-depth .depth .ensures) (c .if2 .taken) in
-    did-not InsideAction d (finish-7 _ _ e in-action)
+    did-not Ruling.InsideAction refl d (finish-7 _ _ e in-action)
 
 element-write-head : tie.Need-element-write-head
 element-write-head c = search needs

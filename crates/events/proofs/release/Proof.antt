@@ -1,9 +1,9 @@
 -- `events::release` meets its contract.
-use mathlib.Core.Path.{_∙_, sym}
+use mathlib.Core.Path.{refl, _∙_, sym}
 use Prim.Native.Nat.{_-_}
 use borrow.Author.Needs.{needs}
 use borrow.Author.Tests.{not-true}
-use Rattle.rules.specs.declared.Answer.the-variants.{NoSuchTask}
+use Rattle.rules.specs.declared.Ruling.the-variants as Ruling
 use Rattle.rules.proofs.EventLaws.{release-1, release-0}
 use Rattle.rules.proofs.Pending.{pending-release}
 use Rattle.moves.proofs.EventLaws.{did-not, did, did-quiet, quiet-release}
@@ -20,7 +20,7 @@ returns c =
     let entry = c .before .before .before .before .before .before in
     let v = entry .pre in
     let d = v .laid in
-    did-not NoSuchTask d (release-1 _ _ (unknown-task v _ (c .if1 .taken)))
+    did-not Ruling.NoSuchTask refl d (release-1 _ _ (unknown-task v _ (c .if1 .taken)))
 
 element-copy-out-running : tie.Need-element-copy-out-running
 element-copy-out-running c = search needs

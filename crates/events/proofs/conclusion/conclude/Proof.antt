@@ -11,11 +11,11 @@ element-copy-out-pending c = search needs
 dispatch-requires : tie.Need-dispatch-requires
 dispatch-requires c κs = search needs
 
-element-copy-out-report-by : tie.Need-element-copy-out-report-by
-element-copy-out-report-by c = search needs
+element-copy-out-accepted-by : tie.Need-element-copy-out-accepted-by
+element-copy-out-accepted-by c = search needs
 
-report-by-requires : tie.Need-report-by-requires
-report-by-requires c κs = search needs
+accepted-by-requires : tie.Need-accepted-by-requires
+accepted-by-requires c κs = search needs
 
 same-length : tie.Need-same-length
 same-length c = search needs
@@ -28,7 +28,7 @@ returns c =
     let at-dispatch = c .before .before .before .before .before .before in
     let a = at-dispatch .before .before .before .before .before .before .before .before .before .args in
     did-accepted (modelOf (a .head .now) (a .tasks .now) (a .held .now) (a .ceilings .now) (a .queues .now)) _ _
-    (at-dispatch .dispatch .ensures) (c .report-by .ensures)
+    (at-dispatch .dispatch .ensures) (c .accepted-by .ensures .0) (c .accepted-by .ensures .1)
 
 pub conclude-spec : {M : Type 1} → statement M
 conclude-spec =
@@ -36,8 +36,8 @@ conclude-spec =
     (tie.spec
     element-copy-out-pending
     dispatch-requires
-    element-copy-out-report-by
-    report-by-requires
+    element-copy-out-accepted-by
+    accepted-by-requires
     same-length
     same-length-2
     returns)
