@@ -5,14 +5,15 @@ use mathlib.Core.List.{List}
 use Prim.Native.Nat.{ℕ}
 use borrow.Author.Tests.{eq-eqb, ne-eqb}
 use lib.Dec.{eqb}
-use Rattle.rules.specs.Answers.{numberOf, answerOf, reportOf}
+use Rattle.rules.specs.Answers.{numberOf}
+use Rattle.memory.specs.Rulings.{answerIn, reportIn}
 use Rattle.rules.specs.Model.{Model}
 use Rattle.rules.specs.Events.{apply}
 use Rattle.rules.specs.Sound.{sound}
 use Rattle.rules.specs.declared.Event.{Event}
 use Rattle.rules.specs.declared.Answer.{Answer}
 use Rattle.rules.specs.declared.Report.{Report}
-use Rattle.rules.specs.declared.Ruling.{Ruling}
+use Rattle.memory.specs.declared.rulings.Ruling.{Ruling}
 use Rattle.memory.specs.Memory.{modelOf, Means, Valid, Moves}
 use Rattle.dispatch.specs.declared.State.{State}
 use Rattle.dispatch.specs.declared.Stepped.{Stepped}
@@ -41,8 +42,8 @@ module _ (s : State) where
 
     -- an event on them
     module _ (e : Event) (good : soundOf s ≡ true) {h' ts' hd' cs' qs' : List ℕ} (x : Ruling)
-        (d : Moves h' ts' hd' cs' qs' x (apply (modelOf h ts hd cs qs) e)) (n : ℕ) (i : n ≡ numberOf (answerOf x)) (a : Answer)
-        (p : a ≡ answerOf x) (w : Report) (q : w ≡ reportOf x) where
+        (d : Moves h' ts' hd' cs' qs' x (apply (modelOf h ts hd cs qs) e)) (n : ℕ) (i : n ≡ numberOf (answerIn x)) (a : Answer)
+        (p : a ≡ answerIn x) (w : Report) (q : w ≡ reportIn x) where
       by-rule : appliedOf s e ≡ answered s (apply (modelOf h ts hd cs qs) e)
       unfolding appliedOf
       by-rule = rw (good, m .same)

@@ -1,9 +1,9 @@
 // Internal: pub only for our own crates. Any event in place on the slices of crate memory: the one match over the nine of crate events.
 ghost use Rattle.rules.specs.Events.{apply};
 ghost use Rattle.memory.specs.Memory.{modelOf, Valid, Moves};
+use memory::rulings::Ruling;
 use memory::sizes::HEAD_WIDTH;
 use rules::Event;
-use rules::Ruling;
 
 pub fn apply(
     head: &mut [u64; HEAD_WIDTH],

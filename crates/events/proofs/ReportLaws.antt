@@ -10,10 +10,10 @@ use lib.ListN.{getD}
 use Rattle.rules.specs.Model.{Model}
 use Rattle.rules.specs.Moves.{dispatch}
 use Rattle.rules.specs.Moved.{isNobody, sameRunner, reportBy, accepted}
-use Rattle.rules.specs.Answers.{answerOf, reportOf}
+use Rattle.memory.specs.Rulings.{answerIn, reportIn}
 use Rattle.rules.specs.declared.Answer.the-variants.{Done}
 use Rattle.rules.specs.declared.Report.the-variants.{Unchanged, Preempted, Changed}
-use Rattle.rules.specs.declared.Ruling.{Ruling}
+use Rattle.memory.specs.declared.rulings.Ruling.{Ruling}
 use Rattle.rules.proofs.Choices.{split}
 use Rattle.memory.specs.Memory.{runningCell, runnerOf, Means, Did}
 
@@ -53,7 +53,7 @@ module _ (x y z : ℕ) where
 
 -- the dispatch of the Model m, and its report
 pub did-accepted : {h ts hd cs qs : List ℕ} (m : Model) (before : ℕ) (r : Ruling) → Means h ts hd cs qs (dispatch m) →
-    answerOf r ≡ Done → reportOf r ≡ reportBy (runnerOf before) (m .running) (runnerOf (getD h runningCell 0)) →
+    answerIn r ≡ Done → reportIn r ≡ reportBy (runnerOf before) (m .running) (runnerOf (getD h runningCell 0)) →
     Did h ts hd cs qs r (accepted (runnerOf before) m)
 unfolding accepted
 did-accepted m before r x d e =

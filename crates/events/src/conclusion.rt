@@ -1,18 +1,18 @@
 // How an accepted event ends: one dispatch, and the report of who had the processor before and has it after.
 ghost use mathlib.Core.Path.{_≡_};
-ghost use Rattle.rules.specs.Answers.{answerOf, reportOf};
 ghost use Rattle.rules.specs.Moved.{reportBy, accepted};
 ghost use Rattle.rules.specs.declared.Answer.the-variants.{Done};
+ghost use Rattle.memory.specs.Rulings.{answerIn, reportIn};
 ghost use Rattle.memory.specs.Memory.{runnerOf, modelOf, LaidOut, Did};
 ghost use Rattle.moves.specs.Room.{Dispatches};
+use memory::rulings::Ruling;
 use memory::sizes::HEAD_WIDTH;
 use memory::sizes::RUNNING_CELL;
-use rules::Ruling;
 
 // Accepted, with the report by the running cell before the event, when its dispatch begins, and after it.
 fn accepted_by(before: u64, pending: u64, after: u64) -> Ruling
-    ensures { λ r. ⌜ answerOf r ≡ Done ⌝ }
-    ensures { λ r. ⌜ reportOf r ≡ reportBy (runnerOf before) (runnerOf pending) (runnerOf after) ⌝ }
+    ensures { λ r. ⌜ answerIn r ≡ Done ⌝ }
+    ensures { λ r. ⌜ reportIn r ≡ reportBy (runnerOf before) (runnerOf pending) (runnerOf after) ⌝ }
 {
     if before == after {
         return Ruling::Unchanged;

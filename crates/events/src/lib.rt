@@ -9,6 +9,7 @@ mod conclusion;
 use crate::conclusion::conclude;
 use memory::held;
 use memory::priorities;
+use memory::rulings::Ruling;
 use memory::sizes::HEAD_WIDTH;
 use memory::sizes::LAST_READING;
 use memory::sizes::LONGEST_ADVANCE;
@@ -20,7 +21,6 @@ use memory::tasks;
 use moves::effects;
 use rules::Place;
 use rules::Priority;
-use rules::Ruling;
 
 // No dispatch follows: who enters stays the highest.
 pub fn enter(

@@ -8,13 +8,13 @@ use Rattle.rules.specs.Limits.{taskLimit, objectLimit}
 use Rattle.rules.specs.Model.{Model, TaskRecord, NextBase, none, waits, blank}
 use Rattle.rules.specs.Moved.{Moved}
 use Rattle.rules.specs.Sound.{sound}
-use Rattle.rules.specs.Answers.{answerOf, reportOf}
-use Rattle.rules.specs.declared.Ruling.{Ruling}
 use Rattle.rules.specs.declared.Runner.{Runner}
 use Rattle.rules.specs.declared.Runner.the-variants.{Nobody, Task as Runs}
 use Rattle.rules.specs.declared.WaitingBase.{WaitingBase}
 use Rattle.rules.specs.declared.WaitingBase.the-variants.{Nothing, Base}
 use Rattle.rules.specs.declared.Task.{Task}
+use Rattle.memory.specs.declared.rulings.Ruling.{Ruling}
+use Rattle.memory.specs.Rulings.{answerIn, reportIn}
 use Rattle.memory.specs.Rows.{queuesIn, Queues, heldIn, Held}
 use Rattle.memory.specs.Tasks.{tasksIn, Tasks}
 
@@ -99,12 +99,12 @@ pub record Valid (h ts hd cs qs : List ℕ) : Type 0 where
 pub record Did (h ts hd cs qs : List ℕ) (x : Ruling) (r : Moved) : Type 0 where
   pub same : modelOf h ts hd cs qs ≡ r .model
   pub laid : LaidOut h ts hd cs qs
-  pub answer : answerOf x ≡ r .answer
-  pub report : reportOf x ≡ r .report
+  pub answer : answerIn x ≡ r .answer
+  pub report : reportIn x ≡ r .report
 
 -- after an event of a sound Model: laid out and sound again
 pub record Moves (h ts hd cs qs : List ℕ) (x : Ruling) (r : Moved) : Type 0 where
   pub same : modelOf h ts hd cs qs ≡ r .model
   pub valid : Valid h ts hd cs qs
-  pub answer : answerOf x ≡ r .answer
-  pub report : reportOf x ≡ r .report
+  pub answer : answerIn x ≡ r .answer
+  pub report : reportIn x ≡ r .report

@@ -13,12 +13,12 @@ use Rattle.rules.specs.Moved.{Moved, refused, accepted}
 use Rattle.rules.specs.Events.{takeHold, Due as RuleDue, rest, permitOn, releaseFrom, nobody, task, dueAt, earlier, firstDue, wake, wakeUp}
 use Rattle.rules.specs.declared.Place.{Place}
 use Rattle.rules.specs.declared.Place.the-variants.{Running, Ready, Delayed, Suspended, Ended}
-use Rattle.rules.specs.Answers.{answerOf, reportOf}
+use Rattle.memory.specs.Rulings.{answerIn, reportIn}
 use Rattle.rules.specs.declared.Runner.{Runner}
 use Rattle.rules.specs.declared.Runner.the-variants.{Task}
 use Rattle.rules.specs.declared.Report.the-variants.{Unchanged}
-use Rattle.rules.specs.declared.Ruling.{Ruling}
-use Rattle.rules.specs.declared.Ruling.the-variants as Ruling
+use Rattle.memory.specs.declared.rulings.Ruling.{Ruling}
+use Rattle.memory.specs.declared.rulings.Ruling.the-variants as Ruling
 use Rattle.rules.proofs.Choices.{clash, cond-true, cond-false}
 use Rattle.rules.proofs.EventLaws.{rest-permit}
 use Rattle.rules.proofs.Pending.{Good}
@@ -29,8 +29,8 @@ use Rattle.moves.specs.Room.{isSuspended, ruleDueOf, someDue}
 use Rattle.memory.specs.Memory.{modelOf, LaidOut, Means, Did}
 
 -- refused; accepted, the dispatch being of the Model n
-pub did-not : {h ts hd cs qs : List ℕ} {r : Moved} (x : Ruling) → reportOf x ≡ Unchanged → LaidOut h ts hd cs qs →
-    r ≡ refused (modelOf h ts hd cs qs) (answerOf x) → Did h ts hd cs qs x r
+pub did-not : {h ts hd cs qs : List ℕ} {r : Moved} (x : Ruling) → reportIn x ≡ Unchanged → LaidOut h ts hd cs qs →
+    r ≡ refused (modelOf h ts hd cs qs) (answerIn x) → Did h ts hd cs qs x r
 did-not x i d e =
     record {
       same = sym (ap (λ (y : Moved). y .model) e);

@@ -203,7 +203,7 @@ pub reports : (m : Model) (e : Event) → ReportsClaim m e
 reports m e = record {
   same = report-0 m e;
   preempted = report-1 m e;
-  changed = report-2 m e;
   head = report-head m e;
+  changed = report-2 m e;
   refused = report-refused m e;
 }

@@ -19,8 +19,8 @@ use Rattle.rules.specs.declared.Runner.the-variants.{Task}
 use Rattle.rules.specs.declared.Report.the-variants.{Unchanged, Preempted, Changed}
 use Rattle.rules.specs.declared.Answer.the-variants.{Done}
 
--- "another runs and the dispatch sent the old task to the head of its queue": it ran before the event and still runs when the dispatch
--- begins, which preempts it and starts the head of the highest queue
+-- a task ran before the event and still runs when its dispatch begins; the dispatch preempts it and starts the head of the highest queue;
+-- another runs then
 pub record Preempts (m : Model) (e : Event) : Type 0 where
   pub task : ℕ
   pub ran : m .running ≡ Task task
@@ -31,13 +31,13 @@ pub record Preempts (m : Model) (e : Event) : Type 0 where
 pub record ReportsClaim (m : Model) (e : Event) : Type 0 where
   -- "0 no change": the same task runs before and after, or nobody does
   pub same : (apply m e .report ≡ Unchanged) ↔ (apply m e .model .running ≡ m .running)
-  -- 1
+  -- "1 another runs and the dispatch sent the old task to the head of its queue"
   pub preempted : (apply m e .report ≡ Preempted) ↔ Preempts m e
-  -- "2 any other change"
-  pub changed : (apply m e .report ≡ Changed) ↔ ((apply m e .model .running ≡ m .running → ⊥) × (Preempts m e → ⊥))
-  -- the old task is then the head of the queue for its active priority, before those who stood there
+  -- in a sound Model that is the queue for its active priority, before those who stood there
   pub head : sound m ≡ true → delayFits e ≡ true → (p : Preempts m e) →
       queue (apply m e .model) (active (apply m e .model) (p .task)) ≡ p .task ∷ queue (effect m e) (active (apply m e .model) (p .task))
+  -- "2 any other change"
+  pub changed : (apply m e .report ≡ Changed) ↔ ((apply m e .model .running ≡ m .running → ⊥) × (Preempts m e → ⊥))
   -- "A refused event reports 0."
   pub refused : (apply m e .answer ≡ Done → ⊥) → apply m e .report ≡ Unchanged
 

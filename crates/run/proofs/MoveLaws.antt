@@ -9,8 +9,8 @@ use Rattle.rules.specs.Priorities.{inRange, checkedOf}
 use Rattle.rules.specs.Events.{enter, leave, delay, suspend, release, setBase, work, finish, apply}
 use Rattle.rules.specs.Sound.{sound}
 use Rattle.rules.specs.declared.Answer.the-variants.{Done}
-use Rattle.rules.specs.declared.Ruling.{Ruling}
-use Rattle.rules.specs.declared.Ruling.the-variants as Ruling
+use Rattle.memory.specs.declared.rulings.Ruling.{Ruling}
+use Rattle.memory.specs.declared.rulings.Ruling.the-variants as Ruling
 use Rattle.rules.specs.declared.Event.{Event}
 use Rattle.rules.specs.declared.Event.the-variants as Event
 use Rattle.rules.specs.declared.Priority.{Priority}

@@ -7,8 +7,9 @@ use native.Mathlib.Omega.{arith}
 use lib.ListN.{getD, set, drop, drop-of-length-le}
 use lib.Seq.{sets, drop-cons}
 use Rattle.rules.specs.Limits.{taskLimit}
-use Rattle.rules.specs.Answers.{numberOf, reportNumber, answerOf, reportOf}
-use Rattle.rules.specs.declared.Ruling.{Ruling}
+use Rattle.rules.specs.Answers.{numberOf, reportNumber}
+use Rattle.memory.specs.Rulings.{answerIn, reportIn}
+use Rattle.memory.specs.declared.rulings.Ruling.{Ruling}
 use Rattle.format.specs.Roster.{Roster}
 use Rattle.rules.proofs.Choices.{split}
 use Rattle.words.proofs.TableLaws.{length-tabulate, tabulate-at}
@@ -38,8 +39,8 @@ inputs-end s i h = drop-of-length-le (inputsOf s) {i = i} (omega (arith, length-
 -- one event and its reply, by names for their parts
 module _ (r : Roster) (s whole : List ℕ) where
   pub replies-turn : (c c' : Config) (b : List ℕ) (i n t w : ℕ) (x : Input) (z : Ruling) → i < eventCount s → x ≡ inputAt s i →
-      answerOf z ≡ happen r c x .answer → reportOf z ≡ happen r c x .report → c' ≡ happen r c x .config →
-      n ≡ numberOf (answerOf z) → t ≡ runningByte (c' .model .running) → w ≡ reportNumber (reportOf z) →
+      answerIn z ≡ happen r c x .answer → reportIn z ≡ happen r c x .report → c' ≡ happen r c x .config →
+      n ≡ numberOf (answerIn z) → t ≡ runningByte (c' .model .running) → w ≡ reportNumber (reportIn z) →
       whole ≡ sets b (replySize * i) (repliesFrom r c (drop i (inputsOf s))) →
       whole ≡
       sets (set (set (set b (replySize * i) n) (replySize * i + 1) t) (replySize * i + 2) w) (replySize * (i + 1))

@@ -8,12 +8,13 @@ use borrow.Author.Tests.{eq-eqb, ne-eqb, leb-true, ltb-true, ltb-false}
 use lib.Dec.{leb, ltb}
 use lib.ListN.{length, getD, set, take, drop, length-set, length-take, length-drop}
 use lib.Seq.{getD-take, take-set-lt}
-use Rattle.rules.specs.Answers.{numberOf, answerOf}
+use Rattle.rules.specs.Answers.{numberOf}
+use Rattle.memory.specs.Rulings.{answerIn}
 use Rattle.rules.specs.Model.{Model}
 use Rattle.rules.specs.Moved.{Moved}
 use Rattle.rules.specs.declared.Answer.{Answer}
-use Rattle.rules.specs.declared.Ruling.{Ruling}
-use Rattle.rules.specs.declared.Ruling.the-variants as Ruling
+use Rattle.memory.specs.declared.rulings.Ruling.{Ruling}
+use Rattle.memory.specs.declared.rulings.Ruling.the-variants as Ruling
 use Rattle.rules.specs.declared.Runner.{Runner}
 use Rattle.rules.specs.declared.Runner.the-variants.{Nobody, Task}
 use Rattle.rules.proofs.SoundLaws.{sound-is}
@@ -151,7 +152,7 @@ module _ {s h ts hd cs qs ps : List ℕ} (g : Going s h ts hd cs qs ps) where
       -- the outcome, by names for its parts
       made : {h' ts' hd' qs' ps' : List ℕ} {y : Ruling} → Moves h' ts' hd' cs qs' y (perform (modelOf h ts hd cs qs) x) →
           length ps' ≡ length ps →
-          take (taskCount s) ps' ≡ cond (isDone (answerOf y)) (set (take (taskCount s) ps) t (positionAfter k x)) (take (taskCount s) ps) →
+          take (taskCount s) ps' ≡ cond (isDone (answerIn y)) (set (take (taskCount s) ps) t (positionAfter k x)) (take (taskCount s) ps) →
           Happened s h' ts' hd' cs qs' ps' y (advance c t (positionAfter k x) (perform (modelOf h ts hd cs qs) x))
       unfolding advance
       made {h'} {ts'} {hd'} {qs'} {ps'} {y} v n e =
@@ -175,20 +176,20 @@ module _ {s h ts hd cs qs ps : List ℕ} (g : Going s h ts hd cs qs ps) where
           }
 
       -- a refused step moves nothing; an accepted one its position
-      pub step-refused : {h' ts' hd' qs' : List ℕ} {y : Ruling} (n : ℕ) → n ≡ numberOf (answerOf y) → (n ≡ 0 → ⊥) →
+      pub step-refused : {h' ts' hd' qs' : List ℕ} {y : Ruling} (n : ℕ) → n ≡ numberOf (answerIn y) → (n ≡ 0 → ⊥) →
           Moves h' ts' hd' cs qs' y (perform (modelOf h ts hd cs qs) x) → Happened s h' ts' hd' cs qs' ps y
           (happen (rosterOf s) c Stepped)
       step-refused {h'} {ts'} {hd'} {qs'} {y} n e z v =
-          let no : isDone (answerOf y) ≡ false = ne-eqb (numberOf (answerOf y)) 0 (λ i. z (e ∙ i)) in
+          let no : isDone (answerIn y) ≡ false = ne-eqb (numberOf (answerIn y)) 0 (λ i. z (e ∙ i)) in
           rw step-is
           (made v refl
           (sym (ap (λ (b : Bool). cond b (set (take (taskCount s) ps) t (positionAfter k x)) (take (taskCount s) ps)) no)))
 
-      pub step-accepted : {h' ts' hd' qs' : List ℕ} {y : Ruling} (n j : ℕ) → n ≡ numberOf (answerOf y) → n ≡ 0 → j ≡ positionAfter k x →
+      pub step-accepted : {h' ts' hd' qs' : List ℕ} {y : Ruling} (n j : ℕ) → n ≡ numberOf (answerIn y) → n ≡ 0 → j ≡ positionAfter k x →
           Moves h' ts' hd' cs qs' y (perform (modelOf h ts hd cs qs) x) →
           Happened s h' ts' hd' cs qs' (set ps t j) y (happen (rosterOf s) c Stepped)
       step-accepted {h'} {ts'} {hd'} {qs'} {y} n j e z f v =
-          let yes : isDone (answerOf y) ≡ true = eq-eqb (numberOf (answerOf y)) 0 (sym e ∙ z) in
+          let yes : isDone (answerIn y) ≡ true = eq-eqb (numberOf (answerIn y)) 0 (sym e ∙ z) in
           rw step-is
           (made v (length-set ps t j)
           (take-set-lt (taskCount s) ps t j runner-listed ∙

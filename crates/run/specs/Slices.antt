@@ -4,8 +4,8 @@ use mathlib.Core.List.{List}
 use Prim.Native.Nat.{ℕ}
 use lib.ListN.{length, take}
 use Rattle.rules.specs.Limits.{taskLimit}
-use Rattle.rules.specs.Answers.{answerOf, reportOf}
-use Rattle.rules.specs.declared.Ruling.{Ruling}
+use Rattle.memory.specs.Rulings.{answerIn, reportIn}
+use Rattle.memory.specs.declared.rulings.Ruling.{Ruling}
 use Rattle.format.specs.Format.{taskCount}
 use Rattle.format.specs.Form.{formOf}
 use Rattle.format.specs.declared.Verdict.the-variants.{Passed}
@@ -27,5 +27,5 @@ pub record Going (s h ts hd cs qs ps : List ℕ) : Type 0 where
 pub record Happened (s h ts hd cs qs ps : List ℕ) (x : Ruling) (o : Outcome) : Type 0 where
   pub same : configOf s h ts hd cs qs ps ≡ o .config
   pub going : Going s h ts hd cs qs ps
-  pub answer : answerOf x ≡ o .answer
-  pub report : reportOf x ≡ o .report
+  pub answer : answerIn x ≡ o .answer
+  pub report : reportIn x ≡ o .report

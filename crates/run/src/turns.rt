@@ -11,11 +11,11 @@ ghost use Rattle.run.specs.Slices.{configOf, Going, Happened};
 use crate::scripts::script_in;
 use fields::steps;
 use format::Step;
+use memory::rulings::Ruling;
 use memory::sizes::HEAD_WIDTH;
 use memory::sizes::RUNNING_CELL;
 use rules::Checked;
 use rules::Priority;
-use rules::Ruling;
 use trace::Input;
 
 // What one step of a script does.

@@ -3,7 +3,7 @@ use mathlib.Core.Path.{refl, _∙_, sym}
 use Prim.Native.Nat.{_-_}
 use borrow.Author.Needs.{needs}
 use borrow.Author.Tests.{not-true}
-use Rattle.rules.specs.declared.Ruling.the-variants as Ruling
+use Rattle.memory.specs.declared.rulings.Ruling.the-variants as Ruling
 use Rattle.rules.proofs.EventLaws.{clock-4, clock-0}
 use Rattle.rules.proofs.Readings.{reading-early, reading-low}
 use Rattle.rules.proofs.Pending.{pending-clock}

@@ -6,7 +6,7 @@ use borrow.Author.Needs.{needs}
 use lib.ListN.{getD}
 use Rattle.rules.specs.Events.{putOff}
 use Rattle.rules.specs.Model.{Model}
-use Rattle.rules.specs.declared.Ruling.the-variants as Ruling
+use Rattle.memory.specs.declared.rulings.Ruling.the-variants as Ruling
 use Rattle.rules.proofs.EventLaws.{delay-5, delay-7, delay-0}
 use Rattle.rules.proofs.Pending.{pending-delay}
 use Rattle.memory.specs.Memory.{runningCell}

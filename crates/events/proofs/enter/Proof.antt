@@ -2,7 +2,7 @@
 use mathlib.Core.Path.{refl, _∙_}
 use Prim.Native.Nat.{_-_}
 use borrow.Author.Needs.{needs}
-use Rattle.rules.specs.declared.Ruling.the-variants as Ruling
+use Rattle.memory.specs.declared.rulings.Ruling.the-variants as Ruling
 use Rattle.rules.proofs.EventLaws.{enter-2, enter-5, enter-7, enter-8, enter-0}
 use Rattle.moves.proofs.EffectLaws.{holdable, hold-law}
 use Rattle.moves.proofs.EventLaws.{did-not, did-quiet, quiet-enter}

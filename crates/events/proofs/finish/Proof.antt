@@ -2,7 +2,7 @@
 use mathlib.Core.Path.{refl}
 use Prim.Native.Nat.{_-_}
 use borrow.Author.Needs.{needs}
-use Rattle.rules.specs.declared.Ruling.the-variants as Ruling
+use Rattle.memory.specs.declared.rulings.Ruling.the-variants as Ruling
 use Rattle.rules.specs.declared.Place.the-variants.{Ended}
 use Rattle.rules.proofs.EventLaws.{finish-5, finish-7, finish-0}
 use Rattle.rules.proofs.Pending.{pending-end}

@@ -6,7 +6,7 @@ use borrow.Author.Needs.{needs}
 use lib.ListN.{getD}
 use Rattle.rules.specs.Events.{settle}
 use Rattle.rules.specs.Model.{Model}
-use Rattle.rules.specs.declared.Ruling.the-variants as Ruling
+use Rattle.memory.specs.declared.rulings.Ruling.the-variants as Ruling
 use Rattle.rules.proofs.EventLaws.{leave-2, leave-5, leave-9, leave-0}
 use Rattle.rules.proofs.Pending.{pending-leave}
 use Rattle.memory.specs.Memory.{runningCell}

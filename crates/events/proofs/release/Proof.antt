@@ -3,7 +3,7 @@ use mathlib.Core.Path.{refl, _∙_, sym}
 use Prim.Native.Nat.{_-_}
 use borrow.Author.Needs.{needs}
 use borrow.Author.Tests.{not-true}
-use Rattle.rules.specs.declared.Ruling.the-variants as Ruling
+use Rattle.memory.specs.declared.rulings.Ruling.the-variants as Ruling
 use Rattle.rules.proofs.EventLaws.{release-1, release-0}
 use Rattle.rules.proofs.Pending.{pending-release}
 use Rattle.moves.proofs.EventLaws.{did-not, did, did-quiet, quiet-release}

@@ -4,7 +4,7 @@ use Prim.Native.Nat.{_-_}
 use borrow.Author.Needs.{needs}
 use lib.ListN.{set}
 use Rattle.rules.specs.Events.{isEnded}
-use Rattle.rules.specs.declared.Ruling.the-variants as Ruling
+use Rattle.memory.specs.declared.rulings.Ruling.the-variants as Ruling
 use Rattle.rules.proofs.EventLaws.{set-1, set-3, set-6, set-0}
 use Rattle.rules.proofs.Pending.{pending-rebase}
 use Rattle.rules.proofs.PriorityLaws.{bounds-in}

@@ -2,7 +2,7 @@
 use mathlib.Core.Path.{refl, _∙_, sym}
 use Prim.Native.Nat.{_-_}
 use borrow.Author.Needs.{needs}
-use Rattle.rules.specs.declared.Ruling.the-variants as Ruling
+use Rattle.memory.specs.declared.rulings.Ruling.the-variants as Ruling
 use Rattle.rules.proofs.EventLaws.{suspend-5, suspend-7, suspend-0}
 use Rattle.rules.proofs.Pending.{pending-rest}
 use Rattle.moves.proofs.EffectLaws.{holdable, inside-is, outside-is}

@@ -2,7 +2,7 @@
 use mathlib.Core.Path.{refl}
 use Prim.Native.Nat.{_-_}
 use borrow.Author.Needs.{needs}
-use Rattle.rules.specs.declared.Ruling.the-variants as Ruling
+use Rattle.memory.specs.declared.rulings.Ruling.the-variants as Ruling
 use Rattle.rules.proofs.EventLaws.{work-5, work-0}
 use Rattle.moves.proofs.EventLaws.{did-not, did-quiet, quiet-work}
 use Rattle.memory.proofs.MemoryLaws.{as-laid, idle}
