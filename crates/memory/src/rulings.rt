@@ -5,8 +5,8 @@ ghost use Rattle.memory.specs.Rulings.{answerIn, reportIn};
 use rules::Answer;
 use rules::Report;
 
-// What an event comes to: accepted, with one of the three reports, or refused, with one of the nine answers of the table. It is one
-// number of the machine, which a report beside an answer is not.
+// Accepted, with one of the three reports, or refused, with one of the nine answers of the table. It has no operands, so that it is one
+// number of the machine.
 pub enum Ruling {
     Unchanged,
     Preempted,

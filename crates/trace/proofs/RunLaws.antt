@@ -25,7 +25,7 @@ use Rattle.trace.specs.Answers.{ran}
 use Rattle.trace.specs.Run.{answerOf, replyOf, repliesFrom, repliesOf, bufferOf}
 use Rattle.words.proofs.CopyLaws.{sets-front}
 
--- two bytes for each event
+-- three bytes for each event
 pub replies-count : (r : Roster) (c : Config) (es : List Input) → length (repliesFrom r c es) ≡ replySize * length es
 unfolding repliesFrom replyOf
 replies-count r c [] = refl
