@@ -28,7 +28,7 @@ use Rattle.board.specs.declared.Row.{Row}
 use Rattle.board.specs.Rows.{isReadyKind}
 use Rattle.memory.specs.Rows.{placeIn}
 use Rattle.board.specs.Fill.{kindOf, queuePosition, rowOf}
-use Rattle.board.proofs.StateLaws.{view-sound}
+use Rattle.dispatch.proofs.MethodLaws.{view-sound}
 
 -- ---- how many tasks a state has: as many as it says, cut to the limit
 module _ (s : State) (known : Shaped s) where

@@ -13,11 +13,12 @@ use Rattle.rules.specs.Model.{taskAt}
 use Rattle.rules.specs.Moves.{highest, headOf}
 use Rattle.rules.specs.Sound.{sound}
 use Rattle.rules.specs.declared.Place.the-variants.{Ready}
-use Rattle.rules.proofs.Choices.{clash, cond-true, cond-false, and-right}
+use Rattle.rules.proofs.Choices.{clash, cond-true, cond-false}
 use Rattle.rules.proofs.SoundLaws.{sound-is}
 use Rattle.dispatch.specs.State.{view}
-use Rattle.dispatch.specs.Sound.{sizesFit, soundOf}
+use Rattle.dispatch.specs.Sound.{soundOf}
 use Rattle.dispatch.specs.declared.State.{State}
+use Rattle.dispatch.proofs.MethodLaws.{view-sound}
 use Rattle.board.specs.declared.Row.{Row}
 use Rattle.board.specs.declared.FillAnswer.{FillAnswer}
 use Rattle.board.specs.declared.NextAnswer.{NextAnswer}
@@ -26,11 +27,6 @@ use Rattle.board.specs.Scan.{nextOf}
 use Rattle.board.specs.Fill.{rowOf, rowsTo, rowsOf, fillAnswerOf, boardAfter, fillOf, fillFirstOf, rowsWritten}
 use Rattle.board.proofs.FillLaws.{rows-length, filled-ready, filled-nobody}
 use Rattle.board.proofs.FoldLaws.{filledTo, filled-length, filled-is}
-
--- a sound state means a sound Model
-pub view-sound : (s : State) → soundOf s ≡ true → sound (view s) ≡ true
-unfolding soundOf
-view-sound s e = and-right (sizesFit s) (sound (view s)) e
 
 -- ---- the answer, by its tests
 module _ (s : State) (n : ℕ) where

@@ -19,8 +19,8 @@ use Rattle.rules.proofs.SoundLaws.{sound-is}
 use Rattle.rules.proofs.Soundness.{ready-room, held-room-of}
 use Rattle.memory.specs.Rows.{rowFor, heldWidth, heldIn, queueWidth, queuesIn}
 use Rattle.memory.specs.Tasks.{blankTask, tasksIn}
-use Rattle.memory.specs.Memory.{nowCell, runningCell, taskCountIn, objectCountIn, runnerOf, waitingIn, recordOf, together, allRecords}
-use Rattle.memory.specs.Memory.{modelOf, LaidOut}
+use Rattle.memory.specs.Memory.{nowCell, runningCell, taskCountIn, objectCountIn, marksIn, runnerOf, waitingIn, recordOf, together}
+use Rattle.memory.specs.Memory.{allRecords, modelOf, LaidOut}
 use Rattle.memory.proofs.GridLaws.{list-count}
 use Rattle.memory.proofs.TaskLaws.{tasks-count}
 use Rattle.memory.proofs.MemoryLaws.{records-count, count-is, objects-is}
@@ -156,13 +156,15 @@ module _ {h ts hd cs qs : List ℕ} (d : LaidOut h ts hd cs qs) where
   queues-back = lists-back queueWidth lastPriority qs (d .queues)
 
   -- the whole
-  pub encode-back : (now tasks objects : ℕ) → now ≡ getD h nowCell 0 → tasks ≡ taskCountIn h → objects ≡ objectCountIn h →
+  pub encode-back : (now tasks objects marks : ℕ) → now ≡ getD h nowCell 0 → tasks ≡ taskCountIn h → objects ≡ objectCountIn h →
+      marks ≡ marksIn h →
       (w : _) → w ≡ runnerOf (getD h runningCell 0) → (ks : List Task) → ks ≡ tasksIn ts → (ps : List Priority) → ps ≡ map priority cs →
       record {
         now = now;
         running = w;
         «task_count» = tasks;
         «object_count» = objects;
+        marks = marks;
         tasks = ks;
         held = hd;
         ceilings = ps;
@@ -170,5 +172,5 @@ module _ {h ts hd cs qs : List ℕ} (d : LaidOut h ts hd cs qs) where
       } ≡
       encode (modelOf h ts hd cs qs)
   unfolding encode
-  encode-back now tasks objects e f g w i ks j ps k =
-      rw (count-is d, objects-is d, e, f, g, i, j, k, tasks-back, held-back, ceilings-back, queues-back)
+  encode-back now tasks objects marks e f g v w i ks j ps k =
+      rw (count-is d, objects-is d, e, f, g, v, d .marks, i, j, k, tasks-back, held-back, ceilings-back, queues-back)

@@ -27,8 +27,8 @@ mapped f l n e = sym (length-map l f) ∙ e
 
 pub known : (s : State) (vs : List Val) → Is (row the-type) s vs → Shaped s
 known s vs w = record {
-  tasks = mapped (task-type .to) (s .tasks) taskLimit (w .1 .1 .1 .1 .1 .1 .0 .1 .0 .1);
-  held = length-unmapped ℕ (s .held) (taskLimit * heldWidth) (w .1 .1 .1 .1 .1 .1 .1 .0 .1 .0 .1);
-  ceilings = mapped (priority-type .to) (s .ceilings) objectLimit (w .1 .1 .1 .1 .1 .1 .1 .1 .0 .1 .0 .1);
-  queues = length-unmapped ℕ (s .queues) (lastPriority * queueWidth) (w .1 .1 .1 .1 .1 .1 .1 .1 .1 .0 .1 .0 .1);
+  tasks = mapped (task-type .to) (s .tasks) taskLimit (w .1 .1 .1 .1 .1 .1 .1 .0 .1 .0 .1);
+  held = length-unmapped ℕ (s .held) (taskLimit * heldWidth) (w .1 .1 .1 .1 .1 .1 .1 .1 .0 .1 .0 .1);
+  ceilings = mapped (priority-type .to) (s .ceilings) objectLimit (w .1 .1 .1 .1 .1 .1 .1 .1 .1 .0 .1 .0 .1);
+  queues = length-unmapped ℕ (s .queues) (lastPriority * queueWidth) (w .1 .1 .1 .1 .1 .1 .1 .1 .1 .1 .0 .1 .0 .1);
 }

@@ -18,9 +18,10 @@ use Rattle.rules.specs.declared.Task.{Task}
 use Rattle.rules.specs.Fresh.{countsGood}
 use Rattle.rules.proofs.Choices.{and-left, and-right}
 use Rattle.rules.proofs.SoundLaws.{below-at}
-use Rattle.memory.specs.Rows.{rows, inRow, rowFor, lists, heldWidth, heldIn, queueWidth, queuesIn}
+use Rattle.marks.specs.Marks.{marksOf}
+use Rattle.memory.specs.Rows.{rows, inRow, rowFor, lists, heldWidth, heldIn, queueWidth, queuesIn, Queues}
 use Rattle.memory.specs.Tasks.{blankTask, tasksIn, TaskBecame}
-use Rattle.memory.specs.Memory.{runnerOf, together, allRecords, Means}
+use Rattle.memory.specs.Memory.{marksIn, runnerOf, together, allRecords, Means}
 use Rattle.memory.proofs.GridLaws.{part, withPart, row-fits, row-at, list-count, cell-at}
 use Rattle.dispatch.specs.declared.State.{State}
 use Rattle.dispatch.specs.State.{level, view, padded}
@@ -166,6 +167,12 @@ fitting s e =
       queues = and-right (counts && held) _ e;
     }
 
+-- the head's cells
+pub head-cells : (s : State) (code x marks y : ℕ) → code ≡ x → marks ≡ y →
+    s .now ∷ (code ∷ (s .«task_count» ∷ (s .«object_count» ∷ (marks ∷ [])))) ≡
+    s .now ∷ (x ∷ (s .«task_count» ∷ (s .«object_count» ∷ (y ∷ []))))
+head-cells s code x marks y e f = rw (e, f)
+
 -- the whole: the slices that a state is loaded into mean what it means
 module _ (s : State) (fit : Fitting s) (known : Shaped s) where
   n : ℕ
@@ -205,8 +212,17 @@ module _ (s : State) (fit : Fitting s) (known : Shaped s) where
   queues-short : Short queueWidth (queuesIn (s .queues))
   queues-short = lengths-short queueWidth lastPriority (s .queues) (omega arith) (fit .queues)
 
+  queues-are : (qs : List ℕ) → qs ≡ listsOver queueWidth (s .queues) lastPriority (lastPriority * queueWidth) →
+      qs ≡ flatMap (rowFor queueWidth) (queuesIn (s .queues))
+  queues-are qs e = e ∙ append-nil _
+
+  pub queues-loaded : (qs : List ℕ) → qs ≡ listsOver queueWidth (s .queues) lastPriority (lastPriority * queueWidth) → Queues qs
+  queues-loaded qs e =
+      let count = list-count queueWidth lastPriority (s .queues) in
+      rw (queues-are qs e) (lists-good queueWidth lastPriority (queuesIn (s .queues)) count queues-short)
+
   pub state-loaded : (h ts hd cs qs : List ℕ) →
-      h ≡ s .now ∷ (codeOf (s .running) ∷ (s .«task_count» ∷ (s .«object_count» ∷ []))) →
+      h ≡ s .now ∷ (codeOf (s .running) ∷ (s .«task_count» ∷ (s .«object_count» ∷ (marksOf (queuesIn qs) ∷ [])))) →
       TasksLoaded (s .tasks) (s .«task_count») ts →
       hd ≡ listsOver heldWidth (s .held) (s .«task_count») (taskLimit * heldWidth) →
       cs ≡ padded objectLimit (take (s .«object_count») (map level (s .ceilings))) 0 →
@@ -222,9 +238,8 @@ module _ (s : State) (fit : Fitting s) (known : Shaped s) where
       let count : length (take n ks) ≡ n = length-take-le n ks (omega (arith, many, known .tasks, fit .count)) in
       let cs-count : length (take o (map level (s .ceilings))) ≡ o =
       length-take-le o (map level (s .ceilings)) (omega (arith, length-map (s .ceilings) level, known .ceilings, fit .objects)) in
-      let qs-is : qs ≡ flatMap (rowFor queueWidth) (queuesIn (s .queues)) = i ∙ append-nil _ in
       let q = list-count queueWidth lastPriority (s .queues) in
-      let ready = ap queuesIn qs-is ∙ lists-of queueWidth lastPriority (queuesIn (s .queues)) q queues-short in
+      let ready = ap queuesIn (queues-are qs i) ∙ lists-of queueWidth lastPriority (queuesIn (s .queues)) q queues-short in
       let front = padded-front n taskLimit (take n ks) blank count in
       let cs-front = padded-front o objectLimit (take o (map level (s .ceilings))) 0 cs-count in
       record {
@@ -236,8 +251,9 @@ module _ (s : State) (fit : Fitting s) (known : Shaped s) where
           tasks = t .good;
           held = rw hd-is (lists-good heldWidth taskLimit (padded taskLimit holds []) holds-count holds-short);
           ceilings = ap length g ∙ padded-length objectLimit (take o (map level (s .ceilings))) 0 (omega (arith, cs-count, fit .objects));
-          queues = rw qs-is (lists-good queueWidth lastPriority (queuesIn (s .queues)) q queues-short);
+          queues = queues-loaded qs i;
           unused = rw (e, all) (padded-rest n taskLimit (take n ks) blank count);
           zeros = rw (e, g) (padded-rest o objectLimit (take o (map level (s .ceilings))) 0 cs-count);
+          marks = ap marksIn e;
         };
       }

@@ -14,14 +14,26 @@ use Rattle.rules.specs.declared.Event.{Event}
 use Rattle.rules.specs.declared.Answer.{Answer}
 use Rattle.rules.specs.declared.Report.{Report}
 use Rattle.memory.specs.declared.rulings.Ruling.{Ruling}
+use Rattle.rules.proofs.Choices.{and-left, and-right}
+use Rattle.marks.specs.Marks.{marksOf}
+use Rattle.memory.specs.Rows.{queuesIn}
 use Rattle.memory.specs.Memory.{modelOf, Means, Valid, Moves}
 use Rattle.dispatch.specs.declared.State.{State}
 use Rattle.dispatch.specs.declared.Stepped.{Stepped}
 use Rattle.dispatch.specs.State.{view, encode}
-use Rattle.dispatch.specs.Sound.{sizesFit, soundOf}
+use Rattle.dispatch.specs.Sound.{sizesFit, marksGood, soundOf}
 use Rattle.dispatch.specs.Methods.{answered, unsound, appliedOf}
 
 module _ (s : State) where
+  -- the sizes of a sound state fit, and it means a sound Model
+  pub sound-fits : soundOf s ≡ true → sizesFit s ≡ true
+  unfolding soundOf
+  sound-fits e = and-left (sizesFit s) (marksGood s) (and-left (sizesFit s && marksGood s) (sound (view s)) e)
+
+  pub view-sound : soundOf s ≡ true → sound (view s) ≡ true
+  unfolding soundOf
+  view-sound e = and-right (sizesFit s && marksGood s) (sound (view s)) e
+
   -- sizes that do not fit
   pub unfit : sizesFit s ≡ false → false ≡ soundOf s
   unfolding soundOf
@@ -33,12 +45,12 @@ module _ (s : State) where
 
   module _ (fit : sizesFit s ≡ true) {h ts hd cs qs : List ℕ} (m : Means h ts hd cs qs (view s)) where
     -- sizes that fit: the slices are tested
-    pub tested : (r : Bool) → r ≡ sound (modelOf h ts hd cs qs) → r ≡ soundOf s
-    unfolding soundOf
-    tested r e = e ∙ rw (m .same, fit)
+    pub tested : (r : Bool) → r ≡ (eqb (s .marks) (marksOf (queuesIn qs)) && sound (modelOf h ts hd cs qs)) → r ≡ soundOf s
+    unfolding soundOf marksGood
+    tested r e = e ∙ (ap (λ (n : Model). eqb (s .marks) (marksOf (n .ready)) && sound n) (m .same) ∙ rw fit)
 
-    pub valid : (r : Bool) → r ≡ sound (modelOf h ts hd cs qs) → r ≡ true → Valid h ts hd cs qs
-    valid r e f = record { laid = m .laid; sound = sym e ∙ f }
+    pub valid : (r : Bool) → r ≡ (eqb (s .marks) (marksOf (queuesIn qs)) && sound (modelOf h ts hd cs qs)) → r ≡ true → Valid h ts hd cs qs
+    valid r e f = record { laid = m .laid; sound = and-right (eqb (s .marks) (marksOf (queuesIn qs))) _ (sym e ∙ f) }
 
     -- an event on them
     module _ (e : Event) (good : soundOf s ≡ true) {h' ts' hd' cs' qs' : List ℕ} (x : Ruling)

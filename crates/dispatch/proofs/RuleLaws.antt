@@ -2,9 +2,10 @@
 use mathlib.Core.Path.{_≡_, refl, ap, _∙_, sym}
 use mathlib.Core.Bool.{Bool, true, false, cond}
 use mathlib.Core.List.{List, [], map, flatMap}
-use Prim.Native.Nat.{ℕ, _*_, _≤_, _<_}
+use Prim.Native.Nat.{ℕ, suc, _-_, _*_, _≤_, _<_}
+use native.Mathlib.Numerals.{sub-one}
 use native.Mathlib.Omega.{arith}
-use borrow.Author.Tests.{le-leb, lt-ltb}
+use borrow.Author.Tests.{le-leb, lt-ltb, eq-eqb, eqb-true}
 use lib.Dec.{eqb, ltb}
 use lib.ListN.{length, getD}
 use Rattle.rules.specs.Limits.{taskLimit, objectLimit, lastPriority}
@@ -19,12 +20,14 @@ use Rattle.rules.proofs.Choices.{clash}
 use Rattle.rules.proofs.SoundLaws.{sound-is, below-make}
 use Rattle.rules.specs.Refusals.{table, appliesAt}
 use Rattle.rules.proofs.Refusals.{exactly-when, refused-same}
+use Rattle.marks.specs.Marks.{marksOf}
+use Rattle.marks.proofs.MarkLaws.{marks-claim}
 use Rattle.memory.specs.Rows.{rowFor, heldWidth, queueWidth, Lists}
-use Rattle.memory.proofs.GridLaws.{list-room, count-at}
+use Rattle.memory.proofs.GridLaws.{list-room, list-count, count-at}
 use Rattle.dispatch.specs.declared.State.{State}
 use Rattle.dispatch.specs.declared.Stepped.{Stepped}
-use Rattle.dispatch.specs.State.{holding, padded, encode}
-use Rattle.dispatch.specs.Sound.{lengthsGood, sizesFit, soundOf}
+use Rattle.dispatch.specs.State.{view, holding, padded, encode}
+use Rattle.dispatch.specs.Sound.{lengthsGood, sizesFit, marksGood, MarksGoodClaim, soundOf}
 use Rattle.dispatch.specs.Methods.{answered, appliedOf}
 use Rattle.dispatch.proofs.FlatLaws.{lists-good}
 use Rattle.dispatch.proofs.EncodeLaws.{held-short, queue-short, held-count, view-encode}
@@ -53,9 +56,14 @@ module _ (m : Model) (s : sound m ≡ true) where
         le-leb (length (m .ceilings)) objectLimit (n .objects),
       )
 
+  marks-good : marksGood (encode m) ≡ true
+  unfolding marksGood encode
+  marks-good =
+      eq-eqb (marksOf (m .ready)) (marksOf (view (encode m) .ready)) (ap (λ (n : Model). marksOf (n .ready)) (sym (view-encode m s)))
+
   encode-sound : soundOf (encode m) ≡ true
   unfolding soundOf
-  encode-sound = rw (sizes-fit, view-encode m s, s)
+  encode-sound = rw (sizes-fit, marks-good, view-encode m s, s)
 
   -- so an event does what the rule does
   pub applied-encode : (e : Event) → appliedOf (encode m) e ≡
@@ -72,6 +80,17 @@ module _ (m : Model) (s : sound m ≡ true) where
       go true f = refl
       go false f = ap {B = Stepped} (λ (v : Model). with-state (encode v))
           (sym (refused-same m e (λ d. clash (sym (ap (λ (a : Answer). eqb (numberOf a) 0) d) ∙ f))))
+
+-- a State's marks are good exactly when each is on where its queue is not empty
+pub marks-say : MarksGoodClaim
+unfolding marksGood view
+marks-say s h =
+    let qs = view s .ready in
+    let count : length qs ≡ lastPriority = list-count queueWidth lastPriority (s .queues) in
+    let says = marks-claim .exact qs (s .marks) (rw count h) in (
+      λ e p low high. says .0 (eqb-true (s .marks) (marksOf qs) e) (p - 1) (omega (arith, count)),
+      λ f. eq-eqb (s .marks) (marksOf qs) (says .1 (λ i g. rw sub-one at (f (suc i) (omega arith) (omega (arith, count))))),
+    )
 
 -- a rule answers 1 to 9, or 0
 pub rule-never : (m : Model) (e : Event) → apply m e .answer ≡ Unsound → ⊥

@@ -1,13 +1,17 @@
--- When a State is sound: document 01's list, of the Model that it means, and no clause of ours.
-use mathlib.Core.Bool.{Bool, _&&_}
+-- When a State is sound: document 01's list, of the Model that it means, the clause of 2026-02, and no clause of ours.
+use mathlib.Core.Path.{_≡_}
+use mathlib.Core.Bool.{Bool, true, _&&_}
 use mathlib.Core.List.{List}
-use Prim.Native.Nat.{ℕ, _*_}
-use lib.Dec.{ltb}
-use lib.ListN.{getD}
-use Rattle.rules.specs.Limits.{lastPriority}
+use mathlib.Core.Logic.{_↔_}
+use Prim.Native.Nat.{ℕ, _-_, _*_, _^_, _≤_, _<_}
+use lib.Dec.{eqb, ltb}
+use lib.ListN.{length, getD}
+use Rattle.rules.specs.Limits.{firstPriority, lastPriority}
+use Rattle.rules.specs.Model.{queue}
 use Rattle.rules.specs.Fresh.{countsGood}
 use Rattle.rules.specs.Sound.{sound}
 use Rattle.rules.specs.Lists.{below}
+use Rattle.marks.specs.Marks.{bitAt, marksOf}
 use Rattle.memory.specs.Rows.{heldWidth, queueWidth}
 use Rattle.dispatch.specs.declared.State.{State}
 use Rattle.dispatch.specs.State.{view}
@@ -22,6 +26,16 @@ sizesFit s =
     countsGood (s .«task_count») (s .«object_count») && lengthsGood heldWidth (s .«task_count») (s .held) &&
     lengthsGood queueWidth lastPriority (s .queues)
 
+-- 2026-02: "The state keeps the word, a mark on exactly when its queue is nonempty; otherwise it is unsound."
+unfoldable pub marksGood : State → Bool
+marksGood s = eqb (s .marks) (marksOf (view s .ready))
+
+-- which is to say, of a word of 32 bits, queue by queue
+abbrev pub MarksGoodClaim : Type 0
+MarksGoodClaim =
+    (s : State) → s .marks < 2 ^ lastPriority → (marksGood s ≡ true) ↔
+    ((p : ℕ) → firstPriority ≤ p → p ≤ lastPriority → (bitAt (s .marks) (p - 1) ≡ 1) ↔ (0 < length (queue (view s) p)))
+
 -- and the rest of the list
 unfoldable pub soundOf : State → Bool
-soundOf s = sizesFit s && sound (view s)
+soundOf s = sizesFit s && marksGood s && sound (view s)

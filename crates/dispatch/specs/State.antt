@@ -8,6 +8,7 @@ use Rattle.rules.specs.declared.Priority.{Priority}
 use Rattle.rules.specs.declared.Task.{Task}
 use Rattle.rules.specs.declared.WaitingBase.{WaitingBase}
 use Rattle.rules.specs.declared.WaitingBase.the-variants.{Nothing, Base}
+use Rattle.marks.specs.Marks.{marksOf}
 use Rattle.memory.specs.Rows.{rowFor, heldWidth, heldIn, queueWidth, queuesIn}
 use Rattle.memory.specs.Tasks.{blankTask}
 use Rattle.memory.specs.Memory.{together}
@@ -46,7 +47,7 @@ holding k = k .held
 unfoldable pub padded : {A : Type 0} → ℕ → List A → A → List A
 padded n l x = l ++ replicate (n - length l) x
 
--- the state for a Model: blank records, empty rows and zeros behind the last
+-- the state for a Model: the marks of its queues, and blank records, empty rows and zeros behind the last
 unfoldable pub encode : Model → State
 encode m =
     record {
@@ -54,6 +55,7 @@ encode m =
       running = m .running;
       «task_count» = length (m .tasks);
       «object_count» = length (m .ceilings);
+      marks = marksOf (m .ready);
       tasks = padded taskLimit (map taskFor (m .tasks)) blankTask;
       held = flatMap (rowFor heldWidth) (padded taskLimit (map holding (m .tasks)) []);
       ceilings = padded objectLimit (map priority (m .ceilings)) (priority 0);

@@ -17,11 +17,13 @@ use rules::Runner;
 use rules::Task;
 
 // All fields are public: whatever a caller hands in gets an answer. Cells past a count or past a row's length are no part of it.
+// Bit p - 1 of the marks is on exactly where the ready queue for p is not empty; otherwise the state is unsound.
 pub struct State {
     pub now: u64,
     pub running: Runner,
     pub task_count: u8,
     pub object_count: u8,
+    pub marks: u32,
     pub tasks: [Task; TASK_LIMIT],
     pub held: [u8; HELD_CELLS],
     pub ceilings: [Priority; OBJECT_LIMIT],

@@ -104,7 +104,7 @@ pub struct Memory {
     pub queues: [u8; QUEUE_CELLS],
 }
 
-// The whole state, in the engine's layout.
+// The whole state, in the engine's layout. The marks are reckoned from the queues: whether the state holds the same is tested afterwards.
 pub fn load(state: State) -> Memory
     requires { ⌜ sizesFit state ≡ true ⌝ }
     ensures { λ r. ⌜ Means (r .head) (r .tasks) (r .held) (r .ceilings) (r .queues) (view state) ⌝ }
@@ -112,12 +112,6 @@ pub fn load(state: State) -> Memory
     let n = state.task_count as usize;
     let running = state.running;
     let code = running_code(running);
-    let head = [
-        state.now,
-        code,
-        state.task_count as u64,
-        state.object_count as u64,
-    ];
     let records = state.tasks;
     let mut tasks = [0u64; TASK_CELLS];
     load_tasks(records, n, &mut tasks);
@@ -130,6 +124,14 @@ pub fn load(state: State) -> Memory
     let ready = state.queues;
     let mut queues = [0u8; QUEUE_CELLS];
     load_lists(&ready, &mut queues, QUEUE_WIDTH, PRIORITIES);
+    let marks = memory::queues::marks_of(&queues);
+    let head = [
+        state.now,
+        code,
+        state.task_count as u64,
+        state.object_count as u64,
+        marks,
+    ];
     Memory {
         head: head,
         tasks: tasks,

@@ -25,7 +25,7 @@ impl State {
         let held = m.held;
         let ceilings = m.ceilings;
         let queues = m.queues;
-        soundness::sound(&head, &tasks, &held, &ceilings, &queues)
+        soundness::sound(&head, &tasks, &held, &ceilings, &queues, self.marks)
     }
 
     fn unsound(self) -> Stepped
@@ -51,7 +51,7 @@ impl State {
         let mut held = m.held;
         let ceilings = m.ceilings;
         let mut queues = m.queues;
-        if !soundness::sound(&head, &tasks, &held, &ceilings, &queues) {
+        if !soundness::sound(&head, &tasks, &held, &ceilings, &queues, self.marks) {
             return self.unsound();
         }
         let ruling = engine::apply(

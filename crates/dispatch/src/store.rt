@@ -9,6 +9,7 @@ ghost use Rattle.dispatch.specs.State.{priority, encode};
 use crate::State;
 use memory::sizes::HEAD_WIDTH;
 use memory::sizes::HELD_CELLS;
+use memory::sizes::MARKS_CELL;
 use memory::sizes::NOW_CELL;
 use memory::sizes::OBJECT_LIMIT;
 use memory::sizes::OBJECTS_CELL;
@@ -79,6 +80,7 @@ pub fn store(
         running: running,
         task_count: head[TASKS_CELL] as u8,
         object_count: head[OBJECTS_CELL] as u8,
+        marks: head[MARKS_CELL] as u32,
         tasks: records,
         held: held,
         ceilings: levels,

@@ -11,9 +11,10 @@ use Rattle.rules.specs.Model.{Model, TaskRecord, blank}
 use Rattle.rules.specs.Moves.{becomeReady}
 use Rattle.rules.specs.Fresh.{Setup, newTask, newTasks, unstarted, joinFrom, Startable}
 use Rattle.rules.proofs.FreshLaws.{Joined, join-core, join-one, joined-none}
+use Rattle.marks.proofs.MarkLaws.{no-marks}
 use Rattle.memory.specs.Rows.{queueWidth, heldWidth}
 use Rattle.memory.specs.Tasks.{taskWidth, blankTask, tasksIn}
-use Rattle.memory.specs.Memory.{nowCell, runningCell, tasksCell, objectsCell, headWidth, runnerOf, waitingIn, together}
+use Rattle.memory.specs.Memory.{nowCell, runningCell, tasksCell, objectsCell, marksCell, headWidth, runnerOf, waitingIn, together}
 use Rattle.memory.specs.Memory.{taskCountIn, allRecords, modelOf, Means}
 use Rattle.fresh.specs.Slices.{newcomer, Enrolled, JoinAll}
 use Rattle.moves.specs.Room.{Dispatches}
@@ -42,17 +43,18 @@ new-count (b ∷ bs) = ap suc (new-count bs)
 
 -- the head of a fresh start
 pub fresh-head : (h : List ℕ) (n k : ℕ) → length h ≡ headWidth →
-    set (set (set (set h nowCell 0) runningCell 0) tasksCell n) objectsCell k ≡ 0 ∷ (0 ∷ (n ∷ (k ∷ [])))
+    set (set (set (set (set h nowCell 0) runningCell 0) tasksCell n) objectsCell k) marksCell 0 ≡ 0 ∷ (0 ∷ (n ∷ (k ∷ (0 ∷ []))))
 fresh-head [] n k e = absurd (omega arith)
 fresh-head (a ∷ []) n k e = absurd (omega arith)
 fresh-head (a ∷ (b ∷ [])) n k e = absurd (omega arith)
 fresh-head (a ∷ (b ∷ (c ∷ []))) n k e = absurd (omega arith)
-fresh-head (a ∷ (b ∷ (c ∷ (x ∷ [])))) n k e = refl
-fresh-head (a ∷ (b ∷ (c ∷ (x ∷ (y ∷ l))))) n k e = absurd (omega arith)
+fresh-head (a ∷ (b ∷ (c ∷ (x ∷ [])))) n k e = absurd (omega arith)
+fresh-head (a ∷ (b ∷ (c ∷ (x ∷ (y ∷ []))))) n k e = refl
+fresh-head (a ∷ (b ∷ (c ∷ (x ∷ (y ∷ (z ∷ l)))))) n k e = absurd (omega arith)
 
 -- blank slices with newcomers, ceilings and counts written: nobody has started
 module _ (bs given h ts₀ ts hd cs₀ cs qs : List ℕ) (s : Startable (record { bases = bs; ceilings = given }))
-    (head : h ≡ 0 ∷ (0 ∷ (length bs ∷ (length given ∷ []))))
+    (head : h ≡ 0 ∷ (0 ∷ (length bs ∷ (length given ∷ (0 ∷ [])))))
     (empty : ts₀ ≡ replicate (taskLimit * taskWidth) 0) (new : Enrolled ts₀ ts bs) (held : hd ≡ replicate (taskLimit * heldWidth) 0)
     (none : cs₀ ≡ replicate objectLimit 0) (ceilings : cs ≡ given ++ drop (length given) cs₀)
     (queues : qs ≡ replicate (lastPriority * queueWidth) 0) where
@@ -93,6 +95,7 @@ module _ (bs given h ts₀ ts hd cs₀ cs qs : List ℕ) (s : Startable (record 
           queues = blank-good qs queueWidth lastPriority queues (omega arith);
           unused = rw (head, all-new) (drop-at (newTasks bs) (replicate (taskLimit - length bs) blank) (length bs) seam);
           zeros = rw (head, all-ceilings) (drop-append-seam given (replicate (objectLimit - length given) 0));
+          marks = rw (head, blank-lists qs queueWidth lastPriority queues (omega arith)) (sym (no-marks lastPriority));
         };
       }
 
@@ -126,9 +129,9 @@ module _ (x : Setup) (s : Startable x) where
   fresh-dispatches = core-dispatches _ (joined-to (length (x .bases)) (omega arith) .core)
 
 -- all tasks of a fresh start have joined
-pub joined-law : {h ts hd cs qs ts' qs' : List ℕ} (x : Setup) → Means h ts hd cs qs (unstarted x) →
-    Means h ts' hd cs qs' (joinFrom 0 (taskCountIn h) (modelOf h ts hd cs qs)) →
-    Means h ts' hd cs qs' (joinFrom 0 (length (x .bases)) (unstarted x))
+pub joined-law : {h ts hd cs qs h' ts' qs' : List ℕ} (x : Setup) → Means h ts hd cs qs (unstarted x) →
+    Means h' ts' hd cs qs' (joinFrom 0 (taskCountIn h) (modelOf h ts hd cs qs)) →
+    Means h' ts' hd cs qs' (joinFrom 0 (length (x .bases)) (unstarted x))
 joined-law {h = h} x y z =
     let count : taskCountIn h ≡ length (x .bases) =
     sym (count-is (y .laid)) ∙ (ap (λ (m : Model). length (m .tasks)) (y .same) ∙ new-count (x .bases)) in

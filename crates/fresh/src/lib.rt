@@ -10,6 +10,7 @@ ghost use Rattle.memory.specs.Tasks.{Tasks};
 ghost use Rattle.memory.specs.Memory.{taskCountIn, modelOf, LaidOut, Means};
 ghost use Rattle.fresh.specs.Slices.{Sized, Enrolled, JoinAll};
 use memory::sizes::HEAD_WIDTH;
+use memory::sizes::MARKS_CELL;
 use memory::sizes::NOW_CELL;
 use memory::sizes::OBJECTS_CELL;
 use memory::sizes::RUNNING_CELL;
@@ -76,7 +77,7 @@ fn enroll(tasks: &mut [u64], bases: &[u8])
 
 // All tasks become ready, in number order.
 fn join_all(
-    head: &[u64; HEAD_WIDTH],
+    head: &mut [u64; HEAD_WIDTH],
     tasks: &mut [u64],
     held: &[u8],
     ceilings: &[u8],
@@ -85,7 +86,7 @@ fn join_all(
     requires { ⌜ LaidOut (now head) (now tasks) (now held) (now ceilings) (now queues) ⌝ }
     requires { ⌜ JoinAll (modelOf (now head) (now tasks) (now held) (now ceilings) (now queues)) ⌝ }
     ensures { λ u.
-        ⌜ Means (now (head .entry)) (now (tasks .exit)) (now (held .entry)) (now (ceilings .entry)) (now (queues .exit))
+        ⌜ Means (now (head .exit)) (now (tasks .exit)) (now (held .entry)) (now (ceilings .entry)) (now (queues .exit))
         (joinFrom 0 (taskCountIn (now (head .entry)))
         (modelOf (now (head .entry)) (now (tasks .entry)) (now (held .entry)) (now (ceilings .entry)) (now (queues .entry)))) ⌝ }
 {
@@ -123,6 +124,7 @@ fn lay_out(
     head[RUNNING_CELL] = 0;
     head[TASKS_CELL] = bases.len() as u64;
     head[OBJECTS_CELL] = given.len() as u64;
+    head[MARKS_CELL] = 0;
 }
 
 pub fn fresh(

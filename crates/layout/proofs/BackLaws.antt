@@ -23,9 +23,9 @@ use Rattle.dispatch.specs.State.{level, priority}
 use Rattle.dispatch.proofs.Known.{Shaped}
 use Rattle.dispatch.specs.declared.State.{State}
 use Rattle.words.proofs.ListLaws.{map-at}
-use Rattle.layout.specs.Sizes.{nobodyCode, taskSize, kindOffset, baseOffset, waitsOffset, waitingOffset, permitOffset}
+use Rattle.layout.specs.Sizes.{marksAt, nobodyCode, taskSize, kindOffset, baseOffset, waitsOffset, waitingOffset, permitOffset}
 use Rattle.layout.specs.Sizes.{tasksStart, ceilingsStart, heldStart, queuesStart}
-use Rattle.words.specs.Words.{tabulate, byteAt, wordAt, numberAt}
+use Rattle.words.specs.Words.{tabulate, byteAt, wordAt, longAt, numberAt}
 use Rattle.layout.specs.Decode.{runnerFrom, placeFrom, waitingFrom, taskFrom, tasksFrom, cellsFrom}
 use Rattle.layout.specs.Decode.{stateOfBytes}
 use Rattle.layout.specs.Encode.{lowBytes, runnerCode, kindByte, waitsByte, waitingByte, taskTail, taskBytes, headTail, headBytes}
@@ -185,8 +185,12 @@ module _ (s : State) (r : List ℕ) (d : Shaped s) (g : Fits s) where
   unfolding bytesOfState headBytes
   now-back = simp append-assoc (number-back (s .now) _ (g .now))
 
+  marks-back : longAt whole marksAt ≡ s .marks
+  unfolding bytesOfState headBytes headTail lowBytes longAt wordAt
+  marks-back = let fits = g .marks in omega arith
+
   -- the bytes of a state, whatever is behind them, stand for it
   pub state-back : stateOfBytes whole ≡ s
   unfolding stateOfBytes bytesOfState headBytes headTail lowBytes
   state-back =
-      rw (now-back, runner-back (s .running) (g .running), tasks-back, held-back, ceilings-back, queues-back)
+      rw (now-back, runner-back (s .running) (g .running), marks-back, tasks-back, held-back, ceilings-back, queues-back)

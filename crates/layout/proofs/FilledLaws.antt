@@ -10,14 +10,14 @@ use lib.ListN.{length, take, drop, replicate}
 use lib.Seq.{sets, take-at, length-take-le}
 use Rattle.rules.specs.Limits.{taskLimit}
 use Rattle.rules.specs.Answers.{numberOf}
-use Rattle.rules.specs.Sound.{sound}
 use Rattle.rules.specs.declared.Answer.the-variants.{Unsound}
-use Rattle.rules.proofs.Choices.{cond-true, cond-false, compare, both-ways, and-left}
+use Rattle.rules.proofs.Choices.{cond-true, cond-false, compare, both-ways}
 use Rattle.dispatch.specs.State.{priority, view}
-use Rattle.dispatch.specs.Sound.{sizesFit, soundOf}
+use Rattle.dispatch.specs.Sound.{soundOf}
 use Rattle.dispatch.proofs.Known.{Shaped}
 use Rattle.dispatch.specs.declared.State.{State}
 use Rattle.dispatch.proofs.LoadLaws.{fitting}
+use Rattle.dispatch.proofs.MethodLaws.{sound-fits}
 use Rattle.board.specs.Rows.{rowLimit, fillNumber, Filling, fillingOf, behind}
 use Rattle.board.specs.Fill.{rowsOf, fillAnswerOf, boardAfter, fillOf, fillFirstOf}
 use Rattle.board.specs.declared.PlaceKind.the-variants.{Ended}
@@ -83,9 +83,8 @@ module _ (s : State) (known : Shaped s) where
           (λ h. absurd (let z : _≡_ {A = ℕ} 13 0 = ap fillNumber (sym (answer-few s n f h) ∙ e) in omega arith))
 
   said-count : soundOf s ≡ true → (count ≡ s .«task_count») × (s .«task_count» ≤ rowLimit)
-  unfolding soundOf
   said-count e =
-      let fit = fitting s (and-left (sizesFit s) (sound (view s)) e) in
+      let fit = fitting s (sound-fits s e) in
       (tasks-all s known (fit .count), fit .count)
 
 -- the bytes of a board after its rows were written

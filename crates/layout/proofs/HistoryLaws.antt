@@ -19,18 +19,20 @@ use Rattle.rules.specs.declared.Place.the-variants.{Running, Ready, Delayed, Su
 use Rattle.rules.specs.declared.Event.{Event}
 use Rattle.rules.specs.Histories.{delayFits}
 use Rattle.rules.specs.Clauses.{Numbers}
-use Rattle.rules.proofs.Choices.{compare, cond-false, and-right}
+use Rattle.rules.proofs.Choices.{compare, cond-false}
 use Rattle.rules.proofs.SoundLaws.{sound-is}
 use Rattle.rules.proofs.Soundness.{sound-kept}
 use Rattle.rules.proofs.FreshLaws.{fresh-sound}
+use Rattle.marks.proofs.MarkLaws.{marks-fit}
 use Rattle.memory.specs.Rows.{heldWidth, queueWidth}
 use Rattle.memory.specs.Tasks.{dueOf, blankTask}
 use Rattle.dispatch.specs.State.{priority, view, waitingFor, taskFor, holding, padded, encode}
-use Rattle.dispatch.specs.Sound.{sizesFit, soundOf}
+use Rattle.dispatch.specs.Sound.{soundOf}
 use Rattle.dispatch.proofs.Known.{Shaped}
 use Rattle.dispatch.specs.Methods.{answered, unsound, appliedOf, freshOf}
 use Rattle.dispatch.specs.declared.State.{State}
 use Rattle.dispatch.specs.declared.Stepped.{Stepped}
+use Rattle.dispatch.proofs.MethodLaws.{view-sound}
 use Rattle.dispatch.proofs.ListLaws.{padded-length, padded-at}
 use Rattle.dispatch.proofs.FlatLaws.{flat-length}
 use Rattle.dispatch.proofs.EncodeLaws.{held-short, queue-short, held-count}
@@ -86,6 +88,7 @@ module _ (m : Model) (s : sound m ≡ true) where
       record {
         now = omega (arith, sizes .reading);
         running = λ t e. omega (arith, sizes .runner t e, sizes .count);
+        marks = rw (sizes .queues) at (marks-fit (m .ready));
         due = λ t. rw (record-at t) (due-small (taskAt m t .place) (due-fits t));
       }
 
@@ -141,25 +144,25 @@ module _ (b : List ℕ) (e : Event) (h : readable b ≡ true) (d : delayFits e �
   Kept r = readable (cond (eqb (numberOf (r .answer)) 0) (withState (r .state) b) b) ≡ true
 
   read-when-sound : soundOf s ≡ true → Kept (answered s (apply (view s) e))
-  unfolding answered soundOf
+  unfolding answered
   read-when-sound g = by-test (eqb (numberOf (apply (view s) e .answer)) 0)
     where
       m : Model
       m = apply (view s) e .model
 
       by-test : (t : Bool) → readable (cond t (withState (cond t (encode m) s) b) b) ≡ true
-      by-test true = written-read m (sound-kept (view s) e d (and-right (sizesFit s) (sound (view s)) g)) b long
+      by-test true = written-read m (sound-kept (view s) e d (view-sound s g)) b long
       by-test false = h
 
   when-sound : soundOf s ≡ true → Held (answered s (apply (view s) e))
-  unfolding answered soundOf
+  unfolding answered
   when-sound g = by-test (eqb (numberOf (apply (view s) e .answer)) 0)
     where
       m : Model
       m = apply (view s) e .model
 
       by-test : (t : Bool) → stateOfBytes (cond t (withState (cond t (encode m) s) b) b) ≡ cond t (encode m) s
-      by-test true = written-back m (sound-kept (view s) e d (and-right (sizesFit s) (sound (view s)) g)) b long
+      by-test true = written-back m (sound-kept (view s) e d (view-sound s g)) b long
       by-test false = refl
 
   -- readable bytes stay readable

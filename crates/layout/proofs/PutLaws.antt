@@ -7,7 +7,7 @@ use lib.ListN.{length, getD, set, drop, drop-of-length-le, length-append}
 use lib.Seq.{sets, drop-cons}
 use Rattle.words.proofs.CopyLaws.{sets-append}
 use Rattle.rules.specs.declared.Task.{Task}
-use Rattle.layout.specs.Sizes.{taskSize, tasksStart}
+use Rattle.layout.specs.Sizes.{marksSize, taskSize, tasksStart}
 use Rattle.memory.specs.Tasks.{dueOf, bit}
 use Rattle.dispatch.specs.declared.State.{State}
 use Rattle.layout.specs.Encode.{lowBytes, runnerCode, kindByte, waitsByte, waitingByte, taskTail, taskBytes, headTail, headBytes}
@@ -93,7 +93,8 @@ module _ (l l' l'' : List ℕ) (at j : ℕ) (next : j ≡ at + 8) where
       behind-number due (kind ∷ (k .base .0 ∷ (waits ∷ (waiting ∷ (on ∷ (0 ∷ (0 ∷ (0 ∷ [])))))))) f g ∙ rw (e1, e2, e3, e4, e5)
 
   pub head-put : (s : State) (running : ℕ) → running ≡ runnerCode (s .running) → l' ≡ sets l at (lowBytes 8 (s .now)) →
-      l'' ≡ sets l' j (running ∷ (s .«task_count» ∷ (s .«object_count» ∷ (0 ∷ (0 ∷ (0 ∷ (0 ∷ (0 ∷ [])))))))) → l'' ≡ sets l at (headBytes s)
+      l'' ≡ sets l' j (running ∷ (s .«task_count» ∷ (s .«object_count» ∷ (0 ∷ lowBytes marksSize (s .marks))))) →
+      l'' ≡ sets l at (headBytes s)
   unfolding headBytes headTail
   head-put s running e f g =
-      behind-number (s .now) (running ∷ (s .«task_count» ∷ (s .«object_count» ∷ (0 ∷ (0 ∷ (0 ∷ (0 ∷ (0 ∷ [])))))))) f g ∙ rw e
+      behind-number (s .now) (running ∷ (s .«task_count» ∷ (s .«object_count» ∷ (0 ∷ lowBytes marksSize (s .marks))))) f g ∙ rw e

@@ -12,14 +12,15 @@ use Rattle.rules.specs.Limits.{taskLimit, objectLimit}
 use Rattle.dispatch.specs.State.{level}
 use Rattle.dispatch.proofs.Known.{Shaped}
 use Rattle.dispatch.specs.declared.State.{State}
-use Rattle.layout.specs.Sizes.{taskSize, tasksStart, ceilingsStart, heldStart, queuesStart, stateSize}
+use Rattle.layout.specs.Sizes.{marksSize, taskSize, tasksStart, ceilingsStart, heldStart, queuesStart, stateSize}
 use Rattle.layout.specs.Encode.{lowBytes, headTail, headBytes, taskBytes, bytesOfState, withState}
 use Rattle.words.proofs.CopyLaws.{sets-over}
 use Rattle.layout.proofs.PutLaws.{put-behind, low-length, tasks-length}
 
 pub head-length : (s : State) → length (headBytes s) ≡ tasksStart
 unfolding headBytes headTail
-head-length s = length-append (lowBytes 8 (s .now)) (headTail s) ∙ omega (arith, low-length 8 (s .now))
+head-length s =
+    length-append (lowBytes 8 (s .now)) (headTail s) ∙ omega (arith, low-length 8 (s .now), low-length marksSize (s .marks))
 
 -- what stands in front of the ceilings, of the held lists, of the queues
 abbrev pub upToCeilings : State → List ℕ

@@ -3,7 +3,7 @@ use mathlib.Core.Bool.{cond, not}
 use mathlib.Core.List.{List}
 use Prim.Native.Nat.{ℕ, _+_, _*_}
 use lib.Dec.{eqb}
-use Rattle.words.specs.Words.{byteAt, numberAt, tabulate}
+use Rattle.words.specs.Words.{byteAt, longAt, numberAt, tabulate}
 use Rattle.rules.specs.Limits.{taskLimit, objectLimit, lastPriority}
 use Rattle.rules.specs.declared.Place.{Place}
 use Rattle.rules.specs.declared.Place.the-variants.{Running, Ready, Delayed, Suspended, Ended}
@@ -15,7 +15,7 @@ use Rattle.rules.specs.declared.Task.{Task}
 use Rattle.memory.specs.Rows.{heldWidth, queueWidth}
 use Rattle.dispatch.specs.State.{priority}
 use Rattle.dispatch.specs.declared.State.{State}
-use Rattle.layout.specs.Sizes.{runningAt, taskCountAt, objectCountAt, nobodyCode, taskSize}
+use Rattle.layout.specs.Sizes.{runningAt, taskCountAt, objectCountAt, marksAt, nobodyCode, taskSize}
 use Rattle.layout.specs.Sizes.{kindOffset, baseOffset, waitsOffset, waitingOffset, permitOffset}
 use Rattle.layout.specs.Sizes.{readyCode, delayedCode, suspendedCode, endedCode}
 use Rattle.layout.specs.Sizes.{tasksStart, ceilingsStart, heldStart, queuesStart}
@@ -61,6 +61,7 @@ stateOfBytes s =
       running = runnerFrom (byteAt s runningAt);
       «task_count» = byteAt s taskCountAt;
       «object_count» = byteAt s objectCountAt;
+      marks = longAt s marksAt;
       tasks = tasksFrom s;
       held = cellsFrom s heldStart (taskLimit * heldWidth);
       ceilings = tabulate objectLimit (λ o. priority (byteAt s (ceilingsStart + o)));

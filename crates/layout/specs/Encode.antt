@@ -15,7 +15,8 @@ use Rattle.rules.specs.declared.Task.{Task}
 use Rattle.memory.specs.Tasks.{dueOf, bit, blankTask}
 use Rattle.dispatch.specs.State.{level}
 use Rattle.dispatch.specs.declared.State.{State}
-use Rattle.layout.specs.Sizes.{numberSize, nobodyCode, runningCode, readyCode, delayedCode, suspendedCode, endedCode, stateSize}
+use Rattle.layout.specs.Sizes.{numberSize, marksSize, nobodyCode, runningCode, readyCode, delayedCode, suspendedCode}
+use Rattle.layout.specs.Sizes.{endedCode, stateSize}
 
 -- the k lowest bytes of a number, the lowest first
 unfoldable pub lowBytes : ℕ → ℕ → List ℕ
@@ -52,7 +53,7 @@ taskBytes k = lowBytes numberSize (dueOf (k .place)) ++ taskTail k
 
 -- the head
 unfoldable pub headTail : State → List ℕ
-headTail s = runnerCode (s .running) ∷ (s .«task_count» ∷ (s .«object_count» ∷ (0 ∷ (0 ∷ (0 ∷ (0 ∷ (0 ∷ [])))))))
+headTail s = runnerCode (s .running) ∷ (s .«task_count» ∷ (s .«object_count» ∷ (0 ∷ lowBytes marksSize (s .marks))))
 
 unfoldable pub headBytes : State → List ℕ
 headBytes s = lowBytes numberSize (s .now) ++ headTail s
@@ -69,7 +70,11 @@ withState s b = cond (ltb (length b) stateSize) b (bytesOfState s ++ drop stateS
 abbrev pub numberValues : ℕ
 numberValues = 18446744073709551616
 
+abbrev pub marksValues : ℕ
+marksValues = 4294967296
+
 pub record Fits (s : State) : Type 0 where
   pub now : s .now < numberValues
   pub running : (t : ℕ) → s .running ≡ Runs t → t < nobodyCode
+  pub marks : s .marks < marksValues
   pub due : (t : ℕ) → dueOf (getD (s .tasks) t blankTask .place) < numberValues

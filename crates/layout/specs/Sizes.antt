@@ -3,11 +3,14 @@ use Prim.Native.Nat.{ℕ, _+_, _*_}
 use Rattle.rules.specs.Limits.{taskLimit, objectLimit, lastPriority}
 use Rattle.memory.specs.Rows.{heldWidth, queueWidth}
 
--- a number has eight bytes, the lowest first
+-- a number has eight bytes, the lowest first; the word of marks has four
 abbrev pub numberSize : ℕ
 numberSize = 8
 
--- the head, 16 bytes: now (8), running task or 255, task count, object count, then 5 zeros that nobody reads
+abbrev pub marksSize : ℕ
+marksSize = 4
+
+-- the head, 16 bytes: now (8), running task or 255, task count, object count, a zero that nobody reads, the word of marks (4)
 abbrev pub runningAt : ℕ
 runningAt = 8
 
@@ -16,6 +19,9 @@ taskCountAt = 9
 
 abbrev pub objectCountAt : ℕ
 objectCountAt = 10
+
+abbrev pub marksAt : ℕ
+marksAt = 12
 
 abbrev pub nobodyCode : ℕ
 nobodyCode = 255

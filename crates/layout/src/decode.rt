@@ -14,6 +14,7 @@ use crate::sizes::DELAYED;
 use crate::sizes::ENDED;
 use crate::sizes::HELD_START;
 use crate::sizes::KIND;
+use crate::sizes::MARKS_AT;
 use crate::sizes::NOBODY;
 use crate::sizes::OBJECT_COUNT_AT;
 use crate::sizes::PERMIT;
@@ -37,6 +38,7 @@ use rules::Runner;
 use rules::Task;
 use rules::WaitingBase;
 use words::byte_at;
+use words::long_at;
 use words::number_at;
 
 fn runner_from(b: u8) -> Runner
@@ -143,6 +145,7 @@ pub fn read(bytes: &[u8]) -> State
         running: running,
         task_count: byte_at(bytes, TASK_COUNT_AT),
         object_count: byte_at(bytes, OBJECT_COUNT_AT),
+        marks: long_at(bytes, MARKS_AT),
         tasks: tasks,
         held: held,
         ceilings: ceilings,

@@ -158,15 +158,19 @@ fn put_head(out: &mut [u8], state: State)
 {
     let running = state.running;
     put_number(out, 0, state.now);
+    let first = state.marks;
+    let second = first / 256;
+    let third = second / 256;
+    let last = third / 256;
     let rest = [
         runner_code(running),
         state.task_count,
         state.object_count,
         0,
-        0,
-        0,
-        0,
-        0,
+        (first % 256) as u8,
+        (second % 256) as u8,
+        (third % 256) as u8,
+        (last % 256) as u8,
     ];
     put(out, RUNNING_AT, &rest);
 }

@@ -7,12 +7,14 @@ use memory::sizes::TASK_LIMIT;
 // The bytes of a number.
 pub const NUMBER_SIZE: usize = 8;
 
-// The head: now, who runs, the counts.
+// The head: now, who runs, the counts, the word of marks.
 pub const RUNNING_AT: usize = 8;
 
 pub const TASK_COUNT_AT: usize = 9;
 
 pub const OBJECT_COUNT_AT: usize = 10;
+
+pub const MARKS_AT: usize = 12;
 
 pub const NOBODY: u8 = 255;
 

@@ -6,3 +6,4 @@ pub mod TaskLaws
 pub mod BlankLaws
 pub mod MemoryLaws
 pub mod PriorityLaws
+pub mod ReadyLaws

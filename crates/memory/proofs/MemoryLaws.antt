@@ -16,10 +16,12 @@ use Rattle.rules.specs.declared.Place.{Place}
 use Rattle.rules.specs.declared.WaitingBase.{WaitingBase}
 use Rattle.rules.specs.declared.Runner.the-variants.{Nobody, Task as Runs}
 use Rattle.rules.specs.declared.Task.{Task}
-use Rattle.memory.specs.Rows.{heldWidth, heldIn, heldBy, QueueBecame, HeldBecame}
+use Rattle.marks.specs.Marks.{marksOf}
+use Rattle.memory.specs.Rows.{heldWidth, heldIn, heldBy, HeldBecame, queuesIn, Queues}
 use Rattle.memory.specs.Tasks.{blankTask, tasksIn, taskIn, TaskBecame, placed, based, waited, granted}
-use Rattle.memory.specs.Memory.{nowCell, runningCell, tasksCell, objectsCell, taskCountIn, objectCountIn, runnerOf, waitingIn}
-use Rattle.memory.specs.Memory.{recordOf, together, allRecords, modelOf, LaidOut, Means}
+use Rattle.memory.specs.Memory.{headWidth, nowCell, runningCell, tasksCell, objectsCell, marksCell, taskCountIn, objectCountIn}
+use Rattle.memory.specs.Memory.{marksIn, runnerOf, waitingIn, recordOf, together, allRecords, modelOf, Marked, ReadyBecame}
+use Rattle.memory.specs.Memory.{LaidOut, Means}
 use Rattle.memory.proofs.GridLaws.{list-count}
 use Rattle.memory.proofs.TaskLaws.{tasks-count}
 
@@ -108,67 +110,64 @@ module _ {h ts hd cs qs : List ℕ} (d : LaidOut h ts hd cs qs) where
   busy n = let e : getD h runningCell 0 ≡ suc (getD h runningCell 0 - 1) = omega arith in ap runnerOf e
 
   -- what a change of one slice means
+  laid-head : {h' qs' : List ℕ} → length h' ≡ headWidth → taskCountIn h' ≡ taskCountIn h → objectCountIn h' ≡ objectCountIn h → Queues qs' →
+      marksIn h' ≡ marksOf (queuesIn qs') → LaidOut h' ts hd cs qs'
+  laid-head n c e q m =
+      record {
+        head = n;
+        count = rw c (d .count);
+        objects = rw e (d .objects);
+        tasks = d .tasks;
+        held = d .held;
+        ceilings = d .ceilings;
+        queues = q;
+        unused = rw c (d .unused);
+        zeros = rw e (d .zeros);
+        marks = m;
+      }
+
+  -- a cell of the head, and another
+  cell-same : (i v : ℕ) → i < headWidth → getD (set h i v) i 0 ≡ v
+  cell-same i v k = getD-set-same h i v 0 (omega (arith, d .head))
+
+  cell-other : (i j v : ℕ) → (j ≡ i → ⊥) → getD (set h i v) j 0 ≡ getD h j 0
+  cell-other i j v n = getD-set-other h i j v 0 n
+
   pub run-law : (v : ℕ) → Means (set h runningCell v) ts hd cs qs (withRunning (modelOf h ts hd cs qs) (runnerOf v))
   run-law v =
-      let n = d .head in
-      let a : getD (set h runningCell v) nowCell 0 ≡ getD h nowCell 0 = getD-set-other h runningCell nowCell v 0 (omega arith) in
-      let b : getD (set h runningCell v) runningCell 0 ≡ v = getD-set-same h runningCell v 0 (omega arith) in
-      let c : taskCountIn (set h runningCell v) ≡ taskCountIn h = getD-set-other h runningCell tasksCell v 0 (omega arith) in
-      let e : objectCountIn (set h runningCell v) ≡ objectCountIn h = getD-set-other h runningCell objectsCell v 0 (omega arith) in
-      record {
-        same = rw (a, b, c, e);
-        laid = record {
-          head = simp length-set (d .head);
-          count = rw c (d .count);
-          objects = rw e (d .objects);
-          tasks = d .tasks;
-          held = d .held;
-          ceilings = d .ceilings;
-          queues = d .queues;
-          unused = rw c (d .unused);
-          zeros = rw e (d .zeros);
-        };
-      }
+      let a = cell-other runningCell nowCell v (omega arith) in
+      let b = cell-same runningCell v (omega arith) in
+      let c = cell-other runningCell tasksCell v (omega arith) in
+      let e = cell-other runningCell objectsCell v (omega arith) in
+      let m = cell-other runningCell marksCell v (omega arith) in
+      record { same = rw (a, b, c, e); laid = laid-head (simp length-set (d .head)) c e (d .queues) (m ∙ d .marks) }
 
   pub now-law : (v : ℕ) → Means (set h nowCell v) ts hd cs qs (withNow (modelOf h ts hd cs qs) v)
   now-law v =
-      let n = d .head in
-      let a : getD (set h nowCell v) nowCell 0 ≡ v = getD-set-same h nowCell v 0 (omega arith) in
-      let b : getD (set h nowCell v) runningCell 0 ≡ getD h runningCell 0 = getD-set-other h nowCell runningCell v 0 (omega arith) in
-      let c : taskCountIn (set h nowCell v) ≡ taskCountIn h = getD-set-other h nowCell tasksCell v 0 (omega arith) in
-      let e : objectCountIn (set h nowCell v) ≡ objectCountIn h = getD-set-other h nowCell objectsCell v 0 (omega arith) in
-      record {
-        same = rw (a, b, c, e);
-        laid = record {
-          head = simp length-set (d .head);
-          count = rw c (d .count);
-          objects = rw e (d .objects);
-          tasks = d .tasks;
-          held = d .held;
-          ceilings = d .ceilings;
-          queues = d .queues;
-          unused = rw c (d .unused);
-          zeros = rw e (d .zeros);
-        };
-      }
+      let a = cell-same nowCell v (omega arith) in
+      let b = cell-other nowCell runningCell v (omega arith) in
+      let c = cell-other nowCell tasksCell v (omega arith) in
+      let e = cell-other nowCell objectsCell v (omega arith) in
+      let m = cell-other nowCell marksCell v (omega arith) in
+      record { same = rw (a, b, c, e); laid = laid-head (simp length-set (d .head)) c e (d .queues) (m ∙ d .marks) }
 
-  pub queue-law : {qs' : List ℕ} (p : ℕ) (l : List ℕ) → QueueBecame qs qs' p l →
-      Means h ts hd cs qs' (withQueue (modelOf h ts hd cs qs) p l)
-  queue-law p l b =
-      record {
-        same = rw (b .same);
-        laid = record {
-          head = d .head;
-          count = d .count;
-          objects = d .objects;
-          tasks = d .tasks;
-          held = d .held;
-          ceilings = d .ceilings;
-          queues = b .good;
-          unused = d .unused;
-          zeros = d .zeros;
-        };
-      }
+  pub marked : Marked h qs
+  marked = record { size = d .head; word = d .marks }
+
+  pub queue-law : {h' qs' : List ℕ} (p : ℕ) (l : List ℕ) → ReadyBecame h qs h' qs' p l →
+      Means h' ts hd cs qs' (withQueue (modelOf h ts hd cs qs) p l)
+  queue-law {h'} {qs'} p l r =
+      let v = marksOf (queuesIn qs') in
+      let a = cell-other marksCell nowCell v (omega arith) in
+      let b = cell-other marksCell runningCell v (omega arith) in
+      let c = cell-other marksCell tasksCell v (omega arith) in
+      let e = cell-other marksCell objectsCell v (omega arith) in
+      let m = cell-same marksCell v (omega arith) in
+      rw (r .head)
+      (record {
+        same = rw (a, b, c, e, r .queue .same);
+        laid = laid-head (simp length-set (d .head)) c e (r .queue .good) m;
+      })
 
   pub held-law : {hd' : List ℕ} (t : ℕ) (l : List ℕ) → t < taskCountIn h → HeldBecame hd hd' t l →
       Means h ts hd' cs qs (withTask (modelOf h ts hd cs qs) t (withHeld (taskAt (modelOf h ts hd cs qs) t) l))
@@ -187,6 +186,7 @@ module _ {h ts hd cs qs : List ℕ} (d : LaidOut h ts hd cs qs) where
           queues = d .queues;
           unused = rw all (drop-set-lt (taskCountIn h) (allRecords ts hd) t (recordOf (taskIn ts t) l) g ∙ d .unused);
           zeros = d .zeros;
+          marks = d .marks;
         };
       }
 
@@ -207,6 +207,7 @@ module _ {h ts hd cs qs : List ℕ} (d : LaidOut h ts hd cs qs) where
           queues = d .queues;
           unused = rw all (drop-set-lt (taskCountIn h) (allRecords ts hd) t (recordOf k (heldBy hd t)) g ∙ d .unused);
           zeros = d .zeros;
+          marks = d .marks;
         };
       }
 

@@ -1,35 +1,16 @@
--- Laws of the highest ready queue, the ceilings and the active priority, as loops find them.
-use mathlib.Core.Path.{_≡_, refl, _∙_, sym}
-use mathlib.Core.List.{List, []}
-use Prim.Native.Nat.{ℕ, zero, suc, _+_, _-_, _≤_, _<_, max}
-use native.Mathlib.Nat.{not-suc-le-zero}
-use native.Mathlib.Numerals.{add-one, sub-one}
+-- Laws of the ceilings and the active priority, as loops find them.
+use mathlib.Core.Path.{_≡_, _∙_, sym}
+use mathlib.Core.List.{List}
+use Prim.Native.Nat.{ℕ, _+_, _≤_, _<_, max}
+use native.Mathlib.Numerals.{add-one}
 use native.Mathlib.Omega.{arith}
-use borrow.Author.Tests.{eq-eqb, ne-eqb}
 use lib.ListN.{length, take, drop, getD, length-take, drop-of-length-le, List·getD-eq-default}
 use lib.Seq.{drop-cons, getD-take}
-use Rattle.rules.specs.Model.{ceilingOf, highestOf, active, queue}
-use Rattle.rules.specs.Moves.{highestTo, highest}
+use Rattle.rules.specs.Model.{ceilingOf, highestOf, active}
 use Rattle.memory.specs.Rows.{heldBy}
 use Rattle.memory.specs.Tasks.{taskIn}
 use Rattle.memory.specs.Memory.{taskCountIn, objectCountIn, modelOf, LaidOut}
 use Rattle.memory.proofs.MemoryLaws.{task-is}
-
--- the highest queue, in a loop from the last priority down
-pub highest-skip : (qs : List (List ℕ)) (p : ℕ) → 0 < p → length (getD qs (p - 1) []) ≤ 0 → highestTo qs p ≡ highestTo qs (p - 1)
-unfolding highestTo
-highest-skip qs zero h e = absurd (not-suc-le-zero h)
-highest-skip qs (suc n) h e = rw (sub-one, eq-eqb (length (getD qs n [])) 0 (omega (arith, rw sub-one at e)))
-
-pub highest-hit : (qs : List (List ℕ)) (p : ℕ) → 0 < p → 0 < length (getD qs (p - 1) []) → p ≡ highestTo qs p
-unfolding highestTo
-highest-hit qs zero h e = absurd (not-suc-le-zero h)
-highest-hit qs (suc n) h e = rw (ne-eqb (length (getD qs n [])) 0 (λ z. omega (arith, z, rw sub-one at e)))
-
-pub highest-none : (qs : List (List ℕ)) (p : ℕ) → p ≤ 0 → 0 ≡ highestTo qs p
-unfolding highestTo
-highest-none qs zero h = refl
-highest-none qs (suc n) h = absurd (not-suc-le-zero h)
 
 -- the highest ceiling, in a loop over a held list
 pub ceiling-none : (cs : List ℕ) (n o : ℕ) → n ≤ o → ceilingOf (take n cs) o ≡ 0

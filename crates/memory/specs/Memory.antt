@@ -1,9 +1,10 @@
--- What the five slices mean together: a Model of the rules. The head is now, the running task's number + 1 or 0, and the two counts.
+-- What the five slices mean together: a Model of the rules. The head is now, the running task's number + 1 or 0, the two counts, and the
+-- word of marks, which is no part of the meaning.
 use mathlib.Core.Path.{_≡_}
 use mathlib.Core.Bool.{true}
 use mathlib.Core.List.{List, [], _∷_}
 use Prim.Native.Nat.{ℕ, zero, suc, _-_, _≤_}
-use lib.ListN.{length, take, drop, getD, replicate}
+use lib.ListN.{length, take, drop, getD, set, replicate}
 use Rattle.rules.specs.Limits.{taskLimit, objectLimit}
 use Rattle.rules.specs.Model.{Model, TaskRecord, NextBase, none, waits, blank}
 use Rattle.rules.specs.Moved.{Moved}
@@ -15,12 +16,13 @@ use Rattle.rules.specs.declared.WaitingBase.the-variants.{Nothing, Base}
 use Rattle.rules.specs.declared.Task.{Task}
 use Rattle.memory.specs.declared.rulings.Ruling.{Ruling}
 use Rattle.memory.specs.Rulings.{answerIn, reportIn}
-use Rattle.memory.specs.Rows.{queuesIn, Queues, heldIn, Held}
+use Rattle.marks.specs.Marks.{marksOf}
+use Rattle.memory.specs.Rows.{queuesIn, Queues, QueueBecame, heldIn, Held}
 use Rattle.memory.specs.Tasks.{tasksIn, Tasks}
 
 -- the cells of the head
 abbrev pub headWidth : ℕ
-headWidth = 4
+headWidth = 5
 
 abbrev pub nowCell : ℕ
 nowCell = 0
@@ -34,11 +36,17 @@ tasksCell = 2
 abbrev pub objectsCell : ℕ
 objectsCell = 3
 
+abbrev pub marksCell : ℕ
+marksCell = 4
+
 abbrev pub taskCountIn : List ℕ → ℕ
 taskCountIn h = getD h tasksCell 0
 
 abbrev pub objectCountIn : List ℕ → ℕ
 objectCountIn h = getD h objectsCell 0
+
+abbrev pub marksIn : List ℕ → ℕ
+marksIn h = getD h marksCell 0
 
 -- who runs
 unfoldable pub runnerOf : ℕ → Runner
@@ -73,7 +81,17 @@ modelOf h ts hd cs qs =
       ready = queuesIn qs;
     }
 
--- the slices are laid out: their sizes, tidy rows, counts within the rows, and nothing behind the counts
+-- the head's word of marks is that of the ready queues
+pub record Marked (h qs : List ℕ) : Type 0 where
+  pub size : length h ≡ headWidth
+  pub word : marksIn h ≡ marksOf (queuesIn qs)
+
+-- the ready queue for p, and the word of marks with it, after a change: no other cell of the head has changed
+pub record ReadyBecame (h qs h' qs' : List ℕ) (p : ℕ) (x : List ℕ) : Type 0 where
+  pub queue : QueueBecame qs qs' p x
+  pub head : h' ≡ set h marksCell (marksOf (queuesIn qs'))
+
+-- the slices are laid out: their sizes, tidy rows, counts within the rows, nothing behind the counts, and the queues' own marks
 pub record LaidOut (h ts hd cs qs : List ℕ) : Type 0 where
   pub head : length h ≡ headWidth
   pub count : taskCountIn h ≤ taskLimit
@@ -84,6 +102,7 @@ pub record LaidOut (h ts hd cs qs : List ℕ) : Type 0 where
   pub queues : Queues qs
   pub unused : drop (taskCountIn h) (allRecords ts hd) ≡ replicate (taskLimit - taskCountIn h) blank
   pub zeros : drop (objectCountIn h) cs ≡ replicate (objectLimit - objectCountIn h) 0
+  pub marks : marksIn h ≡ marksOf (queuesIn qs)
 
 -- the slices are laid out and mean m
 pub record Means (h ts hd cs qs : List ℕ) (m : Model) : Type 0 where

@@ -1,34 +1,16 @@
-// The highest ready queue, the ceilings of objects and the active priority of a task.
+// The ceilings of objects and the active priority of a task.
 ghost use mathlib.Core.Path.{_≡_};
 ghost use Prim.Native.Nat.{_≤_, _<_};
 ghost use lib.ListN.{length, take};
-ghost use Rattle.rules.specs.Limits.{taskLimit, lastPriority};
+ghost use Rattle.rules.specs.Limits.{taskLimit};
 ghost use Rattle.rules.specs.Model.{ceilingOf, highestOf, active};
-ghost use Rattle.rules.specs.Moves.{highestTo};
-ghost use Rattle.memory.specs.Rows.{heldBy, Held, queuesIn, Queues};
+ghost use Rattle.memory.specs.Rows.{heldBy, Held};
 ghost use Rattle.memory.specs.Memory.{taskCountIn, modelOf, LaidOut};
-use crate::queues;
 use crate::sizes::HEAD_WIDTH;
 use crate::sizes::HELD_WIDTH;
 use crate::sizes::OBJECTS_CELL;
 use crate::tasks;
 use rules::Priority;
-
-// The highest priority whose queue holds a task, or 0.
-pub fn highest(queues: &[u8]) -> Priority
-    requires { ⌜ Queues (now queues) ⌝ }
-    ensures { λ r. ⌜ r .0 ≡ highestTo (queuesIn (now (queues .entry))) lastPriority ⌝ }
-{
-    let last = Priority::LAST;
-    let mut p = last.0;
-    while 0 < p {
-        if 0 < queues::size(queues, Priority(p)) {
-            return Priority(p);
-        }
-        p -= 1;
-    }
-    Priority(0)
-}
 
 // The ceiling of the object o, of which there are n; 0 for one that is not listed.
 pub fn ceiling(ceilings: &[u8], n: usize, o: u8) -> Priority

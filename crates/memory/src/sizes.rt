@@ -43,8 +43,8 @@ pub const DELAYED: u64 = 3;
 
 pub const SUSPENDED: u64 = 4;
 
-// The head: now, the running task's number + 1 or 0, the number of tasks, the number of objects.
-pub const HEAD_WIDTH: usize = 4;
+// The head: now, the running task's number + 1 or 0, the number of tasks, the number of objects, the word of marks.
+pub const HEAD_WIDTH: usize = 5;
 
 pub const NOW_CELL: usize = 0;
 
@@ -53,6 +53,8 @@ pub const RUNNING_CELL: usize = 1;
 pub const TASKS_CELL: usize = 2;
 
 pub const OBJECTS_CELL: usize = 3;
+
+pub const MARKS_CELL: usize = 4;
 
 // The cells of all task records, of all held lists and of all queues.
 pub const TASK_CELLS: usize = TASK_LIMIT * TASK_WIDTH;

@@ -114,10 +114,9 @@ module _ {h ts hd cs qs : List ℕ} (d : LaidOut h ts hd cs qs) where
     innermost-is i = rw (inside-is t n g e z) (eq-eqb _ o (sym (last-is t x g f) ∙ i))
 
   -- a clock reading, and the wakings
-  pub clock-law : {ts' qs' : List ℕ} (r : ℕ) →
-      Means (set h nowCell r) ts' hd cs qs' (wakeUp r (taskCountIn (set h nowCell r)) (modelOf (set h nowCell r) ts hd cs qs)) →
-      Means (set h nowCell r) ts' hd cs qs'
-      (takeReading (modelOf h ts hd cs qs) r)
+  pub clock-law : {h' ts' qs' : List ℕ} (r : ℕ) →
+      Means h' ts' hd cs qs' (wakeUp r (taskCountIn (set h nowCell r)) (modelOf (set h nowCell r) ts hd cs qs)) →
+      Means h' ts' hd cs qs' (takeReading (modelOf h ts hd cs qs) r)
   clock-law r y =
       let x = now-law d r in
       let count : taskCountIn (set h nowCell r) ≡ length (modelOf h ts hd cs qs .tasks) =

@@ -14,53 +14,57 @@ use Rattle.rules.specs.declared.Place.the-variants.{Running, Ready}
 use Rattle.rules.specs.declared.Runner.the-variants.{Nobody, Task as Runs}
 use Rattle.rules.proofs.Levels.{highest-top, highest-full}
 use Rattle.rules.proofs.MoveLaws.{dispatch-idle, dispatch-start, dispatch-stay, dispatch-switch}
-use Rattle.memory.specs.Rows.{HasQueue, queueIn, Queues, QueueBecame}
+use Rattle.memory.specs.Rows.{HasQueue, queueIn, Queues}
 use Rattle.memory.specs.Tasks.{taskIn, Tasks, TaskBecame, placed}
-use Rattle.memory.specs.Memory.{runningCell, taskCountIn, runnerOf, modelOf, LaidOut, Means}
+use Rattle.memory.specs.Memory.{runningCell, taskCountIn, runnerOf, modelOf, Marked, ReadyBecame, LaidOut, Means}
 use Rattle.moves.specs.Room.{Joins, Starts, Dispatches}
-use Rattle.memory.proofs.MemoryLaws.{then-means, means-by, count-is, run-law, queue-law, place-law}
+use Rattle.memory.proofs.MemoryLaws.{then-means, means-by, as-laid, count-is, run-law, marked, queue-law, place-law}
 
--- the tasks' slice is good for a task that is there
+-- a task that is there is counted in the head
+pub listed : {h ts hd cs qs : List ℕ} {m : Model} → Means h ts hd cs qs m → {t : ℕ} → t < length (m .tasks) → t < taskCountIn h
+listed x g = omega (arith, count-is (x .laid), ap (λ (m : Model). length (m .tasks)) (x .same))
+
 module _ {h ts hd cs qs : List ℕ} (d : LaidOut h ts hd cs qs) where
   pub counted : {t : ℕ} → t < length (modelOf h ts hd cs qs .tasks) → t < taskCountIn h
-  counted g = omega (arith, count-is d)
+  counted g = listed (as-laid d) g
 
+  -- the tasks' slice is good for it
   pub writable : {t : ℕ} → t < length (modelOf h ts hd cs qs .tasks) → (t < taskLimit) × Tasks ts
   writable g = (omega (arith, count-is d, d .count), d .tasks)
 
   pub open-queue : {t : ℕ} (p : ℕ) → Joins (modelOf h ts hd cs qs) t → p ≡ active (modelOf h ts hd cs qs) t →
-      HasQueue p × (Queues qs × (length (queueIn qs p) < taskLimit))
+      HasQueue p × (Queues qs × (Marked h qs × (length (queueIn qs p) < taskLimit)))
   open-queue p j e =
-      (record { low = omega (arith, j .level .low); high = omega (arith, j .level .high) }, (d .queues, rw e (j .room)))
+      (record { low = omega (arith, j .level .low); high = omega (arith, j .level .high) }, (d .queues, (marked d, rw e (j .room))))
 
-  pub ready-law : {ts' qs' : List ℕ} (t p : ℕ) → t < length (modelOf h ts hd cs qs .tasks) → p ≡ active (modelOf h ts hd cs qs) t →
-      QueueBecame qs qs' p (queueIn qs p ++ (t ∷ [])) → TaskBecame ts ts' t (placed (taskIn ts t) Ready) →
-      Means h ts' hd cs qs' (becomeReady (modelOf h ts hd cs qs) t)
+  pub ready-law : {h' ts' qs' : List ℕ} (t p : ℕ) → t < length (modelOf h ts hd cs qs .tasks) → p ≡ active (modelOf h ts hd cs qs) t →
+      ReadyBecame h qs h' qs' p (queueIn qs p ++ (t ∷ [])) → TaskBecame ts ts' t (placed (taskIn ts t) Ready) →
+      Means h' ts' hd cs qs' (becomeReady (modelOf h ts hd cs qs) t)
   unfolding becomeReady
   ready-law t p g e b r =
       let x = queue-law d p (queueIn qs p ++ (t ∷ [])) b in
-      let y = place-law (x .laid) t Ready (counted g) r in
+      let y = place-law (x .laid) t Ready (listed x g) r in
       means-by (then-means (λ (m : Model). withTask m t (withPlace (taskAt m t) Ready)) x y) (rw e)
 
-  pub preempt-law : {ts' qs' : List ℕ} (t p : ℕ) → t < length (modelOf h ts hd cs qs .tasks) →
+  pub preempt-law : {h' ts' qs' : List ℕ} (t p : ℕ) → t < length (modelOf h ts hd cs qs .tasks) →
       p ≡ active (modelOf h ts hd cs qs) t →
-      QueueBecame qs qs' p (t ∷ queueIn qs p) → TaskBecame ts ts' t (placed (taskIn ts t) Ready) →
-      Means (set h runningCell 0) ts' hd cs qs' (preempt (modelOf h ts hd cs qs) t)
+      ReadyBecame h qs h' qs' p (t ∷ queueIn qs p) → TaskBecame ts ts' t (placed (taskIn ts t) Ready) →
+      Means (set h' runningCell 0) ts' hd cs qs' (preempt (modelOf h ts hd cs qs) t)
   unfolding preempt stopped runnerOf
   preempt-law t p g e b r =
       let x = queue-law d p (t ∷ queueIn qs p) b in
-      let y = place-law (x .laid) t Ready (counted g) r in
+      let y = place-law (x .laid) t Ready (listed x g) r in
       let z = run-law (y .laid) 0 in
       let xy = then-means (λ (m : Model). withTask m t (withPlace (taskAt m t) Ready)) x y in
       means-by (then-means (λ (m : Model). withRunning m Nobody) xy z) (rw e)
 
-  pub start-law : {ts' qs' : List ℕ} (p t : ℕ) → Starts (modelOf h ts hd cs qs) p → t ≡ headOf (modelOf h ts hd cs qs) p →
-      QueueBecame qs qs' p (drop 1 (queueIn qs p)) → TaskBecame ts ts' t (placed (taskIn ts t) Running) →
-      Means (set h runningCell (t + 1)) ts' hd cs qs' (start (modelOf h ts hd cs qs) p)
+  pub start-law : {h' ts' qs' : List ℕ} (p t : ℕ) → Starts (modelOf h ts hd cs qs) p → t ≡ headOf (modelOf h ts hd cs qs) p →
+      ReadyBecame h qs h' qs' p (drop 1 (queueIn qs p)) → TaskBecame ts ts' t (placed (taskIn ts t) Running) →
+      Means (set h' runningCell (t + 1)) ts' hd cs qs' (start (modelOf h ts hd cs qs) p)
   unfolding start runnerOf
   start-law p t s e b r =
       let x = queue-law d p (drop 1 (queueIn qs p)) b in
-      let y = place-law (x .laid) t Running (counted (omega (arith, s .head))) r in
+      let y = place-law (x .laid) t Running (listed x (omega (arith, s .head))) r in
       let z = run-law (y .laid) (t + 1) in
       let xy = then-means (λ (m : Model). withTask m t (withPlace (taskAt m t) Running)) x y in
       let runs : runnerOf (t + 1) ≡ Runs t = rw add-one in

@@ -17,7 +17,7 @@ pub mod effects;
 
 // The task t becomes ready, at the tail of its queue.
 pub fn become_ready(
-    head: &[u64; HEAD_WIDTH],
+    head: &mut [u64; HEAD_WIDTH],
     tasks: &mut [u64],
     held: &[u8],
     ceilings: &[u8],
@@ -27,13 +27,13 @@ pub fn become_ready(
     requires { ⌜ LaidOut (now head) (now tasks) (now held) (now ceilings) (now queues) ⌝ }
     requires { ⌜ Joins (modelOf (now head) (now tasks) (now held) (now ceilings) (now queues)) t ⌝ }
     ensures { λ u.
-        ⌜ Means (now (head .entry)) (now (tasks .exit)) (now (held .entry)) (now (ceilings .entry)) (now (queues .exit))
+        ⌜ Means (now (head .exit)) (now (tasks .exit)) (now (held .entry)) (now (ceilings .entry)) (now (queues .exit))
         (becomeReady
         (modelOf (now (head .entry)) (now (tasks .entry)) (now (held .entry)) (now (ceilings .entry)) (now (queues .entry)))
         t) ⌝ }
 {
     let p = priorities::active(head, tasks, held, ceilings, queues, t);
-    queues::push_tail(queues, p, t as u8);
+    queues::push_tail(head, queues, p, t as u8);
     tasks::set_place(tasks, t, Place::Ready);
 }
 
@@ -55,9 +55,9 @@ pub fn preempt(
         t) ⌝ }
 {
     let p = priorities::active(head, tasks, held, ceilings, queues, t);
-    head[RUNNING_CELL] = 0;
-    queues::push_head(queues, p, t as u8);
+    queues::push_head(head, queues, p, t as u8);
     tasks::set_place(tasks, t, Place::Ready);
+    head[RUNNING_CELL] = 0;
 }
 
 // The head of the queue for p runs.
@@ -78,7 +78,7 @@ pub fn start(
         (p .0)) ⌝ }
 {
     let t = queues::head(queues, p);
-    queues::pop(queues, p);
+    queues::pop(head, queues, p);
     tasks::set_place(tasks, t as usize, Place::Running);
     head[RUNNING_CELL] = t as u64 + 1;
 }
@@ -98,7 +98,7 @@ pub fn dispatch(
         (dispatch
         (modelOf (now (head .entry)) (now (tasks .entry)) (now (held .entry)) (now (ceilings .entry)) (now (queues .entry)))) ⌝ }
 {
-    let p = priorities::highest(queues);
+    let p = queues::highest(head, queues);
     let running = head[RUNNING_CELL];
     if running == 0 {
         if p.0 == 0 {

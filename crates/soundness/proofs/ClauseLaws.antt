@@ -4,7 +4,7 @@ use mathlib.Core.Bool.{Bool, true, false, not, _&&_, _||_}
 use mathlib.Core.List.{List, []}
 use Prim.Native.Nat.{ℕ, zero, suc, _+_, _-_, _≤_, _<_}
 use native.Mathlib.Omega.{arith}
-use borrow.Author.Tests.{le-leb, lt-leb, eq-eqb, leb-true, leb-false}
+use borrow.Author.Tests.{le-leb, lt-leb, eq-eqb, ne-eqb, leb-true, leb-false}
 use lib.Dec.{eqb, leb, ltb, leb·zero}
 use lib.ListN.{length, take, getD, List·getD-eq-default}
 use Rattle.rules.specs.Limits.{taskLimit, objectLimit, lastPriority, lastReading}
@@ -18,9 +18,10 @@ use Rattle.rules.specs.Sound.{inOnePlace, rising, highestRuns, isNone, eachPrio
 use Rattle.rules.specs.declared.Place.{Place}
 use Rattle.rules.specs.declared.WaitingBase.{WaitingBase}
 use Rattle.rules.specs.Lists.{allOf, below}
+use Rattle.marks.specs.Marks.{marksOf}
 use Rattle.memory.specs.Rows.{queueWidth, queuesIn, queueIn, heldBy}
 use Rattle.memory.specs.Tasks.{taskIn}
-use Rattle.memory.specs.Memory.{nowCell, runningCell, taskCountIn, objectCountIn, runnerOf, waitingIn, modelOf, LaidOut}
+use Rattle.memory.specs.Memory.{nowCell, runningCell, taskCountIn, objectCountIn, marksIn, runnerOf, waitingIn, modelOf, LaidOut}
 use Rattle.rules.proofs.SoundLaws.{stands-is}
 use Rattle.soundness.proofs.TestedLaws.{tested}
 use Rattle.soundness.specs.Tested.{heldGoodAt, holderHere, waitsInside, taskSound, queueSound}
@@ -128,6 +129,14 @@ unfolding highestRuns highest runnerOf
 busy-top m v p a n f g =
     let e : v ≡ suc (v - 1) = omega (arith, n) in
     sym (ap (λ (x : ℕ). highestRuns m (runnerOf x)) e ∙ rw (f, g))
+
+-- the word of marks that the state holds, tested before all clauses
+module _ {h ts hd cs qs : List ℕ} (d : LaidOut h ts hd cs qs) (w : ℕ) (b : Bool) where
+  pub marks-wrong : (w ≡ marksIn h → ⊥) → false ≡ (eqb w (marksOf (queuesIn qs)) && b)
+  marks-wrong n = sym (fails-first _ b (ne-eqb w (marksOf (queuesIn qs)) (λ e. n (e ∙ sym (d .marks)))))
+
+  pub marks-right : w ≡ marksIn h → (eqb w (marksOf (queuesIn qs)) && b) ≡ b
+  marks-right e = holds-first _ b (eq-eqb w (marksOf (queuesIn qs)) (e ∙ d .marks))
 
 -- all clauses
 pub tested-all : {h ts hd cs qs : List ℕ} (d : LaidOut h ts hd cs qs) → tested (modelOf h ts hd cs qs) ≡

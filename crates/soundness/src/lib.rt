@@ -1,5 +1,5 @@
 // Internal: pub only for our own crates. The test of soundness, clause by clause as in specs/Sound.antt of crate rules, of slices
-// that are laid out.
+// that are laid out, and of the word of marks.
 ghost use mathlib.Core.Path.{_≡_};
 ghost use mathlib.Core.Bool.{not, _&&_, _||_};
 ghost use Prim.Native.Nat.{_+_, _≤_, _<_};
@@ -11,6 +11,7 @@ ghost use Rattle.rules.specs.Model.{taskAt, queue, active};
 ghost use Rattle.rules.specs.Sound.{eachPriority, waitingGood, recordGood, runs, isRunning, isReady, queued, dueGood, isNone};
 ghost use Rattle.rules.specs.Sound.{inOnePlace, rising, sizesGood, runnerGood, highestRuns, sound};
 ghost use Rattle.rules.specs.Lists.{allOf, below};
+ghost use Rattle.marks.specs.Marks.{marksOf};
 ghost use Rattle.memory.specs.Rows.{HasQueue, queuesIn, Queues, heldBy, Held};
 ghost use Rattle.memory.specs.Memory.{nowCell, runningCell, taskCountIn, objectCountIn, runnerOf, waitingIn, modelOf, LaidOut};
 ghost use Rattle.soundness.specs.Tested.{heldGoodAt, taskSound, queueSound};
@@ -21,6 +22,7 @@ use memory::sizes::HEAD_WIDTH;
 use memory::sizes::HELD_WIDTH;
 use memory::sizes::LAST_DELAY;
 use memory::sizes::LAST_READING;
+use memory::sizes::MARKS_CELL;
 use memory::sizes::NOW_CELL;
 use memory::sizes::OBJECTS_CELL;
 use memory::sizes::QUEUE_WIDTH;
@@ -242,7 +244,7 @@ fn highest_runs(
         (modelOf (now (head .entry)) (now (tasks .entry)) (now (held .entry)) (now (ceilings .entry)) (now (queues .entry)))
         (runnerOf (getD (now (head .entry)) runningCell 0)) ⌝ }
 {
-    let p = priorities::highest(queues);
+    let p = queues::highest(head, queues);
     let running = head[RUNNING_CELL];
     if running == 0 {
         return p.0 == 0;
@@ -478,19 +480,26 @@ fn queues_good(
     true
 }
 
+// The word of marks that the state holds is that of its queues, and all clauses hold.
 pub fn sound(
     head: &[u64; HEAD_WIDTH],
     tasks: &[u64],
     held: &[u8],
     ceilings: &[u8],
     queues: &[u8],
+    marks: u32,
 ) -> bool
     requires { ⌜ LaidOut (now head) (now tasks) (now held) (now ceilings) (now queues) ⌝ }
     ensures { λ r.
         ⌜ r ≡
+        (eqb marks (marksOf (queuesIn (now (queues .entry)))) &&
         sound
-        (modelOf (now (head .entry)) (now (tasks .entry)) (now (held .entry)) (now (ceilings .entry)) (now (queues .entry))) ⌝ }
+        (modelOf (now (head .entry)) (now (tasks .entry)) (now (held .entry)) (now (ceilings .entry)) (now (queues .entry)))) ⌝ }
 {
+    let word = head[MARKS_CELL];
+    if marks as u64 != word {
+        return false;
+    }
     if !head_good(head, tasks, held, ceilings, queues) {
         return false;
     }

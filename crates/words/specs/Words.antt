@@ -10,9 +10,12 @@ byteAt s i = getD s i 0
 pub record Bytes (s : List ℕ) : Type 0 where
   pub below : (i : ℕ) → byteAt s i < 256
 
--- "Little-endian": a number of two bytes, and one of eight
+-- "Little-endian": a number of two bytes, one of four, and one of eight
 unfoldable pub wordAt : List ℕ → ℕ → ℕ
 wordAt s i = byteAt s i + 256 * byteAt s (i + 1)
+
+unfoldable pub longAt : List ℕ → ℕ → ℕ
+longAt s i = wordAt s i + 65536 * wordAt s (i + 2)
 
 unfoldable pub numberAt : List ℕ → ℕ → ℕ
 numberAt s i = wordAt s i + 65536 * (wordAt s (i + 2) + 65536 * (wordAt s (i + 4) + 65536 * wordAt s (i + 6)))

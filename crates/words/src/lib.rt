@@ -3,7 +3,7 @@ ghost use mathlib.Core.Path.{_≡_};
 ghost use Prim.Native.Nat.{_+_, _≤_, _<_};
 ghost use lib.ListN.{length};
 ghost use lib.Seq.{sets};
-ghost use Rattle.words.specs.Words.{byteAt, wordAt, numberAt};
+ghost use Rattle.words.specs.Words.{byteAt, wordAt, longAt, numberAt};
 
 // The byte at i, or 0 past the end.
 pub fn byte_at(s: &[u8], i: usize) -> u8
@@ -41,6 +41,19 @@ pub fn word_at(s: &[u8], i: usize) -> u16
         return wide(s[i]);
     }
     word_in(s, i)
+}
+
+// The four bytes at i; a byte past the end is 0.
+pub fn long_at(s: &[u8], i: usize) -> u32
+    ensures { λ r. ⌜ r ≡ longAt (now (s .entry)) i ⌝ }
+{
+    if s.len() <= i {
+        return 0;
+    }
+    let rest = &s[i..];
+    let low = word_at(rest, 0) as u32;
+    let high = word_at(rest, 2) as u32;
+    low + 65536 * high
 }
 
 // The eight bytes at i; a byte past the end is 0.

@@ -15,14 +15,14 @@ use Rattle.fresh.proofs.join_all.Statement.{statement}
 use Rattle.fresh.proofs.join_all.Tie as tie
 
 abbrev Inv-loop : tie.InvT-loop
-Inv-loop head tasks₀ held ceilings queues₀ n t₀ tasks queues t =
+Inv-loop head₀ tasks₀ held ceilings queues₀ n t₀ head tasks queues t =
     (t ≤ n) ×
-    Means head tasks held ceilings queues (joinFrom 0 t (modelOf head tasks₀ held ceilings queues₀)) ×
+    Means head tasks held ceilings queues (joinFrom 0 t (modelOf head₀ tasks₀ held ceilings queues₀)) ×
     (length tasks ≡ length tasks₀) ×
     (length queues ≡ length queues₀)
 
 abbrev μ-loop : tie.MeasureT-loop
-μ-loop head tasks₀ held ceilings queues₀ n t₀ tasks queues t = n - t
+μ-loop head₀ tasks₀ held ceilings queues₀ n t₀ head tasks queues t = n - t
 
 element-copy-out-n : tie.Need-element-copy-out-n Inv-loop μ-loop
 element-copy-out-n c = search needs
@@ -33,7 +33,7 @@ loop-holds c = (search needs, as-laid (c .before .before .before .before .before
 
 become-ready-requires : tie.Need-become-ready-requires Inv-loop μ-loop
 become-ready-requires c κs =
-    let at-loop = c .before .before .before in
+    let at-loop = c .before .before .before .before in
     let entry = at-loop .before .before .before .before .before .before in
     let l = at-loop .loop in
     let next = entry .pre .1 .next (l .t) (omega (arith, count-is (entry .pre .0))) in
@@ -48,7 +48,7 @@ loop-less c = search needs
 loop-again : tie.Need-loop-again Inv-loop μ-loop
 loop-again c =
     let at-become-ready = c .before .before .before .before in
-    let at-loop = at-become-ready .before .before .before .before in
+    let at-loop = at-become-ready .before .before .before .before .before in
     let l = at-loop .loop in
     let x = then-means (λ (m : Model). becomeReady m (l .t)) (l .inv .1) (at-become-ready .become-ready .ensures) in
     let e : 0 + l .t ≡ l .t = omega arith in

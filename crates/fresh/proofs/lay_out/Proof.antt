@@ -44,6 +44,9 @@ element-write-head-3 c = search needs
 element-write-head-4 : tie.Need-element-write-head-4
 element-write-head-4 c = search needs
 
+element-write-head-5 : tie.Need-element-write-head-5
+element-write-head-5 c = search needs
+
 same-length : tie.Need-same-length
 same-length c = search needs
 
@@ -88,6 +91,7 @@ lay-out-spec =
     element-write-head-2
     element-write-head-3
     element-write-head-4
+    element-write-head-5
     same-length
     same-length-2
     same-length-3

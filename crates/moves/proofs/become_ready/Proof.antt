@@ -8,23 +8,23 @@ use Rattle.moves.proofs.become_ready.Tie as tie
 
 active-requires : tie.Need-active-requires
 active-requires c κs =
-    let entry = c .before .before .before .before .before .before in
+    let entry = c .before .before .before .before .before .before .before in
     (entry .pre .0, counted (entry .pre .0) (entry .pre .1 .there))
 
 cast-push-tail : tie.Need-cast-push-tail
 cast-push-tail c =
-    let entry = c .before .before .before .before .before .before .before .before in
+    let entry = c .before .before .before .before .before .before .before .before .before .before in
     omega (arith, writable (entry .pre .0) (entry .pre .1 .there) .0)
 
 push-tail-requires : tie.Need-push-tail-requires
 push-tail-requires c κs =
-    let at-active = c .before in
-    let entry = at-active .before .before .before .before .before .before .before in
+    let at-active = c .before .before in
+    let entry = at-active .before .before .before .before .before .before .before .before in
     open-queue (entry .pre .0) _ (entry .pre .1) (at-active .active .ensures)
 
 set-place-requires : tie.Need-set-place-requires
 set-place-requires c κs =
-    let entry = c .before .before .before .before .before .before .before .before .before .before .before .before in
+    let entry = c .before .before .before .before .before .before .before .before .before .before .before .before .before .before in
     writable (entry .pre .0) (entry .pre .1 .there)
 
 same-length : tie.Need-same-length
@@ -37,8 +37,8 @@ returns : tie.Need-returns
 returns c =
     let at-set-place = c .before .before in
     let at-push-tail = at-set-place .before .before .before .before in
-    let at-active = at-push-tail .before .before in
-    let entry = at-active .before .before .before .before .before .before .before in
+    let at-active = at-push-tail .before .before .before in
+    let entry = at-active .before .before .before .before .before .before .before .before in
     ready-law (entry .pre .0) _ _ (entry .pre .1 .there) (at-active .active .ensures) (at-push-tail .push-tail .ensures)
     (at-set-place .set-place .ensures)
 

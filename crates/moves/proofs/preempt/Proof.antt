@@ -11,24 +11,24 @@ active-requires c κs =
     let entry = c .before .before .before .before .before .before .before in
     (entry .pre .0, counted (entry .pre .0) (entry .pre .1 .there))
 
-element-write-head : tie.Need-element-write-head
-element-write-head c = search needs
-
 cast-push-head : tie.Need-cast-push-head
 cast-push-head c =
-    let entry = c .before .before .before .before .before .before .before .before .before in
+    let entry = c .before .before .before .before .before .before .before .before .before .before in
     omega (arith, writable (entry .pre .0) (entry .pre .1 .there) .0)
 
 push-head-requires : tie.Need-push-head-requires
 push-head-requires c κs =
-    let at-active = c .before in
+    let at-active = c .before .before in
     let entry = at-active .before .before .before .before .before .before .before .before in
     open-queue (entry .pre .0) _ (entry .pre .1) (at-active .active .ensures)
 
 set-place-requires : tie.Need-set-place-requires
 set-place-requires c κs =
-    let entry = c .before .before .before .before .before .before .before .before .before .before .before .before .before in
+    let entry = c .before .before .before .before .before .before .before .before .before .before .before .before .before .before in
     writable (entry .pre .0) (entry .pre .1 .there)
+
+element-write-head : tie.Need-element-write-head
+element-write-head c = search needs
 
 same-length : tie.Need-same-length
 same-length c = search needs
@@ -40,7 +40,7 @@ returns : tie.Need-returns
 returns c =
     let at-set-place = c .before .before in
     let at-push-head = at-set-place .before .before .before .before in
-    let at-active = at-push-head .before .before in
+    let at-active = at-push-head .before .before .before in
     let entry = at-active .before .before .before .before .before .before .before .before in
     preempt-law (entry .pre .0) _ _ (entry .pre .1 .there) (at-active .active .ensures) (at-push-head .push-head .ensures)
     (at-set-place .set-place .ensures)
@@ -50,10 +50,10 @@ preempt-spec =
     tie.close
     (tie.spec
     active-requires
-    element-write-head
     cast-push-head
     push-head-requires
     set-place-requires
+    element-write-head
     same-length
     same-length-2
     returns)

@@ -3,81 +3,95 @@ use mathlib.Core.Path.{_∙_, sym}
 use Prim.Native.Nat.{_-_}
 use borrow.Author.Needs.{needs}
 use borrow.Author.Tests.{not-true, not-false}
-use Rattle.soundness.proofs.ClauseLaws.{tested-all}
+use Rattle.soundness.proofs.ClauseLaws.{marks-wrong, marks-right, tested-all}
 use Rattle.memory.proofs.TestLaws.{fails-first, holds-first}
 use Rattle.soundness.proofs.TestedLaws.{tested-is}
 use Rattle.soundness.proofs.sound.Statement.{statement}
 use Rattle.soundness.proofs.sound.Tie as tie
 
-head-good-requires : tie.Need-head-good-requires
-head-good-requires c κs = search needs
+element-copy-out-word : tie.Need-element-copy-out-word
+element-copy-out-word c = search needs
 
 returns : tie.Need-returns
 returns c =
+    let entry = c .before .before .before .before .before .before in
+    marks-wrong (entry .pre) _ _ (c .if1 .taken)
+
+head-good-requires : tie.Need-head-good-requires
+head-good-requires c κs = search needs
+
+returns-2 : tie.Need-returns-2
+returns-2 c =
     let at-head-good = c .before in
-    let entry = at-head-good .before .before .before .before .before in
-    let all = sym (tested-is _) ∙ tested-all (entry .pre) in
-    let a = sym (at-head-good .head-good .ensures) ∙ not-true _ (c .if1 .taken) in
+    let at-if1 = at-head-good .before in
+    let entry = at-if1 .before .before .before .before .before .before in
+    let all = marks-right (entry .pre) _ _ (at-if1 .if1 .left) ∙ (sym (tested-is _) ∙ tested-all (entry .pre)) in
+    let a = sym (at-head-good .head-good .ensures) ∙ not-true _ (c .if2 .taken) in
     sym (all ∙ fails-first _ _ (fails-first _ _ (fails-first _ _ a)))
 
 highest-runs-requires : tie.Need-highest-runs-requires
 highest-runs-requires c κs = search needs
 
-returns-2 : tie.Need-returns-2
-returns-2 c =
+returns-3 : tie.Need-returns-3
+returns-3 c =
     let at-highest-runs = c .before in
-    let at-if1 = at-highest-runs .before in
-    let at-head-good = at-if1 .before in
-    let entry = at-head-good .before .before .before .before .before in
-    let all = sym (tested-is _) ∙ tested-all (entry .pre) in
-    let a = sym (at-head-good .head-good .ensures) ∙ not-false _ (at-if1 .if1 .left) in
-    let b = holds-first _ _ a ∙ (sym (at-highest-runs .highest-runs .ensures) ∙ not-true _ (c .if2 .taken)) in
+    let at-if2 = at-highest-runs .before in
+    let at-head-good = at-if2 .before in
+    let at-if1 = at-head-good .before in
+    let entry = at-if1 .before .before .before .before .before .before in
+    let all = marks-right (entry .pre) _ _ (at-if1 .if1 .left) ∙ (sym (tested-is _) ∙ tested-all (entry .pre)) in
+    let a = sym (at-head-good .head-good .ensures) ∙ not-false _ (at-if2 .if2 .left) in
+    let b = holds-first _ _ a ∙ (sym (at-highest-runs .highest-runs .ensures) ∙ not-true _ (c .if3 .taken)) in
     sym (all ∙ fails-first _ _ (fails-first _ _ b))
 
 tasks-good-requires : tie.Need-tasks-good-requires
 tasks-good-requires c κs = search needs
 
-returns-3 : tie.Need-returns-3
-returns-3 c =
+returns-4 : tie.Need-returns-4
+returns-4 c =
     let at-tasks-good = c .before in
-    let at-if2 = at-tasks-good .before in
-    let at-highest-runs = at-if2 .before in
-    let at-if1 = at-highest-runs .before in
-    let at-head-good = at-if1 .before in
-    let entry = at-head-good .before .before .before .before .before in
-    let all = sym (tested-is _) ∙ tested-all (entry .pre) in
-    let a = sym (at-head-good .head-good .ensures) ∙ not-false _ (at-if1 .if1 .left) in
-    let b = holds-first _ _ a ∙ (sym (at-highest-runs .highest-runs .ensures) ∙ not-false _ (at-if2 .if2 .left)) in
-    let f = holds-first _ _ b ∙ (sym (at-tasks-good .tasks-good .ensures) ∙ not-true _ (c .if3 .taken)) in
+    let at-if3 = at-tasks-good .before in
+    let at-highest-runs = at-if3 .before in
+    let at-if2 = at-highest-runs .before in
+    let at-head-good = at-if2 .before in
+    let at-if1 = at-head-good .before in
+    let entry = at-if1 .before .before .before .before .before .before in
+    let all = marks-right (entry .pre) _ _ (at-if1 .if1 .left) ∙ (sym (tested-is _) ∙ tested-all (entry .pre)) in
+    let a = sym (at-head-good .head-good .ensures) ∙ not-false _ (at-if2 .if2 .left) in
+    let b = holds-first _ _ a ∙ (sym (at-highest-runs .highest-runs .ensures) ∙ not-false _ (at-if3 .if3 .left)) in
+    let f = holds-first _ _ b ∙ (sym (at-tasks-good .tasks-good .ensures) ∙ not-true _ (c .if4 .taken)) in
     sym (all ∙ fails-first _ _ f)
 
 queues-good-requires : tie.Need-queues-good-requires
 queues-good-requires c κs = search needs
 
-returns-4 : tie.Need-returns-4
-returns-4 c =
-    let at-if3 = c .before in
-    let at-tasks-good = at-if3 .before in
-    let at-if2 = at-tasks-good .before in
-    let at-highest-runs = at-if2 .before in
-    let at-if1 = at-highest-runs .before in
-    let at-head-good = at-if1 .before in
-    let entry = at-head-good .before .before .before .before .before in
-    let all = sym (tested-is _) ∙ tested-all (entry .pre) in
-    let a = sym (at-head-good .head-good .ensures) ∙ not-false _ (at-if1 .if1 .left) in
-    let b = holds-first _ _ a ∙ (sym (at-highest-runs .highest-runs .ensures) ∙ not-false _ (at-if2 .if2 .left)) in
-    let f = holds-first _ _ b ∙ (sym (at-tasks-good .tasks-good .ensures) ∙ not-false _ (at-if3 .if3 .left)) in
+returns-5 : tie.Need-returns-5
+returns-5 c =
+    let at-if4 = c .before in
+    let at-tasks-good = at-if4 .before in
+    let at-if3 = at-tasks-good .before in
+    let at-highest-runs = at-if3 .before in
+    let at-if2 = at-highest-runs .before in
+    let at-head-good = at-if2 .before in
+    let at-if1 = at-head-good .before in
+    let entry = at-if1 .before .before .before .before .before .before in
+    let all = marks-right (entry .pre) _ _ (at-if1 .if1 .left) ∙ (sym (tested-is _) ∙ tested-all (entry .pre)) in
+    let a = sym (at-head-good .head-good .ensures) ∙ not-false _ (at-if2 .if2 .left) in
+    let b = holds-first _ _ a ∙ (sym (at-highest-runs .highest-runs .ensures) ∙ not-false _ (at-if3 .if3 .left)) in
+    let f = holds-first _ _ b ∙ (sym (at-tasks-good .tasks-good .ensures) ∙ not-false _ (at-if4 .if4 .left)) in
     c .queues-good .ensures ∙ sym (all ∙ holds-first _ _ f)
 
 pub sound-spec : {M : Type 1} → statement M
 sound-spec =
     tie.close
     (tie.spec
-    head-good-requires
+    element-copy-out-word
     returns
-    highest-runs-requires
+    head-good-requires
     returns-2
-    tasks-good-requires
+    highest-runs-requires
     returns-3
+    tasks-good-requires
+    returns-4
     queues-good-requires
-    returns-4)
+    returns-5)

@@ -1,6 +1,8 @@
 -- `dispatch::store::store` meets its contract.
 use mathlib.Core.Path.{refl}
 use borrow.Author.Needs.{needs}
+use Rattle.memory.proofs.MemoryLaws.{marked}
+use Rattle.memory.proofs.ReadyLaws.{word-fits}
 use Rattle.dispatch.proofs.EncodeLaws.{encode-back}
 use Rattle.dispatch.proofs.RunnerLaws.{code-fits}
 use Rattle.dispatch.proofs.store.store.Statement.{statement}
@@ -36,11 +38,17 @@ array-read-t24 c = search needs
 cast-t25 : tie.Need-cast-t25
 cast-t25 c = search needs
 
+array-read-t28 : tie.Need-array-read-t28
+array-read-t28 c = search needs
+
+cast-t29 : tie.Need-cast-t29
+cast-t29 c = record { fits = word-fits (marked (c .before .before .before .before .pre .laid)) }
+
 returns : tie.Need-returns
 returns c =
     let a = c .before .before .before .before in
     let running = c .before .before .before .runner .ensures in
-    encode-back (a .pre .laid) _ _ _ refl refl refl _ running _ (c .before .stored-tasks .ensures) _ (c .stored-ceilings .ensures)
+    encode-back (a .pre .laid) _ _ _ _ refl refl refl refl _ running _ (c .before .stored-tasks .ensures) _ (c .stored-ceilings .ensures)
 
 pub store-spec : {M : Type 1} → statement M
 store-spec =
@@ -56,4 +64,6 @@ store-spec =
     cast-t21
     array-read-t24
     cast-t25
+    array-read-t28
+    cast-t29
     returns)

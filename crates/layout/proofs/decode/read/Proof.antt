@@ -37,6 +37,9 @@ byte-at-requires-2 c κs = search needs
 byte-at-requires-3 : tie.Need-byte-at-requires-3
 byte-at-requires-3 c κs = search needs
 
+long-at-requires : tie.Need-long-at-requires
+long-at-requires c κs = search needs
+
 returns : tie.Need-returns
 unfolding stateOfBytes
 returns c = cc
@@ -56,4 +59,5 @@ read-spec =
     number-at-requires
     byte-at-requires-2
     byte-at-requires-3
+    long-at-requires
     returns)

@@ -1,5 +1,6 @@
 -- `layout::encode::put_head` meets its contract.
 use native.Mathlib.Omega.{arith}
+use Rattle.layout.specs.Encode.{lowBytes}
 use Rattle.layout.proofs.PutLaws.{head-put}
 use borrow.Author.Needs.{needs}
 use Rattle.layout.proofs.encode.put_head.Statement.{statement}
@@ -11,6 +12,18 @@ put-number-requires c κs = search needs
 runner-code-requires : tie.Need-runner-code-requires
 runner-code-requires c κs = search needs
 
+cast-t14 : tie.Need-cast-t14
+cast-t14 c = search needs
+
+cast-t16 : tie.Need-cast-t16
+cast-t16 c = search needs
+
+cast-t18 : tie.Need-cast-t18
+cast-t18 c = search needs
+
+cast-t20 : tie.Need-cast-t20
+cast-t20 c = search needs
+
 slice-aggregate-put : tie.Need-slice-aggregate-put
 slice-aggregate-put c = search needs
 
@@ -21,6 +34,7 @@ same-length : tie.Need-same-length
 same-length c = search needs
 
 returns : tie.Need-returns
+unfolding lowBytes
 returns c =
     let p = c .before .before in
     let b2 = p .before .before .before in
@@ -34,6 +48,10 @@ put-head-spec =
     (tie.spec
     put-number-requires
     runner-code-requires
+    cast-t14
+    cast-t16
+    cast-t18
+    cast-t20
     slice-aggregate-put
     put-requires
     same-length

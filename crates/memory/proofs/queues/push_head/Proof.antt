@@ -3,6 +3,7 @@ use mathlib.Core.List.{List, _∷_}
 use Prim.Native.Nat.{ℕ}
 use native.Mathlib.Omega.{arith}
 use borrow.Author.Needs.{needs}
+use Rattle.memory.proofs.ReadyLaws.{ready-became}
 use Rattle.memory.proofs.GridLaws.{queue-open, queue-became}
 use Rattle.memory.proofs.queues.push_head.Statement.{statement}
 use Rattle.memory.proofs.queues.push_head.Tie as tie
@@ -31,13 +32,24 @@ part-lead-end c = search needs
 lead-requires : tie.Need-lead-requires
 lead-requires c κs = queue-open (c .before .before .before .pre .0) (c .before .before .before .pre .1 .0) (omega arith)
 
+remark-requires : tie.Need-remark-requires
+remark-requires c κs =
+    let at-lead = c .before .before .before .before in
+    let entry = at-lead .before .before .before .before in
+    let became =
+    queue-became (entry .pre .0) (entry .pre .1 .0) _ (λ (q : List ℕ). entry .args .t ∷ q) (at-lead .lead .ensures) (omega arith) in
+    (entry .pre .0, (became .good, entry .pre .1 .1 .0 .size))
+
 same-length : tie.Need-same-length
 same-length c = search needs
 
 returns : tie.Need-returns
 returns c =
-    let a = c .before .before .before .before .before .before in
-    queue-became (a .pre .0) (a .pre .1 .0) _ (λ (q : List ℕ). a .args .t ∷ q) (c .before .before .lead .ensures) (omega arith)
+    let at-lead = c .before .before .before .before .before in
+    let entry = at-lead .before .before .before .before in
+    let became =
+    queue-became (entry .pre .0) (entry .pre .1 .0) _ (λ (q : List ℕ). entry .args .t ∷ q) (at-lead .lead .ensures) (omega arith) in
+    ready-became _ (entry .pre .0) (entry .pre .1 .1 .0) became (c .remark .ensures)
 
 pub push-head-spec : {M : Type 1} → statement M
 push-head-spec =
@@ -51,5 +63,6 @@ push-head-spec =
     part-lead-start
     part-lead-end
     lead-requires
+    remark-requires
     same-length
     returns)

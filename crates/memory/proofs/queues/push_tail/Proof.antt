@@ -4,6 +4,7 @@ use Prim.Native.Nat.{ℕ}
 use native.Mathlib.Omega.{arith}
 use borrow.Author.Needs.{needs}
 use lib.ListN.{length-append}
+use Rattle.memory.proofs.ReadyLaws.{ready-became}
 use Rattle.memory.proofs.GridLaws.{queue-open, queue-became}
 use Rattle.memory.proofs.queues.push_tail.Statement.{statement}
 use Rattle.memory.proofs.queues.push_tail.Tie as tie
@@ -32,14 +33,26 @@ part-join-end c = search needs
 join-requires : tie.Need-join-requires
 join-requires c κs = queue-open (c .before .before .before .pre .0) (c .before .before .before .pre .1 .0) (omega arith)
 
+remark-requires : tie.Need-remark-requires
+remark-requires c κs =
+    let at-join = c .before .before .before .before in
+    let entry = at-join .before .before .before .before in
+    let became =
+    queue-became (entry .pre .0) (entry .pre .1 .0) _ (λ (q : List ℕ). q ++ (entry .args .t ∷ [])) (at-join .join .ensures)
+    (simp length-append (omega arith)) in
+    (entry .pre .0, (became .good, entry .pre .1 .1 .0 .size))
+
 same-length : tie.Need-same-length
 same-length c = search needs
 
 returns : tie.Need-returns
 returns c =
-    let a = c .before .before .before .before .before .before in
-    queue-became (a .pre .0) (a .pre .1 .0) _ (λ (q : List ℕ). q ++ (a .args .t ∷ [])) (c .before .before .join .ensures)
-    (simp length-append (omega arith))
+    let at-join = c .before .before .before .before .before in
+    let entry = at-join .before .before .before .before in
+    let became =
+    queue-became (entry .pre .0) (entry .pre .1 .0) _ (λ (q : List ℕ). q ++ (entry .args .t ∷ [])) (at-join .join .ensures)
+    (simp length-append (omega arith)) in
+    ready-became _ (entry .pre .0) (entry .pre .1 .1 .0) became (c .remark .ensures)
 
 pub push-tail-spec : {M : Type 1} → statement M
 push-tail-spec =
@@ -53,5 +66,6 @@ push-tail-spec =
     part-join-start
     part-join-end
     join-requires
+    remark-requires
     same-length
     returns)

@@ -21,7 +21,7 @@ same-length-2 c = search needs
 returns : tie.Need-returns
 returns c =
     let at-become-ready = c .before .before .before .before in
-    let at-if1 = at-become-ready .before .before .before in
+    let at-if1 = at-become-ready .before .before .before .before in
     means-by (at-become-ready .become-ready .ensures) (sym (put-tail _ _ _ (eq-eqb _ 0 (at-if1 .if1 .taken))))
 
 element-copy-out-due : tie.Need-element-copy-out-due

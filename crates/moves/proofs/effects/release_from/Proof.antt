@@ -20,7 +20,7 @@ is-suspended-requires c κs = search needs
 
 become-ready-requires : tie.Need-become-ready-requires
 become-ready-requires c κs =
-    let at-if1 = c .before .before in
+    let at-if1 = c .before .before .before in
     let at-is-suspended = at-if1 .before in
     let at-place = at-is-suspended .before in
     let entry = at-place .before .before .before .before .before .before in
@@ -39,7 +39,7 @@ same-length-2 c = search needs
 returns : tie.Need-returns
 returns c =
     let at-become-ready = c .before .before .before .before in
-    let at-if1 = at-become-ready .before .before .before in
+    let at-if1 = at-become-ready .before .before .before .before in
     let at-is-suspended = at-if1 .before in
     let at-place = at-is-suspended .before in
     let entry = at-place .before .before .before .before .before .before in

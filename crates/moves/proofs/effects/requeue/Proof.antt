@@ -7,7 +7,7 @@ use Rattle.rules.specs.Model.{Model}
 use Rattle.rules.specs.Moves.{becomeReady}
 use Rattle.moves.proofs.EffectLaws.{stop-law, requeue-running, requeue-ready, requeue-delayed, requeue-suspended}
 use Rattle.moves.proofs.EffectLaws.{requeue-ended}
-use Rattle.memory.proofs.MemoryLaws.{as-laid, means-by, then-means, queue-law}
+use Rattle.memory.proofs.MemoryLaws.{as-laid, means-by, then-means, marked, queue-law}
 use Rattle.moves.proofs.MoveLaws.{writable}
 use Rattle.moves.proofs.effects.requeue.Statement.{statement}
 use Rattle.moves.proofs.effects.requeue.Tie as tie
@@ -30,19 +30,19 @@ enum-told-2 c = search needs
 
 cast-remove : tie.Need-cast-remove
 cast-remove c =
-    let entry = c .before .before .before .before .before .before .before in
+    let entry = c .before .before .before .before .before .before .before .before in
     omega (arith, writable (entry .pre .0) (entry .pre .1 .there) .0)
 
 remove-requires : tie.Need-remove-requires
 remove-requires c κs =
-    let at-enum-told2 = c .before in
+    let at-enum-told2 = c .before .before in
     let entry = at-enum-told2 .before .before .before .before .before .before in
-    (entry .pre .1 .ready (at-enum-told2 .enum-told2 .given .1), entry .pre .0 .queues)
+    (entry .pre .1 .ready (at-enum-told2 .enum-told2 .given .1), (entry .pre .0 .queues, marked (entry .pre .0)))
 
 become-ready-requires-2 : tie.Need-become-ready-requires-2
 become-ready-requires-2 c κs =
     let at-remove = c .before .before .before .before .before in
-    let at-enum-told2 = at-remove .before .before in
+    let at-enum-told2 = at-remove .before .before .before in
     let entry = at-enum-told2 .before .before .before .before .before .before in
     let x = queue-law (entry .pre .0) _ _ (at-remove .remove .ensures) in
     (x .laid, rw (x .same) (entry .pre .1 .again (at-enum-told2 .enum-told2 .given .1)))
@@ -81,7 +81,7 @@ returns-2 : tie.Need-returns-2
 returns-2 c =
     let at-become-ready2 = c .before .before .before .before in
     let at-remove = at-become-ready2 .before .before .before .before .before .before in
-    let at-enum-told2 = at-remove .before .before in
+    let at-enum-told2 = at-remove .before .before .before in
     let entry = at-enum-told2 .before .before .before .before .before .before in
     let t = entry .args .t in
     let x = queue-law (entry .pre .0) _ _ (at-remove .remove .ensures) in
