@@ -64,11 +64,13 @@ enum dispatch_report {
 
 /* A state as bytes. Any bytes are a state, though few are sound. */
 #define DISPATCH_STATE_SIZE 2144
-/* Where its parts begin: now has 8 bytes, the runner and the two counts one each, a ceiling one. */
+/* Where its parts begin: now has 8 bytes, the runner and the two counts one each, the marks 4, a ceiling one. The marks are one
+ * number with a bit for each ready queue that is not empty, bit p - 1 for priority p; a state with any other number is not sound. */
 #define DISPATCH_AT_NOW 0
 #define DISPATCH_AT_RUNNING 8
 #define DISPATCH_AT_TASK_COUNT 9
 #define DISPATCH_AT_OBJECT_COUNT 10
+#define DISPATCH_AT_MARKS 12
 #define DISPATCH_AT_TASKS 16
 #define DISPATCH_AT_CEILINGS 528
 #define DISPATCH_AT_HELD 544
@@ -140,7 +142,8 @@ enum dispatch_event_kind {
 /* Refused by the compiler where a size is not what the library was built with. */
 typedef char dispatch_size_t_has_64_bits[sizeof(size_t) == 8 && sizeof(void *) == 8 ? 1 : -1];
 typedef char dispatch_state_adds_up
-    [DISPATCH_AT_CEILINGS == DISPATCH_AT_TASKS + DISPATCH_TASK_LIMIT * DISPATCH_TASK_SIZE
+    [DISPATCH_AT_TASKS == DISPATCH_AT_MARKS + DISPATCH_LAST_PRIORITY / 8
+             && DISPATCH_AT_CEILINGS == DISPATCH_AT_TASKS + DISPATCH_TASK_LIMIT * DISPATCH_TASK_SIZE
              && DISPATCH_AT_HELD == DISPATCH_AT_CEILINGS + DISPATCH_OBJECT_LIMIT
              && DISPATCH_AT_READY == DISPATCH_AT_HELD + DISPATCH_TASK_LIMIT * DISPATCH_HELD_SIZE
              && DISPATCH_STATE_SIZE == DISPATCH_AT_READY + DISPATCH_LAST_PRIORITY * DISPATCH_READY_SIZE

@@ -10,6 +10,7 @@ pub const ROW_SIZE: usize = 3;
 const NOBODY: u8 = 255;
 const TASK_COUNT: usize = 9;
 const OBJECT_COUNT: usize = 10;
+const MARKS: usize = 12;
 const TASKS: usize = 16;
 const TASK_ROW: usize = 16;
 const CEILINGS: usize = 528;
@@ -49,6 +50,7 @@ pub fn bytes_of(state: &State) -> Vec<u8> {
     bytes[8] = state.running.map_or(NOBODY, |t| byte(t as u64));
     bytes[TASK_COUNT] = state.tasks.len() as u8;
     bytes[OBJECT_COUNT] = state.ceilings.len() as u8;
+    put_marks(&mut bytes, state.marks);
     for t in 0..MOST_TASKS {
         let row = &mut bytes[TASKS + TASK_ROW * t..][..TASK_ROW];
         match state.tasks.get(t) {
@@ -72,6 +74,25 @@ pub fn bytes_of(state: &State) -> Vec<u8> {
         );
     }
     bytes
+}
+
+/// Writes this word of marks into a state's bytes.
+pub fn put_marks(bytes: &mut [u8], marks: u32) {
+    bytes[MARKS..TASKS].copy_from_slice(&marks.to_le_bytes());
+}
+
+/// The word of marks in a state's bytes, right or wrong.
+pub fn marks_in(bytes: &[u8]) -> u32 {
+    u32::from_le_bytes(bytes[MARKS..TASKS].try_into().unwrap())
+}
+
+/// Sets the marks right after the bytes of a ready queue were changed, so that the marks are no damage too.
+pub fn mend_marks_in(bytes: &mut [u8]) {
+    let lengths = bytes[READY..STATE_SIZE].iter().step_by(READY_ROW);
+    let marks = lengths
+        .rev()
+        .fold(0, |word, length| word << 1 | (*length > 0) as u32);
+    put_marks(bytes, marks);
 }
 
 fn put_task(row: &mut [u8], task: &Task) {
@@ -142,6 +163,7 @@ pub fn state_of(bytes: &[u8]) -> State {
             .map(|o| bytes[CEILINGS + o.min(MOST_OBJECTS - 1)] as u64)
             .collect(),
         queues,
+        marks: marks_in(bytes),
         running: Some(bytes[8] as usize).filter(|t| *t != NOBODY as usize),
     }
 }

@@ -57,6 +57,12 @@ impl<K: Copy + Ord + Debug> Histogram<K> {
         self.counts.get(&key).copied().unwrap_or(0)
     }
 
+    /// How often the one of these came that came the least.
+    pub fn least(&self, keys: &[K]) -> usize {
+        let times = keys.iter().map(|key| self.of(*key));
+        times.min().unwrap_or(0)
+    }
+
     pub fn print(&self, title: &str) {
         println!("{title}");
         for (key, times) in &self.counts {

@@ -1,10 +1,15 @@
 //! Made states: sound ones at the end of made histories, and ones with a planted fault of every kind.
 
+use std::mem::discriminant;
+
 use second::limits::{LARGEST_READING, LONGEST_ADVANCE, LONGEST_DELAY};
 use second::machine::{apply_to, Event};
-use second::state::{fresh, Place, State};
+use second::state::{fresh, marks_of, Place, State};
 
 use crate::random::Random;
+
+/// How many kinds of events there are.
+const KINDS: usize = 9;
 
 /// An event that may be refused; numbers are mostly in range.
 pub fn event_of(random: &mut Random, state: &State) -> Event {
@@ -28,6 +33,19 @@ pub fn event_of(random: &mut Random, state: &State) -> Event {
         _ if random.once_in(3) => Event::Work,
         _ => Event::Finish,
     }
+}
+
+/// One such event of each kind, in any order.
+pub fn one_of_each(random: &mut Random, state: &State) -> Vec<Event> {
+    let mut events: Vec<Event> = Vec::new();
+    while events.len() < KINDS {
+        let event = event_of(random, state);
+        let kind = discriminant(&event);
+        if events.iter().all(|other| discriminant(other) != kind) {
+            events.push(event);
+        }
+    }
+    events
 }
 
 fn innermost(state: &State) -> Option<usize> {
@@ -109,14 +127,29 @@ fn one_of(random: &mut Random, from: &[usize]) -> Option<usize> {
     (!from.is_empty()).then(|| random.pick(from))
 }
 
+/// Sets the marks right after queues were changed by hand, so that the marks are no damage too.
+pub fn mend_marks(state: &mut State) {
+    state.marks = marks_of(&state.queues);
+}
+
 fn leave_queue(state: &mut State, t: usize) {
     for queue in &mut state.queues {
         queue.retain(|other| *other != t);
     }
 }
 
-/// Plants a fault. Some need a task in a certain place, and leave the state alone where there is none.
+/// Plants a fault: in the marks, or beside them with the marks right.
 pub fn plant(random: &mut Random, state: &mut State) {
+    if random.once_in(23) {
+        state.marks ^= 1 << random.below(32);
+    } else {
+        plant_beside_marks(random, state);
+        mend_marks(state);
+    }
+}
+
+/// Some of these faults need a task in a certain place, and leave the state alone where there is none.
+fn plant_beside_marks(random: &mut Random, state: &mut State) {
     let any = random.below(state.tasks.len());
     let object = random.below(state.ceilings.len().max(1));
     let ready = one_of(random, &tasks_at(state, |p| p == Place::Ready));

@@ -2,7 +2,7 @@
 
 use harness::calls;
 use harness::compare::compare_fill;
-use harness::layout::{bytes_of, put_rows, rows_of, state_of, ROW_SIZE, STATE_SIZE};
+use harness::layout::{bytes_of, mend_marks_in, put_rows, rows_of, state_of, ROW_SIZE, STATE_SIZE};
 use harness::random::Random;
 use harness::report::{hex, Histogram};
 use harness::states::{plant, sound_state};
@@ -19,6 +19,10 @@ fn made_state(random: &mut Random) -> Vec<u8> {
     let mut bytes = bytes_of(&state);
     if random.once_in(10) {
         bytes[random.below(STATE_SIZE)] = random.byte();
+        // so that a changed queue is not refused for its mark alone
+        if random.once_in(2) {
+            mend_marks_in(&mut bytes);
+        }
     }
     bytes
 }

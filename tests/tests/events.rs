@@ -6,7 +6,7 @@ use std::collections::BTreeMap;
 use dispatch::raw;
 use harness::calls::{self, refusal};
 use harness::compare::{compare_event, compare_fresh, compare_readers};
-use harness::layout::{bring_in_range, bytes_of, in_range, state_of, STATE_SIZE};
+use harness::layout::{bring_in_range, bytes_of, in_range, mend_marks_in, state_of, STATE_SIZE};
 use harness::random::Random;
 use harness::report::Histogram;
 use harness::states::{event_of, plant, sound_state};
@@ -37,12 +37,17 @@ fn made(random: &mut Random, seed: u64) -> Vec<u8> {
             let anywhere = random.below(STATE_SIZE);
             let at = random.pick(&[8, 9, 10, anywhere]);
             bytes[at] = random.byte();
+            // so that a changed queue is not refused for its mark alone
+            if random.once_in(2) {
+                mend_marks_in(&mut bytes);
+            }
             bytes
         }
         _ => {
             let mut bytes: Vec<u8> = (0..STATE_SIZE).map(|_| random.byte()).collect();
             if random.once_in(2) {
                 bring_in_range(&mut bytes);
+                mend_marks_in(&mut bytes);
             }
             bytes
         }

@@ -71,7 +71,8 @@ fn standing(state: &State, t: usize) -> Standing {
 }
 
 /// D.2.3 written out for a sound state: a ready or running task goes to the tail of its queue; inside an action the base waits.
-/// The processor changes hands only where an equal takes over from the running task, which is no preemption.
+/// The processor changes hands only where an equal takes over from the running task, which is no preemption. No queue is emptied, and
+/// no empty one is joined: the marks stay.
 fn wanted(state: &State, t: usize) -> (Outcome, State) {
     let mut next = state.clone();
     let base = state.tasks[t].base;

@@ -1,9 +1,10 @@
-//! Scrambled states: every byte of a sound one changed alone, its lists changed, and every pair of changes of a small one.
+//! Scrambled states: every byte of a sound one changed alone, its lists changed, and every pair of changes of a small one. Where a
+//! change empties a ready queue or fills an empty one, it is looked at with the marks as they were and with the marks set right.
 
 use harness::compare::{compare_event, compare_fill, compare_readers, compare_state};
-use harness::layout::{bytes_of, ROW_SIZE};
+use harness::layout::{bytes_of, mend_marks_in, ROW_SIZE};
 use harness::random::Random;
-use harness::states::{event_of, sound_state};
+use harness::states::{event_of, mend_marks, sound_state};
 use second::machine::{apply_to, Event};
 use second::state::{fresh, Place, State};
 
@@ -52,6 +53,18 @@ fn sound_states() -> Vec<State> {
     ]
 }
 
+/// The changed bytes as they are, and, where the marks are then wrong, with the marks set right: so that it is seen what else the
+/// change does.
+fn both_ways(changed: Vec<u8>) -> Vec<(&'static str, Vec<u8>)> {
+    let mut mended = changed.clone();
+    mend_marks_in(&mut mended);
+    let mut ways = vec![("marks as they were", changed)];
+    if mended != ways[0].1 {
+        ways.push(("marks set right", mended));
+    }
+    ways
+}
+
 /// Every byte of these states as a few others: soundness, the running task, an event and the board.
 #[test]
 fn every_byte_of_a_state() {
@@ -80,9 +93,11 @@ fn every_byte_of_a_state() {
                 let mut changed = bytes.clone();
                 changed[at] = value;
                 let event = event_of(&mut random, state);
-                let input = format!("state {which}, byte {at} as {value}");
-                sound += compare_state(&changed, event, &input) as usize;
-                all += 1;
+                for (way, changed) in both_ways(changed) {
+                    let input = format!("state {which}, byte {at} as {value}, {way}");
+                    sound += compare_state(&changed, event, &input) as usize;
+                    all += 1;
+                }
             }
         }
     }
@@ -90,7 +105,7 @@ fn every_byte_of_a_state() {
     assert!(sound > 1000 && all - sound > 1000);
 }
 
-/// Every value of the bytes that a state begins with, and of those that the rows of tasks have.
+/// Every value of the bytes that a state begins with, its marks among them, and of those that the rows of tasks have.
 #[test]
 fn every_value_of_a_field() {
     for (which, state) in sound_states().iter().enumerate() {
@@ -100,7 +115,7 @@ fn every_value_of_a_field() {
         let fields = rows
             .iter()
             .flat_map(|t| (7..13).map(move |at| TASKS + TASK_ROW * t + at));
-        for at in (6..12).chain(fields) {
+        for at in (6..TASKS).chain(fields) {
             for value in 0..=255 {
                 let mut changed = bytes.clone();
                 changed[at] = value;
@@ -133,16 +148,18 @@ fn every_list_of_a_state() {
                 let mut changed = bytes.clone();
                 changed[at] = new.len() as u8;
                 changed[at + 1..][..new.len()].copy_from_slice(new);
-                let input = format!("state {which}, list at {at} as {new:?}");
-                compare_state(&changed, Event::Work, &input);
+                for (way, changed) in both_ways(changed) {
+                    let input = format!("state {which}, list at {at} as {new:?}, {way}");
+                    compare_state(&changed, Event::Work, &input);
+                }
             }
             for length in 0..=255 {
                 let mut changed = bytes.clone();
                 changed[at] = length;
-                compare_readers(
-                    &changed,
-                    &format!("state {which}, length at {at} as {length}"),
-                );
+                for (way, changed) in both_ways(changed) {
+                    let input = format!("state {which}, length at {at} as {length}, {way}");
+                    compare_readers(&changed, &input);
+                }
             }
         }
     }
@@ -181,9 +198,14 @@ fn changes(state: &State) -> Vec<Change> {
     for q in 0..3 {
         for queue in QUEUES {
             all.push(Box::new(move |s| {
-                s.queues[q] = queue.iter().copied().collect()
+                s.queues[q] = queue.iter().copied().collect();
+                mend_marks(s);
             }));
         }
+    }
+    // of these queues too: beside a change that empties or fills one, its mark is then as it was
+    for mark in [0, 1, 2, 3, 31] {
+        all.push(Box::new(move |s| s.marks ^= 1 << mark));
     }
     all
 }
@@ -251,6 +273,8 @@ fn any_byte_of_a_state() {
             bytes[at] = random.byte();
         }
         let event = event_of(&mut random, &state);
-        compare_state(&bytes, event, &format!("seed {seed}"));
+        for (way, bytes) in both_ways(bytes) {
+            compare_state(&bytes, event, &format!("seed {seed}, {way}"));
+        }
     }
 }

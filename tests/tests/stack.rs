@@ -247,6 +247,9 @@ fn states(stack: &mut Stack) -> Vec<Vec<u8>> {
     );
     let mut damaged = spread.clone();
     damaged[8] = 3;
+    // The mark of the running task's priority, whose queue is empty.
+    let mut marked = spread.clone();
+    marked[15] ^= 0x80;
     let wrong = [
         vec![0; STATE_SIZE],
         vec![0xFF; STATE_SIZE],
@@ -263,6 +266,7 @@ fn states(stack: &mut Stack) -> Vec<Vec<u8>> {
         nobody,
         spread,
         damaged,
+        marked,
     ];
     all.extend(wrong);
     all

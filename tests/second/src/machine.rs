@@ -115,9 +115,7 @@ fn set(state: &mut State, t: usize, p: u64) {
     match task.place {
         Place::Running => go_to_tail(state, t),
         Place::Ready => {
-            for queue in &mut state.queues {
-                queue.retain(|&other| other != t);
-            }
+            state.take_out(t);
             state.join_tail(t);
         }
         // A delayed or suspended task stands in no ready queue, and an ended one is refused.

@@ -15,8 +15,8 @@ macro_rules! clauses {
     };
 }
 
-/// All clauses, in the order of document 01.
-pub const CLAUSES: [Clause; 14] = clauses![
+/// All clauses, in the order of document 01; that of request 2026-02 is the last.
+pub const CLAUSES: [Clause; 15] = clauses![
     count_out_of_range,
     number_out_of_range,
     task_in_two_places,
@@ -31,6 +31,7 @@ pub const CLAUSES: [Clause; 14] = clauses![
     ceilings_starting_below_base,
     holder_neither_ready_nor_running,
     waiting_base_outside_action,
+    marks_wrong,
 ];
 
 /// A state is sound when it breaks no clause.
@@ -177,4 +178,13 @@ pub fn holder_neither_ready_nor_running(state: &State) -> bool {
 pub fn waiting_base_outside_action(state: &State) -> bool {
     let bad = |task: &Task| task.waiting.is_some() && task.held.is_empty();
     state.tasks.iter().any(bad)
+}
+
+/// The state keeps the word, a mark on exactly when its queue is nonempty; otherwise it is unsound
+/// (request 2026-02). So a mark is on though its queue is empty, or off though it is not.
+pub fn marks_wrong(state: &State) -> bool {
+    (0..).zip(&state.queues).any(|(bit, queue)| {
+        let is_on = state.marks >> bit & 1 == 1;
+        is_on == queue.is_empty()
+    })
 }

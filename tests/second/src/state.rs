@@ -27,13 +27,15 @@ pub struct Task {
 }
 
 /// The whole state. Fields are open and wide, so that unsound states can be written down too.
-/// `queues[p - 1]` is the ready queue for priority `p`, its head first.
+/// `queues[p - 1]` is the ready queue for priority `p`, its head first. Bit `p - 1` of `marks` is
+/// the mark of that queue, on exactly when it is not empty (request 2026-02).
 #[derive(Clone, Debug, PartialEq, Eq)]
 pub struct State {
     pub now: u64,
     pub tasks: Vec<Task>,
     pub ceilings: Vec<u64>,
     pub queues: [VecDeque<usize>; QUEUES],
+    pub marks: u32,
     pub running: Option<usize>,
 }
 
@@ -59,6 +61,7 @@ impl State {
 
     /// The priority of the highest ready queue that is not empty.
     pub fn highest_ready(&self) -> Option<u64> {
+        // Not read off the marks, so that a pick by counting zeros can be compared with it.
         let top = self.queues.iter().rposition(|queue| !queue.is_empty())?;
         Some(top as u64 + 1)
     }
@@ -82,8 +85,17 @@ impl State {
         let priority = self.active(t).unwrap_or(0);
         if let Some(index) = queue_index(priority) {
             push(&mut self.queues[index], t);
+            self.marks = marks_of(&self.queues);
             self.tasks[t].place = Place::Ready;
         }
+    }
+
+    /// Takes a ready task out of the ready queues.
+    pub(crate) fn take_out(&mut self, t: usize) {
+        for queue in &mut self.queues {
+            queue.retain(|&other| other != t);
+        }
+        self.marks = marks_of(&self.queues);
     }
 
     /// One dispatch: a running task below a ready queue is preempted, and where nobody runs the
@@ -101,11 +113,24 @@ impl State {
             self.join_head(t);
         }
         self.running = queue_index(top).and_then(|index| self.queues[index].pop_front());
+        self.marks = marks_of(&self.queues);
         if let Some(t) = self.running {
             self.tasks[t].place = Place::Running;
         }
         old.is_some()
     }
+}
+
+/// The word of marks that these queues call for, reckoned from them alone so that no older word
+/// can leave a mark behind.
+pub fn marks_of(queues: &[VecDeque<usize>; QUEUES]) -> u32 {
+    let mut marks = 0;
+    for (index, queue) in queues.iter().enumerate() {
+        if !queue.is_empty() {
+            marks |= 1 << index;
+        }
+    }
+    marks
 }
 
 /// Where the queue for priority `p` stands among the queues.
@@ -148,6 +173,7 @@ fn start(bases: &[u64], ceilings: &[u64]) -> State {
         tasks: bases.iter().map(task).collect(),
         ceilings: ceilings.to_vec(),
         queues: Default::default(),
+        marks: 0,
         running: None,
     };
     for t in 0..bases.len() {

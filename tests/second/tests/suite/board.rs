@@ -7,7 +7,7 @@ use second::machine::Event::{Clock, Delay, Enter, Finish, Release, Suspend};
 use second::state::State;
 
 /// A row that no filling writes.
-const BLANK: Row = row(Ended, 99, 99);
+pub const BLANK: Row = row(Ended, 99, 99);
 
 const fn row(kind: Kind, priority: u64, position: u64) -> Row {
     Row {

@@ -24,6 +24,7 @@ fn single() -> State {
         }],
         ceilings: vec![],
         queues: Default::default(),
+        marks: 0,
         running: Some(0),
     }
 }

@@ -7,6 +7,7 @@ mod form;
 mod fresh;
 mod leaps;
 mod marked_cases;
+mod marks;
 mod program;
 mod random;
 mod reports;

@@ -2,7 +2,7 @@
 
 use std::collections::BTreeMap;
 
-use crate::support::{answer, at, fresh, refused, Random, LARGEST, LONGEST};
+use crate::support::{answer, at, fresh, mend_marks, refused, Random, LARGEST, LONGEST};
 use second::board::{fill, next, Kind, Row};
 use second::machine::{apply, Event};
 use second::roster::{admit, base, ceiling, script};
@@ -158,7 +158,8 @@ fn odd_number(random: &mut Random) -> u64 {
     odd[random.index(odd.len())]
 }
 
-fn scramble(random: &mut Random, state: &mut State) {
+/// Changes something by hand; the marks follow the queues.
+pub fn scramble(random: &mut Random, state: &mut State) {
     let number = odd_number(random);
     let small = random.index(6);
     let t = random.index(state.tasks.len().max(1));
@@ -175,6 +176,7 @@ fn scramble(random: &mut Random, state: &mut State) {
         8 => scramble_task(random, state, t, number),
         _ => scramble_task(random, state, t, small as u64),
     }
+    mend_marks(state);
 }
 
 fn scramble_task(random: &mut Random, state: &mut State, t: usize, number: u64) {

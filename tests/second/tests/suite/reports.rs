@@ -6,7 +6,7 @@ use crate::leaps::busy;
 use crate::program::printed_for;
 use crate::random::{random_event, random_fresh};
 use crate::support::{
-    at, clock_event, delay, enter, fresh, leave, play, play_reporting, queue, refused,
+    at, clock_event, delay, enter, fresh, leave, mend_marks, play, play_reporting, queue, refused,
     release_event, replies, roster, set_event, Random, Record, Reply, AGAIN, LARGEST, LONGEST,
     STEP, SUSPEND, WORK,
 };
@@ -503,7 +503,7 @@ const POSSIBLE: [(&str, &[u8]); 13] = [
 ];
 
 /// The kind of an accepted event.
-fn kind(before: &State, event: Event) -> &'static str {
+pub fn kind(before: &State, event: Event) -> &'static str {
     let has_permit = before.running_task().is_some_and(|task| task.permit);
     match event {
         Enter(_) => "Enter",
@@ -530,6 +530,7 @@ fn with_witness(state: &State, priority: u64) -> (State, usize) {
     task.place = Place::Ready;
     state.tasks.push(task);
     state.queues[priority as usize - 1].push_back(witness);
+    mend_marks(&mut state);
     (state, witness)
 }
 
@@ -586,7 +587,7 @@ fn random_histories_report_what_a_witness_sees() {
 }
 
 /// An event for the busy roster, at a reading that mostly goes on.
-fn random_record(random: &mut Random, index: u64) -> Record {
+pub fn random_record(random: &mut Random, index: u64) -> Record {
     let t = random.below(5) as u8;
     match random.below(8) {
         0 | 1 => clock_event(index + random.below(6)),

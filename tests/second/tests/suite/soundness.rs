@@ -2,7 +2,7 @@
 
 use std::collections::VecDeque;
 
-use crate::support::{fresh, play, LARGEST};
+use crate::support::{fresh, mend_marks, play, LARGEST};
 use second::machine::apply;
 use second::machine::Event::{Delay, Enter, Finish, Release, Suspend, Work};
 use second::sound::{broken, is_sound, CLAUSES};
@@ -13,10 +13,12 @@ fn base_state() -> State {
     play(fresh(&[10, 20, 10], &[20, 15, 20, 10]), &[Delay(5)])
 }
 
-/// A change of the base state breaks exactly these clauses, and every event is then refused.
+/// A change of the base state breaks exactly these clauses, and every event is then refused. The
+/// marks follow the queues, so that the change stays the only damage.
 fn breaks(expected: &[&str], change: impl Fn(&mut State)) {
     let mut state = base_state();
     change(&mut state);
+    mend_marks(&mut state);
     assert_eq!(broken(&state), expected);
     assert_eq!(is_sound(&state), expected.is_empty());
     let answer = if expected.is_empty() { 0 } else { 10 };
@@ -37,7 +39,7 @@ fn queue_mut(state: &mut State, priority: usize) -> &mut VecDeque<usize> {
 #[test]
 fn the_base_state_is_sound() {
     breaks(&[], |_| {});
-    assert_eq!(CLAUSES.len(), 14);
+    assert_eq!(CLAUSES.len(), 15);
 }
 
 #[test]

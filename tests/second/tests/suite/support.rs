@@ -165,6 +165,19 @@ pub fn queue(state: &State, priority: u64) -> Vec<usize> {
     queue.iter().copied().collect()
 }
 
+/// The word of marks as the tests reckon it: from the highest priority down, each bit moving the
+/// ones before it up.
+pub fn reckoned(state: &State) -> u32 {
+    (1..=32).rev().fold(0, |word, priority| {
+        word * 2 + u32::from(!queue(state, priority).is_empty())
+    })
+}
+
+/// Sets the marks right after queues were changed by hand, so that the marks are no damage too.
+pub fn mend_marks(state: &mut State) {
+    state.marks = reckoned(state);
+}
+
 /// The bytes that hexadecimal digits stand for; blanks between them do not count.
 pub fn hex(text: &str) -> Vec<u8> {
     let digits: Vec<u32> = text
