@@ -222,7 +222,7 @@ module _ (s : State) (fit : Fitting s) (known : Shaped s) where
       rw (queues-are qs e) (lists-good queueWidth lastPriority (queuesIn (s .queues)) count queues-short)
 
   pub state-loaded : (h ts hd cs qs : List ℕ) →
-      h ≡ s .now ∷ (codeOf (s .running) ∷ (s .«task_count» ∷ (s .«object_count» ∷ (marksOf (queuesIn qs) ∷ [])))) →
+      h ≡ s .now ∷ (codeOf (s .running) ∷ (s .«task_count» ∷ (s .«object_count» ∷ (marksOf (queuesIn qs) ∷ (0 ∷ []))))) →
       TasksLoaded (s .tasks) (s .«task_count») ts →
       hd ≡ listsOver heldWidth (s .held) (s .«task_count») (taskLimit * heldWidth) →
       cs ≡ padded objectLimit (take (s .«object_count») (map level (s .ceilings))) 0 →
@@ -255,5 +255,6 @@ module _ (s : State) (fit : Fitting s) (known : Shaped s) where
           unused = rw (e, all) (padded-rest n taskLimit (take n ks) blank count);
           zeros = rw (e, g) (padded-rest o objectLimit (take o (map level (s .ceilings))) 0 cs-count);
           marks = ap marksIn e;
+          next = record { due = λ t d p. rw e (omega arith) };
         };
       }

@@ -131,6 +131,7 @@ pub fn load(state: State) -> Memory
         state.task_count as u64,
         state.object_count as u64,
         marks,
+        0,
     ];
     Memory {
         head: head,

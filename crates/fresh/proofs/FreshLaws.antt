@@ -7,14 +7,15 @@ use lib.ListN.{length, drop, getD, set, replicate, length-append, length-replica
 use lib.Seq.{take-at, drop-at, take-append-seam, drop-append-seam}
 use Rattle.words.proofs.ListLaws.{drop-replicate, map-at}
 use Rattle.rules.specs.Limits.{taskLimit, objectLimit, lastPriority}
-use Rattle.rules.specs.Model.{Model, TaskRecord, blank}
+use Rattle.rules.specs.Model.{Model, TaskRecord, blank, taskAt}
+use Rattle.rules.specs.declared.Place.the-variants.{Delayed}
 use Rattle.rules.specs.Moves.{becomeReady}
 use Rattle.rules.specs.Fresh.{Setup, newTask, newTasks, unstarted, joinFrom, Startable}
 use Rattle.rules.proofs.FreshLaws.{Joined, join-core, join-one, joined-none}
 use Rattle.marks.proofs.MarkLaws.{no-marks}
 use Rattle.memory.specs.Rows.{queueWidth, heldWidth}
-use Rattle.memory.specs.Tasks.{taskWidth, blankTask, tasksIn}
-use Rattle.memory.specs.Memory.{nowCell, runningCell, tasksCell, objectsCell, marksCell, headWidth, runnerOf, waitingIn, together}
+use Rattle.memory.specs.Tasks.{taskWidth, endedKind, delayedKind, suspendedKind, kindCode, noDue, blankTask, tasksIn}
+use Rattle.memory.specs.Memory.{nowCell, runningCell, tasksCell, objectsCell, marksCell, nextCell, headWidth, runnerOf, waitingIn, together}
 use Rattle.memory.specs.Memory.{taskCountIn, allRecords, modelOf, Means}
 use Rattle.fresh.specs.Slices.{newcomer, Enrolled, JoinAll}
 use Rattle.moves.specs.Room.{Dispatches}
@@ -41,20 +42,29 @@ unfolding newTasks
 new-count [] = refl
 new-count (b ∷ bs) = ap suc (new-count bs)
 
+-- no newcomer is delayed
+new-awake : (bs : List ℕ) (t d : ℕ) → getD (newTasks bs) t blank .place ≡ Delayed d → ⊥
+unfolding newTasks
+new-awake [] t d p = let e : endedKind ≡ delayedKind = ap kindCode p in omega (arith, e)
+new-awake (b ∷ bs) zero d p = let e : suspendedKind ≡ delayedKind = ap kindCode p in omega (arith, e)
+new-awake (b ∷ bs) (suc t) d p = new-awake bs t d p
+
 -- the head of a fresh start
 pub fresh-head : (h : List ℕ) (n k : ℕ) → length h ≡ headWidth →
-    set (set (set (set (set h nowCell 0) runningCell 0) tasksCell n) objectsCell k) marksCell 0 ≡ 0 ∷ (0 ∷ (n ∷ (k ∷ (0 ∷ []))))
+    set (set (set (set (set (set h nowCell 0) runningCell 0) tasksCell n) objectsCell k) marksCell 0) nextCell noDue ≡
+    0 ∷ (0 ∷ (n ∷ (k ∷ (0 ∷ (noDue ∷ [])))))
 fresh-head [] n k e = absurd (omega arith)
 fresh-head (a ∷ []) n k e = absurd (omega arith)
 fresh-head (a ∷ (b ∷ [])) n k e = absurd (omega arith)
 fresh-head (a ∷ (b ∷ (c ∷ []))) n k e = absurd (omega arith)
 fresh-head (a ∷ (b ∷ (c ∷ (x ∷ [])))) n k e = absurd (omega arith)
-fresh-head (a ∷ (b ∷ (c ∷ (x ∷ (y ∷ []))))) n k e = refl
-fresh-head (a ∷ (b ∷ (c ∷ (x ∷ (y ∷ (z ∷ l)))))) n k e = absurd (omega arith)
+fresh-head (a ∷ (b ∷ (c ∷ (x ∷ (y ∷ []))))) n k e = absurd (omega arith)
+fresh-head (a ∷ (b ∷ (c ∷ (x ∷ (y ∷ (z ∷ [])))))) n k e = refl
+fresh-head (a ∷ (b ∷ (c ∷ (x ∷ (y ∷ (z ∷ (w ∷ l))))))) n k e = absurd (omega arith)
 
 -- blank slices with newcomers, ceilings and counts written: nobody has started
 module _ (bs given h ts₀ ts hd cs₀ cs qs : List ℕ) (s : Startable (record { bases = bs; ceilings = given }))
-    (head : h ≡ 0 ∷ (0 ∷ (length bs ∷ (length given ∷ (0 ∷ [])))))
+    (head : h ≡ 0 ∷ (0 ∷ (length bs ∷ (length given ∷ (0 ∷ (noDue ∷ []))))))
     (empty : ts₀ ≡ replicate (taskLimit * taskWidth) 0) (new : Enrolled ts₀ ts bs) (held : hd ≡ replicate (taskLimit * heldWidth) 0)
     (none : cs₀ ≡ replicate objectLimit 0) (ceilings : cs ≡ given ++ drop (length given) cs₀)
     (queues : qs ≡ replicate (lastPriority * queueWidth) 0) where
@@ -76,15 +86,17 @@ module _ (bs given h ts₀ ts hd cs₀ cs qs : List ℕ) (s : Startable (record 
   unfolding runnerOf
   fresh-law =
       let seam = new-count bs in
+      let same : modelOf h ts hd cs qs ≡ unstarted (record { bases = bs; ceilings = given }) =
+      rw (
+        head,
+        all-new,
+        take-at (newTasks bs) (replicate (taskLimit - length bs) blank) (length bs) seam,
+        all-ceilings,
+        take-append-seam given (replicate (objectLimit - length given) 0),
+        blank-lists qs queueWidth lastPriority queues (omega arith),
+      ) in
       record {
-        same = rw (
-          head,
-          all-new,
-          take-at (newTasks bs) (replicate (taskLimit - length bs) blank) (length bs) seam,
-          all-ceilings,
-          take-append-seam given (replicate (objectLimit - length given) 0),
-          blank-lists qs queueWidth lastPriority queues (omega arith),
-        );
+        same = same;
         laid = record {
           head = rw head;
           count = rw head (s .count);
@@ -96,6 +108,7 @@ module _ (bs given h ts₀ ts hd cs₀ cs qs : List ℕ) (s : Startable (record 
           unused = rw (head, all-new) (drop-at (newTasks bs) (replicate (taskLimit - length bs) blank) (length bs) seam);
           zeros = rw (head, all-ceilings) (drop-append-seam given (replicate (objectLimit - length given) 0));
           marks = rw (head, blank-lists qs queueWidth lastPriority queues (omega arith)) (sym (no-marks lastPriority));
+          next = record { due = λ t d p. absurd (new-awake bs t d (sym (ap (λ (m : Model). taskAt m t .place) same) ∙ p)) };
         };
       }
 

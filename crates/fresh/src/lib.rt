@@ -11,6 +11,8 @@ ghost use Rattle.memory.specs.Memory.{taskCountIn, modelOf, LaidOut, Means};
 ghost use Rattle.fresh.specs.Slices.{Sized, Enrolled, JoinAll};
 use memory::sizes::HEAD_WIDTH;
 use memory::sizes::MARKS_CELL;
+use memory::sizes::NEXT_CELL;
+use memory::sizes::NO_DUE;
 use memory::sizes::NOW_CELL;
 use memory::sizes::OBJECTS_CELL;
 use memory::sizes::RUNNING_CELL;
@@ -125,6 +127,7 @@ fn lay_out(
     head[TASKS_CELL] = bases.len() as u64;
     head[OBJECTS_CELL] = given.len() as u64;
     head[MARKS_CELL] = 0;
+    head[NEXT_CELL] = NO_DUE;
 }
 
 pub fn fresh(

@@ -1,5 +1,5 @@
 -- Laws of what the slices mean: what is read of them, and what each change of one slice means.
-use mathlib.Core.Path.{_≡_, refl, ap, _∙_, sym}
+use mathlib.Core.Path.{_≡_, refl, ap, _∙_, sym, subst}
 use mathlib.Core.Bool.{Bool}
 use mathlib.Core.List.{List, [], _∷_}
 use Prim.Native.Nat.{ℕ, zero, suc, _+_, _-_, _≤_, _<_}
@@ -7,21 +7,24 @@ use native.Mathlib.Nat.{not-suc-le-zero, le-of-suc-le-suc}
 use native.Mathlib.Numerals.{add-one}
 use native.Mathlib.Omega.{arith}
 use lib.ListN.{length, take, drop, getD, set, length-set}
-use lib.Seq.{take-set-lt, drop-set-lt, getD-take, getD-set-same, getD-set-other, length-take-le}
+use lib.Seq.{take-set-lt, drop-set-lt, getD-take, getD-set-same, getD-set-other, set-out, length-take-le}
 use Rattle.rules.specs.Limits.{taskLimit, objectLimit}
 use Rattle.rules.specs.Model.{Model, TaskRecord, NextBase, blank, withPlace, withBase, withWaiting, withPermit, withHeld}
 use Rattle.rules.specs.Model.{withNow, withRunning, taskAt, withTask, withQueue}
 use Rattle.rules.specs.declared.Priority.{Priority}
 use Rattle.rules.specs.declared.Place.{Place}
+use Rattle.rules.specs.declared.Place.the-variants.{Delayed}
 use Rattle.rules.specs.declared.WaitingBase.{WaitingBase}
 use Rattle.rules.specs.declared.Runner.the-variants.{Nobody, Task as Runs}
 use Rattle.rules.specs.declared.Task.{Task}
 use Rattle.marks.specs.Marks.{marksOf}
 use Rattle.memory.specs.Rows.{heldWidth, heldIn, heldBy, HeldBecame, queuesIn, Queues}
-use Rattle.memory.specs.Tasks.{blankTask, tasksIn, taskIn, TaskBecame, placed, based, waited, granted}
+use Rattle.rules.proofs.Choices.{split, compare}
+use Rattle.rules.proofs.TaskLaws.{at-same, at-other}
+use Rattle.memory.specs.Tasks.{delayedKind, kindCode, dueOf, blankTask, tasksIn, taskIn, TaskBecame, placed, based, waited, granted}
 use Rattle.memory.specs.Memory.{headWidth, nowCell, runningCell, tasksCell, objectsCell, marksCell, taskCountIn, objectCountIn}
 use Rattle.memory.specs.Memory.{marksIn, runnerOf, waitingIn, recordOf, together, allRecords, modelOf, Marked, ReadyBecame}
-use Rattle.memory.specs.Memory.{LaidOut, Means}
+use Rattle.memory.specs.Memory.{nextCell, nextIn, NobodyBefore, LaidOut, Means}
 use Rattle.memory.proofs.GridLaws.{list-count}
 use Rattle.memory.proofs.TaskLaws.{tasks-count}
 
@@ -78,6 +81,22 @@ means-by x e = record { same = x .same ∙ e; laid = x .laid }
 pub as-laid : {h ts hd cs qs : List ℕ} → LaidOut h ts hd cs qs → Means h ts hd cs qs (modelOf h ts hd cs qs)
 as-laid d = record { same = refl; laid = d }
 
+-- one task replaced by one that is not due before the bound
+next-set : {v : ℕ} {m : Model} (t : ℕ) (k : TaskRecord) → NobodyBefore v m → ((e : ℕ) → k .place ≡ Delayed e → v ≤ e) →
+    NobodyBefore v (withTask m t k)
+next-set {v} {m} t k b n = record { due = go }
+  where
+    place : TaskRecord → Place
+    place x = x .place
+
+    go : (u e : ℕ) → taskAt (withTask m t k) u .place ≡ Delayed e → v ≤ e
+    go u e p =
+        split u t
+        (λ i. compare (length (m .tasks)) t
+        (λ g. b .due u e (sym (ap (λ (l : List TaskRecord). getD l u blank .place) (set-out (m .tasks) t k g)) ∙ p))
+        (λ g. n e (sym (at-same place blank (m .tasks) t k u i g) ∙ p)))
+        (λ i. b .due u e (sym (at-other place blank (m .tasks) t k u i) ∙ p))
+
 module _ {h ts hd cs qs : List ℕ} (d : LaidOut h ts hd cs qs) where
   -- what is read
   pub count-is : length (modelOf h ts hd cs qs .tasks) ≡ taskCountIn h
@@ -110,9 +129,9 @@ module _ {h ts hd cs qs : List ℕ} (d : LaidOut h ts hd cs qs) where
   busy n = let e : getD h runningCell 0 ≡ suc (getD h runningCell 0 - 1) = omega arith in ap runnerOf e
 
   -- what a change of one slice means
-  laid-head : {h' qs' : List ℕ} → length h' ≡ headWidth → taskCountIn h' ≡ taskCountIn h → objectCountIn h' ≡ objectCountIn h → Queues qs' →
-      marksIn h' ≡ marksOf (queuesIn qs') → LaidOut h' ts hd cs qs'
-  laid-head n c e q m =
+  laid-head : {h' qs' : List ℕ} {v : ℕ} → length h' ≡ headWidth → taskCountIn h' ≡ taskCountIn h → objectCountIn h' ≡ objectCountIn h → Queues qs' →
+      marksIn h' ≡ marksOf (queuesIn qs') → nextIn h' ≡ v → NobodyBefore v (modelOf h ts hd cs qs) → LaidOut h' ts hd cs qs'
+  laid-head n c e q m x w =
       record {
         head = n;
         count = rw c (d .count);
@@ -124,6 +143,7 @@ module _ {h ts hd cs qs : List ℕ} (d : LaidOut h ts hd cs qs) where
         unused = rw c (d .unused);
         zeros = rw e (d .zeros);
         marks = m;
+        next = record { due = λ t i p. rw x (w .due t i (rw c at p)) };
       }
 
   -- a cell of the head, and another
@@ -140,7 +160,8 @@ module _ {h ts hd cs qs : List ℕ} (d : LaidOut h ts hd cs qs) where
       let c = cell-other runningCell tasksCell v (omega arith) in
       let e = cell-other runningCell objectsCell v (omega arith) in
       let m = cell-other runningCell marksCell v (omega arith) in
-      record { same = rw (a, b, c, e); laid = laid-head (simp length-set (d .head)) c e (d .queues) (m ∙ d .marks) }
+      let x = cell-other runningCell nextCell v (omega arith) in
+      record { same = rw (a, b, c, e); laid = laid-head (simp length-set (d .head)) c e (d .queues) (m ∙ d .marks) x (d .next) }
 
   pub now-law : (v : ℕ) → Means (set h nowCell v) ts hd cs qs (withNow (modelOf h ts hd cs qs) v)
   now-law v =
@@ -149,7 +170,19 @@ module _ {h ts hd cs qs : List ℕ} (d : LaidOut h ts hd cs qs) where
       let c = cell-other nowCell tasksCell v (omega arith) in
       let e = cell-other nowCell objectsCell v (omega arith) in
       let m = cell-other nowCell marksCell v (omega arith) in
-      record { same = rw (a, b, c, e); laid = laid-head (simp length-set (d .head)) c e (d .queues) (m ∙ d .marks) }
+      let x = cell-other nowCell nextCell v (omega arith) in
+      record { same = rw (a, b, c, e); laid = laid-head (simp length-set (d .head)) c e (d .queues) (m ∙ d .marks) x (d .next) }
+
+  -- another bound before which nobody is due
+  pub next-law : (v : ℕ) → NobodyBefore v (modelOf h ts hd cs qs) → Means (set h nextCell v) ts hd cs qs (modelOf h ts hd cs qs)
+  next-law v w =
+      let a = cell-other nextCell nowCell v (omega arith) in
+      let b = cell-other nextCell runningCell v (omega arith) in
+      let c = cell-other nextCell tasksCell v (omega arith) in
+      let e = cell-other nextCell objectsCell v (omega arith) in
+      let m = cell-other nextCell marksCell v (omega arith) in
+      let x = cell-same nextCell v (omega arith) in
+      record { same = rw (a, b, c, e); laid = laid-head (simp length-set (d .head)) c e (d .queues) (m ∙ d .marks) x w }
 
   pub marked : Marked h qs
   marked = record { size = d .head; word = d .marks }
@@ -163,10 +196,11 @@ module _ {h ts hd cs qs : List ℕ} (d : LaidOut h ts hd cs qs) where
       let c = cell-other marksCell tasksCell v (omega arith) in
       let e = cell-other marksCell objectsCell v (omega arith) in
       let m = cell-same marksCell v (omega arith) in
+      let x = cell-other marksCell nextCell v (omega arith) in
       rw (r .head)
       (record {
         same = rw (a, b, c, e, r .queue .same);
-        laid = laid-head (simp length-set (d .head)) c e (r .queue .good) m;
+        laid = laid-head (simp length-set (d .head)) c e (r .queue .good) m x (d .next);
       })
 
   pub held-law : {hd' : List ℕ} (t : ℕ) (l : List ℕ) → t < taskCountIn h → HeldBecame hd hd' t l →
@@ -174,8 +208,10 @@ module _ {h ts hd cs qs : List ℕ} (d : LaidOut h ts hd cs qs) where
   held-law {hd'} t l g b =
       let all : allRecords ts hd' ≡ set (allRecords ts hd) t (recordOf (taskIn ts t) l) =
       ap (together (tasksIn ts)) (b .same) ∙ together-right (tasksIn ts) (heldIn hd) t l in
+      let same : modelOf h ts hd' cs qs ≡ withTask (modelOf h ts hd cs qs) t (withHeld (taskAt (modelOf h ts hd cs qs) t) l) =
+      rw (all, take-set-lt (taskCountIn h) (allRecords ts hd) t (recordOf (taskIn ts t) l) g, task-is t g) in
       record {
-        same = rw (all, take-set-lt (taskCountIn h) (allRecords ts hd) t (recordOf (taskIn ts t) l) g, task-is t g);
+        same = same;
         laid = record {
           head = d .head;
           count = d .count;
@@ -187,16 +223,21 @@ module _ {h ts hd cs qs : List ℕ} (d : LaidOut h ts hd cs qs) where
           unused = rw all (drop-set-lt (taskCountIn h) (allRecords ts hd) t (recordOf (taskIn ts t) l) g ∙ d .unused);
           zeros = d .zeros;
           marks = d .marks;
+          next = subst (NobodyBefore (nextIn h)) (sym same) (next-set t _ (d .next) (λ e p. d .next .due t e p));
         };
       }
 
-  pub task-law : {ts' : List ℕ} (t : ℕ) (k : Task) → t < taskCountIn h → TaskBecame ts ts' t k →
+  -- a record whose task is not due before the bound
+  pub task-law : {ts' : List ℕ} (t : ℕ) (k : Task) → t < taskCountIn h → ((e : ℕ) → k .place ≡ Delayed e → nextIn h ≤ e) →
+      TaskBecame ts ts' t k →
       Means h ts' hd cs qs (withTask (modelOf h ts hd cs qs) t (recordOf k (taskAt (modelOf h ts hd cs qs) t .held)))
-  task-law {ts'} t k g b =
+  task-law {ts'} t k g n b =
       let all : allRecords ts' hd ≡ set (allRecords ts hd) t (recordOf k (heldBy hd t)) =
       ap (λ (ks : List Task). together ks (heldIn hd)) (b .same) ∙ together-left (tasksIn ts) (heldIn hd) t k in
+      let same : modelOf h ts' hd cs qs ≡ withTask (modelOf h ts hd cs qs) t (recordOf k (taskAt (modelOf h ts hd cs qs) t .held)) =
+      rw (all, take-set-lt (taskCountIn h) (allRecords ts hd) t (recordOf k (heldBy hd t)) g, task-is t g) in
       record {
-        same = rw (all, take-set-lt (taskCountIn h) (allRecords ts hd) t (recordOf k (heldBy hd t)) g, task-is t g);
+        same = same;
         laid = record {
           head = d .head;
           count = d .count;
@@ -208,22 +249,37 @@ module _ {h ts hd cs qs : List ℕ} (d : LaidOut h ts hd cs qs) where
           unused = rw all (drop-set-lt (taskCountIn h) (allRecords ts hd) t (recordOf k (heldBy hd t)) g ∙ d .unused);
           zeros = d .zeros;
           marks = d .marks;
+          next = subst (NobodyBefore (nextIn h)) (sym same) (next-set t _ (d .next) n);
         };
       }
 
-  -- the four parts of a task's record
-  pub place-law : {ts' : List ℕ} (t : ℕ) (x : Place) → t < taskCountIn h → TaskBecame ts ts' t (placed (taskIn ts t) x) →
+  -- a task that stays at its place is not due earlier
+  pub stays : (t : ℕ) → t < taskCountIn h → (e : ℕ) → taskIn ts t .place ≡ Delayed e → nextIn h ≤ e
+  stays t g e p = d .next .due t e (place-is t g ∙ p)
+
+  -- the four parts of a task's record, a place being another than delayed or not before the bound
+  place-any : {ts' : List ℕ} (t : ℕ) (x : Place) → t < taskCountIn h → ((e : ℕ) → x ≡ Delayed e → nextIn h ≤ e) →
+      TaskBecame ts ts' t (placed (taskIn ts t) x) →
       Means h ts' hd cs qs (withTask (modelOf h ts hd cs qs) t (withPlace (taskAt (modelOf h ts hd cs qs) t) x))
-  place-law t x g b = means-by (task-law t _ g b) (rw (task-is t g))
+  place-any t x g n b = means-by (task-law t _ g n b) (rw (task-is t g))
+
+  pub place-law : {ts' : List ℕ} (t : ℕ) (x : Place) → t < taskCountIn h → (kindCode x ≡ delayedKind → ⊥) →
+      TaskBecame ts ts' t (placed (taskIn ts t) x) →
+      Means h ts' hd cs qs (withTask (modelOf h ts hd cs qs) t (withPlace (taskAt (modelOf h ts hd cs qs) t) x))
+  place-law t x g n b = place-any t x g (λ e p. absurd (n (ap kindCode p))) b
+
+  pub delay-law : {ts' : List ℕ} (t v : ℕ) → t < taskCountIn h → nextIn h ≤ v → TaskBecame ts ts' t (placed (taskIn ts t) (Delayed v)) →
+      Means h ts' hd cs qs (withTask (modelOf h ts hd cs qs) t (withPlace (taskAt (modelOf h ts hd cs qs) t) (Delayed v)))
+  delay-law t v g n b = place-any t (Delayed v) g (λ e p. omega (arith, ap dueOf p)) b
 
   pub base-law : {ts' : List ℕ} (t : ℕ) (p : Priority) → t < taskCountIn h → TaskBecame ts ts' t (based (taskIn ts t) p) →
       Means h ts' hd cs qs (withTask (modelOf h ts hd cs qs) t (withBase (taskAt (modelOf h ts hd cs qs) t) (p .0)))
-  base-law t p g b = means-by (task-law t _ g b) (rw (task-is t g))
+  base-law t p g b = means-by (task-law t _ g (stays t g) b) (rw (task-is t g))
 
   pub waiting-law : {ts' : List ℕ} (t : ℕ) (w : WaitingBase) → t < taskCountIn h → TaskBecame ts ts' t (waited (taskIn ts t) w) →
       Means h ts' hd cs qs (withTask (modelOf h ts hd cs qs) t (withWaiting (taskAt (modelOf h ts hd cs qs) t) (waitingIn w)))
-  waiting-law t w g b = means-by (task-law t _ g b) (rw (task-is t g))
+  waiting-law t w g b = means-by (task-law t _ g (stays t g) b) (rw (task-is t g))
 
   pub permit-law : {ts' : List ℕ} (t : ℕ) (x : Bool) → t < taskCountIn h → TaskBecame ts ts' t (granted (taskIn ts t) x) →
       Means h ts' hd cs qs (withTask (modelOf h ts hd cs qs) t (withPermit (taskAt (modelOf h ts hd cs qs) t) x))
-  permit-law t x g b = means-by (task-law t _ g b) (rw (task-is t g))
+  permit-law t x g b = means-by (task-law t _ g (stays t g) b) (rw (task-is t g))

@@ -1,6 +1,6 @@
 -- Laws of the tasks' records in their rows.
 use mathlib.Core.Path.{_≡_, refl, ap, _∙_, sym}
-use mathlib.Core.Bool.{Bool, true, false}
+use mathlib.Core.Bool.{Bool, true, false, cond}
 use mathlib.Core.List.{List, [], map}
 use Prim.Native.Nat.{ℕ, zero, suc, _+_, _-_, _*_, _≤_, _<_}
 use native.Mathlib.Omega.{arith}
@@ -18,7 +18,7 @@ use Rattle.rules.specs.declared.Task.{Task}
 use Rattle.memory.specs.Rows.{byteValues, rows}
 use Rattle.memory.specs.Tasks.{taskWidth, kindCell, dueCell, baseCell, waitingCell, permitCell}
 use Rattle.memory.specs.Tasks.{runningKind, readyKind, delayedKind, suspendedKind}
-use Rattle.memory.specs.Tasks.{kindCode, dueOf, placeOf, waitingCode, waitingOf, bit, taskInRow, taskCells, blankTask}
+use Rattle.memory.specs.Tasks.{kindCode, dueOf, noDue, dueTime, placeOf, waitingCode, waitingOf, bit, taskInRow, taskCells, blankTask}
 use Rattle.memory.specs.Tasks.{tasksIn, taskIn, Neat, Tasks, TaskBecame, placed, based, waited, granted}
 use Rattle.words.proofs.ListLaws.{getD-any, map-set}
 use Rattle.memory.proofs.GridLaws.{row-count, set-all, cell-at, Stored, unstored, store}
@@ -50,6 +50,17 @@ pub ended-place : (kind due : ℕ) → (kind ≡ runningKind → ⊥) → (kind 
 unfolding placeOf
 ended-place kind due a b c d =
     rw (ne-eqb kind runningKind a, ne-eqb kind readyKind b, ne-eqb kind delayedKind c, ne-eqb kind suspendedKind d)
+
+-- when a task is due, by the kind of its place
+due-other : (kind due : ℕ) → (kind ≡ delayedKind → ⊥) → noDue ≡ dueTime (placeOf kind due)
+unfolding placeOf
+due-other kind due n = rw (ne-eqb kind delayedKind n) (go (eqb kind runningKind) (eqb kind readyKind) (eqb kind suspendedKind))
+  where
+    go : (a b c : Bool) → noDue ≡ dueTime (cond a Running (cond b Ready (cond c Suspended Ended)))
+    go true b c = refl
+    go false true c = refl
+    go false false true = refl
+    go false false false = refl
 
 pub waiting-base : (code : ℕ) → (code ≡ 0 → ⊥) → Base (record { 0 = code - 1 }) ≡ waitingOf code
 unfolding waitingOf
@@ -86,6 +97,14 @@ module _ (l : List ℕ) (t : ℕ) (h : t < taskLimit) where
   pub place-known : (kind : ℕ) → getD l (t * taskWidth + kindCell) 0 ≡ kind →
       placeOf kind (getD l (t * taskWidth + dueCell) 0) ≡ taskIn l t .place
   place-known kind e = sym (place-at ∙ rw e)
+
+  pub due-known : getD l (t * taskWidth + kindCell) 0 ≡ delayedKind →
+      getD l (t * taskWidth + dueCell) 0 ≡ dueTime (taskIn l t .place)
+  unfolding placeOf
+  due-known e = ap dueTime (place-known delayedKind e)
+
+  pub due-unknown : (getD l (t * taskWidth + kindCell) 0 ≡ delayedKind → ⊥) → noDue ≡ dueTime (taskIn l t .place)
+  due-unknown n = due-other _ _ n ∙ sym (ap dueTime place-at)
 
   pub base-at : taskIn l t .base ≡ record { 0 = getD l (t * taskWidth + baseCell) 0 }
   unfolding taskInRow

@@ -1,14 +1,15 @@
--- What the five slices mean together: a Model of the rules. The head is now, the running task's number + 1 or 0, the two counts, and the
--- word of marks, which is no part of the meaning.
+-- What the five slices mean together: a Model of the rules. The head is now, the running task's number + 1 or 0, the two counts, and two
+-- cells that are no part of the meaning: the word of marks, and a reading before which no delayed task is due.
 use mathlib.Core.Path.{_≡_}
 use mathlib.Core.Bool.{true}
 use mathlib.Core.List.{List, [], _∷_}
 use Prim.Native.Nat.{ℕ, zero, suc, _-_, _≤_}
 use lib.ListN.{length, take, drop, getD, set, replicate}
 use Rattle.rules.specs.Limits.{taskLimit, objectLimit}
-use Rattle.rules.specs.Model.{Model, TaskRecord, NextBase, none, waits, blank}
+use Rattle.rules.specs.Model.{Model, TaskRecord, NextBase, none, waits, blank, taskAt}
 use Rattle.rules.specs.Moved.{Moved}
 use Rattle.rules.specs.Sound.{sound}
+use Rattle.rules.specs.declared.Place.the-variants.{Delayed}
 use Rattle.rules.specs.declared.Runner.{Runner}
 use Rattle.rules.specs.declared.Runner.the-variants.{Nobody, Task as Runs}
 use Rattle.rules.specs.declared.WaitingBase.{WaitingBase}
@@ -22,7 +23,7 @@ use Rattle.memory.specs.Tasks.{tasksIn, Tasks}
 
 -- the cells of the head
 abbrev pub headWidth : ℕ
-headWidth = 5
+headWidth = 6
 
 abbrev pub nowCell : ℕ
 nowCell = 0
@@ -39,6 +40,9 @@ objectsCell = 3
 abbrev pub marksCell : ℕ
 marksCell = 4
 
+abbrev pub nextCell : ℕ
+nextCell = 5
+
 abbrev pub taskCountIn : List ℕ → ℕ
 taskCountIn h = getD h tasksCell 0
 
@@ -47,6 +51,9 @@ objectCountIn h = getD h objectsCell 0
 
 abbrev pub marksIn : List ℕ → ℕ
 marksIn h = getD h marksCell 0
+
+abbrev pub nextIn : List ℕ → ℕ
+nextIn h = getD h nextCell 0
 
 -- who runs
 unfoldable pub runnerOf : ℕ → Runner
@@ -91,7 +98,12 @@ pub record ReadyBecame (h qs h' qs' : List ℕ) (p : ℕ) (x : List ℕ) : Type 
   pub queue : QueueBecame qs qs' p x
   pub head : h' ≡ set h marksCell (marksOf (queuesIn qs'))
 
--- the slices are laid out: their sizes, tidy rows, counts within the rows, nothing behind the counts, and the queues' own marks
+-- no delayed task is due before v
+pub record NobodyBefore (v : ℕ) (m : Model) : Type 0 where
+  pub due : (t d : ℕ) → taskAt m t .place ≡ Delayed d → v ≤ d
+
+-- the slices are laid out: their sizes, tidy rows, counts within the rows, nothing behind the counts, the queues' own marks, and nobody
+-- due before the head's bound
 pub record LaidOut (h ts hd cs qs : List ℕ) : Type 0 where
   pub head : length h ≡ headWidth
   pub count : taskCountIn h ≤ taskLimit
@@ -103,6 +115,7 @@ pub record LaidOut (h ts hd cs qs : List ℕ) : Type 0 where
   pub unused : drop (taskCountIn h) (allRecords ts hd) ≡ replicate (taskLimit - taskCountIn h) blank
   pub zeros : drop (objectCountIn h) cs ≡ replicate (objectLimit - objectCountIn h) 0
   pub marks : marksIn h ≡ marksOf (queuesIn qs)
+  pub next : NobodyBefore (nextIn h) (modelOf h ts hd cs qs)
 
 -- the slices are laid out and mean m
 pub record Means (h ts hd cs qs : List ℕ) (m : Model) : Type 0 where

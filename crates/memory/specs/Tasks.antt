@@ -63,6 +63,17 @@ dueOf (Delayed d) = d
 dueOf Suspended = 0
 dueOf Ended = 0
 
+-- when a task is due; past every reading where it is not delayed
+abbrev pub noDue : ℕ
+noDue = 18446744073709551615
+
+abbrev pub dueTime : Place → ℕ
+dueTime Running = noDue
+dueTime Ready = noDue
+dueTime (Delayed d) = d
+dueTime Suspended = noDue
+dueTime Ended = noDue
+
 unfoldable pub placeOf : ℕ → ℕ → Place
 placeOf kind due =
     cond (eqb kind runningKind) Running

@@ -43,8 +43,9 @@ pub const DELAYED: u64 = 3;
 
 pub const SUSPENDED: u64 = 4;
 
-// The head: now, the running task's number + 1 or 0, the number of tasks, the number of objects, the word of marks.
-pub const HEAD_WIDTH: usize = 5;
+// The head: now, the running task's number + 1 or 0, the number of tasks, the number of objects, the word of marks, and a reading before
+// which no delayed task is due.
+pub const HEAD_WIDTH: usize = 6;
 
 pub const NOW_CELL: usize = 0;
 
@@ -55,6 +56,11 @@ pub const TASKS_CELL: usize = 2;
 pub const OBJECTS_CELL: usize = 3;
 
 pub const MARKS_CELL: usize = 4;
+
+pub const NEXT_CELL: usize = 5;
+
+// The due time where no task is delayed: past every reading.
+pub const NO_DUE: u64 = 18446744073709551615;
 
 // The cells of all task records, of all held lists and of all queues.
 pub const TASK_CELLS: usize = TASK_LIMIT * TASK_WIDTH;

@@ -3,13 +3,14 @@ ghost use mathlib.Core.Path.{_≡_};
 ghost use Prim.Native.Nat.{_≤_, _<_};
 ghost use Rattle.rules.specs.Limits.{taskLimit};
 ghost use Rattle.memory.specs.Rows.{byteValues};
-ghost use Rattle.memory.specs.Tasks.{kindCode, dueOf, waitingCode, bit, taskIn, Tasks, TaskBecame};
+ghost use Rattle.memory.specs.Tasks.{kindCode, dueOf, dueTime, waitingCode, bit, taskIn, Tasks, TaskBecame};
 ghost use Rattle.memory.specs.Tasks.{placed, based, waited, granted};
 use crate::sizes::BASE;
 use crate::sizes::DELAYED;
 use crate::sizes::DUE;
 use crate::sizes::ENDED;
 use crate::sizes::KIND;
+use crate::sizes::NO_DUE;
 use crate::sizes::PERMIT;
 use crate::sizes::READY;
 use crate::sizes::RUNNING;
@@ -76,6 +77,19 @@ pub fn place(tasks: &[u64], t: usize) -> Place
         SUSPENDED => Place::Suspended,
         _ => Place::Ended,
     }
+}
+
+// When a delayed task is due; NO_DUE, which is past every reading, for any other.
+pub fn due(tasks: &[u64], t: usize) -> u64
+    requires { ⌜ t < taskLimit ⌝ }
+    requires { ⌜ Tasks (now tasks) ⌝ }
+    ensures { λ r. ⌜ r ≡ dueTime (taskIn (now (tasks .entry)) t .place) ⌝ }
+{
+    let row = t * TASK_WIDTH;
+    if tasks[row + KIND] == DELAYED {
+        return tasks[row + DUE];
+    }
+    NO_DUE
 }
 
 pub fn base(tasks: &[u64], t: usize) -> Priority

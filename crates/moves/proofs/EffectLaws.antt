@@ -2,12 +2,12 @@
 use mathlib.Core.Path.{_≡_, ap, _∙_, sym}
 use mathlib.Core.Bool.{true, false}
 use mathlib.Core.List.{List, [], _∷_, _++_}
-use Prim.Native.Nat.{ℕ, _+_, _-_, _≤_, _<_}
+use Prim.Native.Nat.{ℕ, _+_, _-_, _≤_, _<_, min}
 use native.Mathlib.Numerals.{add-one}
 use native.Mathlib.Omega.{arith}
 use borrow.Author.Tests.{lt-ltb, le-ltb, eq-eqb, ne-eqb}
 use lib.ListN.{length, take, drop, getD, set, drop-of-length-le}
-use lib.Seq.{drop-cons, getD-set-other}
+use lib.Seq.{drop-cons, getD-set-same, getD-set-other}
 use Rattle.rules.specs.Limits.{taskLimit}
 use Rattle.rules.specs.Model.{Model, TaskRecord, none, waits, blank, withPlace, withWaiting}
 use Rattle.rules.specs.Model.{withNow, withRunning, taskAt, withTask, queue, withQueue}
@@ -24,12 +24,15 @@ use Rattle.rules.specs.declared.Task.{Task}
 use Rattle.rules.specs.Lists.{without}
 use Rattle.moves.specs.declared.effects.Due.{Due as Found}
 use Rattle.memory.specs.Rows.{heldBy, Held, HeldBecame}
-use Rattle.memory.specs.Tasks.{taskIn, Tasks, TaskBecame, placed, based, waited}
-use Rattle.memory.specs.Memory.{nowCell, runningCell, tasksCell, taskCountIn, runnerOf, waitingIn, modelOf, LaidOut, Means}
-use Rattle.moves.specs.Room.{settled, ruleDueOf, someDue}
+use Rattle.memory.specs.Tasks.{delayedKind, kindCode, noDue, dueTime, taskIn, Tasks, TaskBecame, placed, based, waited}
+use Rattle.memory.specs.Memory.{nowCell, runningCell, tasksCell, nextCell, taskCountIn, nextIn, runnerOf, waitingIn, modelOf}
+use Rattle.memory.specs.Memory.{NobodyBefore, LaidOut, Means}
+use Rattle.moves.specs.Room.{settled, soonerOf, dueBy, First, someDue}
+use Rattle.rules.proofs.Choices.{compare}
 use Rattle.memory.proofs.TaskLaws.{then-became}
 use Rattle.memory.proofs.MemoryLaws.{then-means, means-by, count-is, task-is, held-is, waiting-is, run-law, now-law}
-use Rattle.memory.proofs.MemoryLaws.{task-law, place-law, waiting-law, held-law}
+use Rattle.memory.proofs.MemoryLaws.{next-law, stays, task-law, place-law, delay-law, waiting-law, held-law}
+use Rattle.moves.proofs.EventLaws.{due-later, first-of-two, due-there}
 
 -- the head's counts stay where the running task changes
 pub still-counted : (h : List ℕ) (v : ℕ) → taskCountIn (set h runningCell v) ≡ taskCountIn h
@@ -51,13 +54,27 @@ module _ {h ts hd cs qs : List ℕ} (d : LaidOut h ts hd cs qs) where
   unfolding stopped runnerOf
   stop-law = run-law d 0
 
-  pub away-law : {ts' : List ℕ} (t : ℕ) (x : Place) → t < taskCountIn h → TaskBecame ts ts' t (placed (taskIn ts t) x) →
+  pub away-law : {ts' : List ℕ} (t : ℕ) (x : Place) → t < taskCountIn h → (kindCode x ≡ delayedKind → ⊥) →
+      TaskBecame ts ts' t (placed (taskIn ts t) x) →
       Means (set h runningCell 0) ts' hd cs qs
       (withTask (stopped (modelOf h ts hd cs qs)) t (withPlace (taskAt (modelOf h ts hd cs qs) t) x))
   unfolding stopped runnerOf
-  away-law t x g b =
-      let y = place-law d t x g b in
+  away-law t x g n b =
+      let y = place-law d t x g n b in
       then-means (λ (m : Model). withRunning m Nobody) y (run-law (y .laid) 0)
+
+  -- a task is delayed until v, and the bound follows it
+  pub until-law : {h' ts' : List ℕ} (t v : ℕ) → t < taskCountIn h → h' ≡ set h nextCell (min (nextIn h) v) →
+      TaskBecame ts ts' t (placed (taskIn ts t) (Delayed v)) →
+      Means h' ts' hd cs qs (withTask (modelOf h ts hd cs qs) t (withPlace (taskAt (modelOf h ts hd cs qs) t) (Delayed v)))
+  until-law {h'} {ts'} t v g e b =
+      let low = min (nextIn h) v in
+      let bound : NobodyBefore low (modelOf h ts hd cs qs) = record { due = λ u i p. omega (arith, d .next .due u i p) } in
+      let x = next-law d low bound in
+      let there : t < taskCountIn (set h nextCell low) = omega (arith, getD-set-other h nextCell tasksCell low 0 (omega arith)) in
+      let next : nextIn (set h nextCell low) ≤ v = omega (arith, getD-set-same h nextCell low 0 (omega (arith, d .head))) in
+      rw e
+      (then-means (λ (m : Model). withTask m t (withPlace (taskAt m t) (Delayed v))) x (delay-law (x .laid) t v there next b))
 
   -- a waiting base takes effect
   pub effect-law : {ts₁ ts₂ : List ℕ} (t : ℕ) (p : Priority) → t < taskCountIn h → TaskBecame ts ts₁ t (based (taskIn ts t) p) →
@@ -66,7 +83,7 @@ module _ {h ts hd cs qs : List ℕ} (d : LaidOut h ts hd cs qs) where
   unfolding stopped runnerOf waitingIn
   effect-law t p g a b =
       let k = then-became t (based (taskIn ts t) p) (λ (x : Task). waited x Nothing) (omega (arith, d .count)) a b in
-      let y = task-law d t (waited (based (taskIn ts t) p) Nothing) g k in
+      let y = task-law d t (waited (based (taskIn ts t) p) Nothing) g (stays d t g) k in
       means-by (then-means (λ (m : Model). withRunning m Nobody) y (run-law (y .laid) 0)) (rw (task-is d t g))
 
   -- a base waits
@@ -140,22 +157,38 @@ module _ {h ts hd cs qs : List ℕ} (d : LaidOut h ts hd cs qs) where
       Means h ts hd' cs qs (giveUp (modelOf h ts hd cs qs) t)
   give-up-law t g b = means-by (held-law d t _ g b) (rw (held-is d t g))
 
--- a search over the tasks from t on
-pub search-more : (r t : ℕ) (best x : Due) (ks : List TaskRecord) → t < length ks →
-    x ≡ earlier best (dueAt r t (getD ks t blank .place)) →
-    firstDue r nobody 0 ks ≡ firstDue r best t (drop t ks) → firstDue r nobody 0 ks ≡ firstDue r x (t + 1) (drop (t + 1) ks)
-unfolding firstDue
-search-more r t best x ks h e f = f ∙ rw (e, add-one, drop-cons ks t blank h)
+-- a search over the tasks from t on, at any reading
+abbrev pub Searched : Found → ℕ → List TaskRecord → Type 0
+Searched best t ks = (r : ℕ) → r < noDue → firstDue r nobody 0 ks ≡ firstDue r (dueBy r best) t (drop t ks)
 
-pub search-end : (r t : ℕ) (best : Due) (ks : List TaskRecord) → length ks ≤ t →
-    firstDue r nobody 0 ks ≡ firstDue r best t (drop t ks) → best ≡ firstDue r nobody 0 ks
+pub search-begins : (ks : List TaskRecord) → Searched (record { task = 0; time = noDue }) 0 ks
+search-begins ks r h = rw (due-later r (record { task = 0; time = noDue }) h)
+
+pub search-more : (t : ℕ) (best x : Found) (ks : List TaskRecord) → t < length ks →
+    x ≡ soonerOf best (record { task = t; time = dueTime (getD ks t blank .place) }) →
+    Searched best t ks → Searched x (t + 1) ks
 unfolding firstDue
-search-end r t best ks h f = sym (f ∙ rw (drop-of-length-le ks {i = t} h))
+search-more t best x ks h e f r g =
+    let next : Found = record { task = t; time = dueTime (getD ks t blank .place) } in
+    let x-is : dueBy r x ≡ earlier (dueBy r best) (dueAt r t (getD ks t blank .place)) =
+    ap (dueBy r) e ∙ first-of-two r best next ∙ ap (earlier (dueBy r best)) (sym (due-there r t (getD ks t blank .place) g)) in
+    f r g ∙ rw (x-is, add-one, drop-cons ks t blank h)
+
+pub search-time : (best next x : Found) → x ≡ soonerOf best next → best .time ≤ noDue → x .time ≤ noDue
+unfolding soonerOf
+search-time best next x e h =
+    let go : soonerOf best next .time ≤ noDue =
+    compare (best .time) (next .time) (λ k. rw (le-ltb (next .time) (best .time) k) h)
+    (λ k. rw (lt-ltb (next .time) (best .time) k) (omega arith)) in
+    omega (arith, go, ap (λ (v : Found). v .time) e)
+
+pub search-end : (t : ℕ) (best : Found) (ks : List TaskRecord) → length ks ≤ t → best .time ≤ noDue → Searched best t ks → First best ks
+unfolding firstDue
+search-end t best ks h g f = record { time = g; wakes = λ r k. f r k ∙ rw (drop-of-length-le ks {i = t} h) }
 
 -- what the search has found, in the Model that the slices mean
-pub found-due : (r : ℕ) (x y : Found) (n m : Model) → n ≡ m → ruleDueOf x ≡ firstDue r nobody 0 (n .tasks) → x ≡ y →
-    firstDue r nobody 0 (m .tasks) ≡ ruleDueOf y
-found-due r x y n m e f g = sym (ap (λ (z : Model). firstDue r nobody 0 (z .tasks)) e) ∙ (sym f ∙ ap ruleDueOf g)
+pub found-due : (r : ℕ) (x : Found) (n m : Model) → n ≡ m → r < noDue → First x (n .tasks) → firstDue r nobody 0 (m .tasks) ≡ dueBy r x
+found-due r x n m e h f = sym (ap (λ (z : Model). firstDue r nobody 0 (z .tasks)) e) ∙ f .wakes r h
 
 -- the ways of a requeue
 module _ (m : Model) (t p : ℕ) (x : Place) where

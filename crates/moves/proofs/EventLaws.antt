@@ -1,10 +1,10 @@
 -- What an event has done, and the searches and wakings of a clock reading.
-use mathlib.Core.Path.{_≡_, refl, ap, _∙_, sym}
+use mathlib.Core.Path.{_≡_, refl, ap, _∙_, sym, subst}
 use mathlib.Core.Bool.{true, false}
 use mathlib.Core.List.{List, [], _∷_}
 use Prim.Native.Nat.{ℕ, zero, suc, _+_, _-_, _≤_, _<_}
 use native.Mathlib.Omega.{arith}
-use borrow.Author.Tests.{le-leb, lt-leb, lt-ltb}
+use borrow.Author.Tests.{le-leb, lt-leb, le-ltb, lt-ltb}
 use lib.Dec.{ltb}
 use lib.ListN.{length}
 use Rattle.rules.specs.Model.{Model, TaskRecord, withNow, taskAt}
@@ -19,14 +19,16 @@ use Rattle.rules.specs.declared.Runner.the-variants.{Task}
 use Rattle.rules.specs.declared.Report.the-variants.{Unchanged}
 use Rattle.memory.specs.declared.rulings.Ruling.{Ruling}
 use Rattle.memory.specs.declared.rulings.Ruling.the-variants as Ruling
-use Rattle.rules.proofs.Choices.{clash, cond-true, cond-false}
+use Rattle.rules.proofs.Choices.{clash, compare, cond-true, cond-false}
 use Rattle.rules.proofs.EventLaws.{rest-permit}
 use Rattle.rules.proofs.Pending.{Good}
 use Rattle.rules.proofs.ReportLaws.{same-report}
+use Rattle.rules.proofs.WakingLaws.{due-is, dues-at, Finds, finds}
 use Rattle.rules.proofs.StillLaws.{still, still-enter, still-now, still-permit}
 use Rattle.moves.specs.declared.effects.Due.{Due}
-use Rattle.moves.specs.Room.{isSuspended, ruleDueOf, someDue}
-use Rattle.memory.specs.Memory.{modelOf, LaidOut, Means, Did}
+use Rattle.moves.specs.Room.{isSuspended, soonerOf, dueBy, First, someDue}
+use Rattle.memory.specs.Tasks.{noDue, dueTime}
+use Rattle.memory.specs.Memory.{modelOf, NobodyBefore, LaidOut, Means, Did}
 
 -- refused; accepted, the dispatch being of the Model n
 pub did-not : {h ts hd cs qs : List ℕ} {r : Moved} (x : Ruling) → reportIn x ≡ Unchanged → LaidOut h ts hd cs qs →
@@ -79,26 +81,58 @@ release-permit m t (Delayed d) f = refl
 release-permit m t Suspended f = clash f
 release-permit m t Ended f = refl
 
--- who is due at a place, and who of two is first
-pub due-come : (r t d : ℕ) (x : Place) → x ≡ Delayed d → d ≤ r → task t d ≡ dueAt r t x
-unfolding dueAt
-due-come r t d x e h = sym (ap (dueAt r t) e ∙ cond-true _ _ _ (le-leb d r h))
+-- what a delayed task is at a reading: due, or not yet
+module _ (r : ℕ) (x : Due) where
+  pub due-come : x .time ≤ r → dueBy r x ≡ task (x .task) (x .time)
+  unfolding dueBy
+  due-come h = cond-true _ _ _ (le-leb (x .time) r h)
 
-pub due-later : (r t d : ℕ) (x : Place) → x ≡ Delayed d → r < d → nobody ≡ dueAt r t x
-unfolding dueAt
-due-later r t d x e h = sym (ap (dueAt r t) e ∙ cond-false _ _ _ (lt-leb d r h))
+  pub due-later : r < x .time → dueBy r x ≡ nobody
+  unfolding dueBy
+  due-later h = cond-false _ _ _ (lt-leb (x .time) r h)
 
-module _ (t d u e : ℕ) (x y : Due) (f : x ≡ Due.Task t d) (g : y ≡ Due.Task u e) where
-  two-due : earlier (ruleDueOf x) (ruleDueOf y) ≡ earlier (task t d) (task u e)
-  two-due = ap (λ (v : Due). earlier (ruleDueOf v) (ruleDueOf y)) f ∙ ap (λ (v : Due). earlier (task t d) (ruleDueOf v)) g
+-- .. and of two, the first: of those that are due
+pub first-of-two : (r : ℕ) (x y : Due) → dueBy r (soonerOf x y) ≡ earlier (dueBy r x) (dueBy r y)
+unfolding soonerOf earlier
+first-of-two r x y =
+    compare (x .time) (y .time)
+    (λ h. rw (le-ltb (y .time) (x .time) h)
+    (compare (y .time) r
+    (λ k. rw (due-come r x (omega arith), due-come r y k, le-leb (x .time) (y .time) h))
+    (λ k. rw (due-later r y k) (right-none (dueBy r x)))))
+    (λ h. rw (lt-ltb (y .time) (x .time) h)
+    (compare (x .time) r
+    (λ k. rw (due-come r x k, due-come r y (omega arith), lt-leb (x .time) (y .time) h))
+    (λ k. rw (due-later r x k))))
+  where
+    right-none : (z : RuleDue) → z ≡ earlier z nobody
+    right-none nobody = refl
+    right-none (task t d) = refl
 
-  pub former-first : d ≤ e → task t d ≡ earlier (ruleDueOf x) (ruleDueOf y)
-  unfolding earlier
-  former-first h = sym (two-due ∙ cond-true _ _ _ (le-leb d e h))
+-- .. and at a place
+pub due-there : (r t : ℕ) (x : Place) → r < noDue → dueAt r t x ≡ dueBy r (record { task = t; time = dueTime x })
+unfolding dueAt dueBy
+due-there r t Running h = sym (due-later r (record { task = t; time = noDue }) h)
+due-there r t Ready h = sym (due-later r (record { task = t; time = noDue }) h)
+due-there r t (Delayed d) h = refl
+due-there r t Suspended h = sym (due-later r (record { task = t; time = noDue }) h)
+due-there r t Ended h = sym (due-later r (record { task = t; time = noDue }) h)
 
-  pub latter-first : e < d → task u e ≡ earlier (ruleDueOf x) (ruleDueOf y)
-  unfolding earlier
-  latter-first h = sym (two-due ∙ cond-false _ _ _ (lt-leb d e h))
+-- nobody is due before the bound; and the time of the first is such a bound
+pub nobody-due : (r v : ℕ) (m : Model) → NobodyBefore v m → r < v → firstDue r nobody 0 (m .tasks) ≡ nobody
+nobody-due r v m b h = go (firstDue r nobody 0 (m .tasks)) (finds r 0 (m .tasks))
+  where
+    go : (f : RuleDue) → Finds r 0 (m .tasks) f → f ≡ nobody
+    go nobody s = refl
+    go (task t d) s = absurd (omega (arith, s .come, b .due (s .at) d (s .place)))
+
+pub first-bound : (x : Due) (m : Model) → First x (m .tasks) → NobodyBefore (x .time) m
+first-bound x m f = record { due = λ t d p. compare (x .time) d (λ h. h) (λ h. absurd (late t d p h)) }
+  where
+    late : (t d : ℕ) → taskAt m t .place ≡ Delayed d → d < x .time → ⊥
+    late t d p h =
+        let none = subst (Finds d 0 (m .tasks)) (f .wakes d (omega (arith, f .time)) ∙ due-later d x h) (finds d 0 (m .tasks)) in
+        omega (arith, none, dues-at d (m .tasks) t, due-is d d (taskAt m t .place) p (omega arith))
 
 -- one waking more; none where nobody is due
 pub wake-next : (r n : ℕ) (m : Model) → wakeUp r (suc n) m ≡ wake (wakeUp r n m) (firstDue r nobody 0 (wakeUp r n m .tasks))
@@ -150,7 +184,7 @@ some-more r m zero t d s e h = ap someDue e
 some-more r m (suc i) t d s e h = s (omega arith)
 
 -- nobody is due: nobody wakes
-none-wakes : (r n : ℕ) (m : Model) → someDue (firstDue r nobody 0 (m .tasks)) ≡ false → m ≡ wakeUp r n m
+pub none-wakes : (r n : ℕ) (m : Model) → someDue (firstDue r nobody 0 (m .tasks)) ≡ false → m ≡ wakeUp r n m
 unfolding wakeUp
 none-wakes r n m e = wake-rest r 0 n m (omega arith) (none-is (firstDue r nobody 0 (m .tasks)) e)
   where

@@ -43,7 +43,7 @@ module _ {h ts hd cs qs : List ℕ} (d : LaidOut h ts hd cs qs) where
   unfolding becomeReady
   ready-law t p g e b r =
       let x = queue-law d p (queueIn qs p ++ (t ∷ [])) b in
-      let y = place-law (x .laid) t Ready (listed x g) r in
+      let y = place-law (x .laid) t Ready (listed x g) (omega arith) r in
       means-by (then-means (λ (m : Model). withTask m t (withPlace (taskAt m t) Ready)) x y) (rw e)
 
   pub preempt-law : {h' ts' qs' : List ℕ} (t p : ℕ) → t < length (modelOf h ts hd cs qs .tasks) →
@@ -53,7 +53,7 @@ module _ {h ts hd cs qs : List ℕ} (d : LaidOut h ts hd cs qs) where
   unfolding preempt stopped runnerOf
   preempt-law t p g e b r =
       let x = queue-law d p (t ∷ queueIn qs p) b in
-      let y = place-law (x .laid) t Ready (listed x g) r in
+      let y = place-law (x .laid) t Ready (listed x g) (omega arith) r in
       let z = run-law (y .laid) 0 in
       let xy = then-means (λ (m : Model). withTask m t (withPlace (taskAt m t) Ready)) x y in
       means-by (then-means (λ (m : Model). withRunning m Nobody) xy z) (rw e)
@@ -64,7 +64,7 @@ module _ {h ts hd cs qs : List ℕ} (d : LaidOut h ts hd cs qs) where
   unfolding start runnerOf
   start-law p t s e b r =
       let x = queue-law d p (drop 1 (queueIn qs p)) b in
-      let y = place-law (x .laid) t Running (listed x (omega (arith, s .head))) r in
+      let y = place-law (x .laid) t Running (listed x (omega (arith, s .head))) (omega arith) r in
       let z = run-law (y .laid) (t + 1) in
       let xy = then-means (λ (m : Model). withTask m t (withPlace (taskAt m t) Running)) x y in
       let runs : runnerOf (t + 1) ≡ Runs t = rw add-one in

@@ -1,6 +1,7 @@
 -- `events::clock` meets its contract.
 use mathlib.Core.Path.{refl, _∙_, sym}
 use Prim.Native.Nat.{_-_}
+use native.Mathlib.Omega.{arith}
 use borrow.Author.Needs.{needs}
 use borrow.Author.Tests.{not-true}
 use Rattle.memory.specs.declared.rulings.Ruling.the-variants as Ruling
@@ -35,11 +36,14 @@ element-write-head c = search needs
 
 wake-up-requires : tie.Need-wake-up-requires
 wake-up-requires c κs =
-    let entry = c .before .before .before .before .before .before .before .before .before .before .before in
+    let at-if1 = c .before .before .before .before in
+    let at-test = at-if1 .before in
+    let entry = at-test .before .before .before .before .before .before in
+    let taken = sym (at-test .bad-reading .ensures) ∙ at-if1 .if1 .left in
     let v = entry .pre in
     let d = v .laid in
     let x = now-law d (entry .args .r) in
-    (x .laid, rw (x .same) (clock-wakes _ _ (good v .pending .core)))
+    (x .laid, (rw (x .same) (clock-wakes _ _ (good v .pending .core)), omega (arith, reading-low _ _ taken)))
 
 same-length : tie.Need-same-length
 same-length c = search needs

@@ -1,6 +1,7 @@
 -- `events::finish` meets its contract.
 use mathlib.Core.Path.{refl}
 use Prim.Native.Nat.{_-_}
+use native.Mathlib.Omega.{arith}
 use borrow.Author.Needs.{needs}
 use Rattle.memory.specs.declared.rulings.Ruling.the-variants as Ruling
 use Rattle.rules.specs.declared.Place.the-variants.{Ended}
@@ -72,7 +73,7 @@ conclude-requires c κs =
     let e = runner v (at-if1 .if1 .left) in
     let g = runner-counted v (at-if1 .if1 .left) in
     let bare = outside-is d _ _ g (at-depth .depth .ensures) (at-if2 .if2 .left) in
-    dispatchable (away-law d _ Ended g (at-set-place .set-place .ensures)) (pending-end _ _ (good v) e bare)
+    dispatchable (away-law d _ Ended g (omega arith) (at-set-place .set-place .ensures)) (pending-end _ _ (good v) e bare)
 
 same-length : tie.Need-same-length
 same-length c = search needs
@@ -93,7 +94,7 @@ returns-3 c =
     let e = runner v (at-if1 .if1 .left) in
     let g = runner-counted v (at-if1 .if1 .left) in
     let bare = outside-is d _ _ g (at-depth .depth .ensures) (at-if2 .if2 .left) in
-    let x = away-law d _ Ended g (at-set-place .set-place .ensures) in
+    let x = away-law d _ Ended g (omega arith) (at-set-place .set-place .ensures) in
     did _ x (at-conclude .conclude .ensures) (finish-0 _ _ e bare)
 
 pub finish-spec : {M : Type 1} → statement M

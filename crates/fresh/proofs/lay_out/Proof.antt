@@ -47,6 +47,9 @@ element-write-head-4 c = search needs
 element-write-head-5 : tie.Need-element-write-head-5
 element-write-head-5 c = search needs
 
+element-write-head-6 : tie.Need-element-write-head-6
+element-write-head-6 c = search needs
+
 same-length : tie.Need-same-length
 same-length c = search needs
 
@@ -92,6 +95,7 @@ lay-out-spec =
     element-write-head-3
     element-write-head-4
     element-write-head-5
+    element-write-head-6
     same-length
     same-length-2
     same-length-3

@@ -4,8 +4,9 @@ use Prim.Native.Nat.{_-_}
 use borrow.Author.Needs.{needs}
 use borrow.Author.Tests.{eq-eqb, ne-eqb}
 use Rattle.rules.proofs.EventLaws.{put-tail, put-until}
-use Rattle.memory.proofs.MemoryLaws.{means-by, place-law}
+use Rattle.memory.proofs.MemoryLaws.{means-by}
 use Rattle.moves.proofs.MoveLaws.{counted, writable}
+use Rattle.moves.proofs.EffectLaws.{until-law}
 use Rattle.moves.proofs.effects.put_off.Statement.{statement}
 use Rattle.moves.proofs.effects.put_off.Tie as tie
 
@@ -30,9 +31,12 @@ element-copy-out-due c = search needs
 add-due : tie.Need-add-due
 add-due c = search needs
 
+expect-requires : tie.Need-expect-requires
+expect-requires c κs = c .before .before .before .before .before .before .before .pre .0 .head
+
 set-place-requires : tie.Need-set-place-requires
 set-place-requires c κs =
-    let entry = c .before .before .before .before .before .before .before in
+    let entry = c .before .before .before .before .before .before .before .before .before in
     writable (entry .pre .0) (entry .pre .1 .0 .there)
 
 same-length-3 : tie.Need-same-length-3
@@ -41,11 +45,13 @@ same-length-3 c = search needs
 returns-2 : tie.Need-returns-2
 returns-2 c =
     let at-set-place = c .before .before in
-    let at-if1 = at-set-place .before .before .before in
+    let at-expect = at-set-place .before .before in
+    let at-if1 = at-expect .before .before .before in
     let entry = at-if1 .before .before .before .before .before in
     let d = entry .pre .0 in
     let g = counted d (entry .pre .1 .0 .there) in
-    means-by (place-law d _ _ g (at-set-place .set-place .ensures)) (sym (put-until _ _ _ (ne-eqb _ 0 (at-if1 .if1 .left))))
+    means-by (until-law d _ _ g (at-expect .expect .ensures) (at-set-place .set-place .ensures))
+    (sym (put-until _ _ _ (ne-eqb _ 0 (at-if1 .if1 .left))))
 
 pub put-off-spec : {M : Type 1} → statement M
 put-off-spec =
@@ -57,6 +63,7 @@ put-off-spec =
     returns
     element-copy-out-due
     add-due
+    expect-requires
     set-place-requires
     same-length-3
     returns-2)

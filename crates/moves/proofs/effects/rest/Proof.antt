@@ -2,6 +2,7 @@
 use mathlib.Core.Path.{_∙_, sym}
 use mathlib.Core.Bool.{false}
 use Prim.Native.Nat.{_-_}
+use native.Mathlib.Omega.{arith}
 use borrow.Author.Needs.{needs}
 use Rattle.rules.specs.declared.Place.the-variants.{Suspended}
 use Rattle.rules.proofs.EventLaws.{rest-permit, rest-none}
@@ -46,7 +47,7 @@ returns-2 c =
     let entry = at-permit .before .before .before .before .before .before in
     let d = entry .pre .0 in
     let off = permit-is d _ (entry .pre .1) ∙ (sym (at-permit .permit .ensures) ∙ at-if1 .if1 .left) in
-    (means-by (away-law d _ Suspended (entry .pre .1) (at-set-place .set-place .ensures)) (sym (rest-none _ _ off)), sym off)
+    (means-by (away-law d _ Suspended (entry .pre .1) (omega arith) (at-set-place .set-place .ensures)) (sym (rest-none _ _ off)), sym off)
 
 pub rest-spec : {M : Type 1} → statement M
 rest-spec =
