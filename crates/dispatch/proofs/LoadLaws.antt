@@ -169,8 +169,8 @@ fitting s e =
 
 -- the head's cells
 pub head-cells : (s : State) (code x marks y : ℕ) → code ≡ x → marks ≡ y →
-    s .now ∷ (code ∷ (s .«task_count» ∷ (s .«object_count» ∷ (marks ∷ [])))) ≡
-    s .now ∷ (x ∷ (s .«task_count» ∷ (s .«object_count» ∷ (y ∷ []))))
+    s .now ∷ (code ∷ (s .«task_count» ∷ (s .«object_count» ∷ (marks ∷ (0 ∷ []))))) ≡
+    s .now ∷ (x ∷ (s .«task_count» ∷ (s .«object_count» ∷ (y ∷ (0 ∷ [])))))
 head-cells s code x marks y e f = rw (e, f)
 
 -- the whole: the slices that a state is loaded into mean what it means
