@@ -19,8 +19,8 @@ use Rattle.rules.specs.declared.Runner.{Runner}
 use Rattle.rules.specs.declared.Runner.the-variants.{Nobody, Task}
 use Rattle.rules.proofs.SoundLaws.{sound-is}
 use Rattle.rules.proofs.Unchanged.{count-kept}
-use Rattle.format.specs.Limits.{smallestRoster, largestRoster, taskRowSize}
-use Rattle.format.specs.Format.{taskCount, taskRow, startAt, lengthAt, partAt}
+use Rattle.format.specs.Limits.{smallestRoster, largestRoster}
+use Rattle.format.specs.Format.{taskCount, startAt, lengthAt, partAt}
 use Rattle.format.specs.Steps.{stepCount, stepsOf, stepIn}
 use Rattle.format.specs.Roster.{rosterOf, scriptOf}
 use Rattle.format.specs.Form.{lengthGood, formOf}
@@ -31,7 +31,7 @@ use Rattle.format.proofs.TestLaws.{by-test}
 use Rattle.rules.proofs.Choices.{and-right}
 use Rattle.format.proofs.StepLaws.{steps-past}
 use Rattle.format.proofs.FormatLaws.{script-listed}
-use Rattle.format.proofs.FormedLaws.{formed, part-inside, row-inside, tasks-few}
+use Rattle.format.proofs.FormedLaws.{formed, part-inside, tasks-few}
 use Rattle.memory.specs.Memory.{runningCell, modelOf, Moves}
 use Rattle.memory.proofs.MemoryLaws.{idle, busy}
 use Rattle.trace.specs.declared.Input.{Input}
@@ -61,13 +61,13 @@ part-short s t e =
     (and-right (leb smallestRoster (length s)) (leb (length s) largestRoster) (formed s e .size)) in
     omega (arith, length-take (lengthAt s t) (drop (startAt s t) s), length-drop (startAt s t) s)
 
-pub position-fits : (s part : List ℕ) (t k : ℕ) (x : Step) → formOf s ≡ Passed → part ≡ partAt s t → k < 65536 →
-    x ≡ stepIn (stepsOf part) k → positionAfter k x < 65536
+pub position-fits : (s : List ℕ) (t k : ℕ) (x : Step) → formOf s ≡ Passed → k < 65536 → x ≡ stepIn (stepsOf (partAt s t)) k →
+    positionAfter k x < 65536
 unfolding positionAfter
-position-fits s part t k x ok p g e =
-    by-test (ltb k (stepCount part))
-    (λ f. let low : k < stepCount part = ltb-true k _ f in omega (arith, after-low k x, ap length p, part-short s t ok))
-    (λ f. omega (arith, ap (positionAfter k) (e ∙ steps-past part k (ltb-false k _ f))))
+position-fits s t k x ok g e =
+    by-test (ltb k (stepCount (partAt s t)))
+    (λ f. let low : k < stepCount (partAt s t) = ltb-true k _ f in omega (arith, after-low k x, part-short s t ok))
+    (λ f. omega (arith, ap (positionAfter k) (e ∙ steps-past (partAt s t) k (ltb-false k _ f))))
 
 -- what a step of a script keeps
 answer-count : (m : Model) (y : Asked) → length (answerTo m y .model .tasks) ≡ length (m .tasks)
@@ -126,11 +126,7 @@ module _ {s h ts hd cs qs ps : List ℕ} (g : Going s h ts hd cs qs ps) where
     pub script-here : startAt s t + lengthAt s t ≤ length s
     script-here = part-inside s (g .form) t runner-listed
 
-    pub row-here : taskRow s t + taskRowSize ≤ length s
-    row-here = row-inside s (g .form) t runner-listed
-
-    module _ {part : List ℕ} {k : ℕ} {x : Step} (script : part ≡ partAt s t) (place : k ≡ getD ps t 0)
-        (next : x ≡ stepIn (stepsOf part) k) where
+    module _ {k : ℕ} {x : Step} (place : k ≡ getD ps t 0) (next : x ≡ stepIn (stepsOf (partAt s t)) k) where
       abbrev pub c : Config
       c = configOf s h ts hd cs qs ps
 
@@ -140,7 +136,7 @@ module _ {s h ts hd cs qs ps : List ℕ} (g : Going s h ts hd cs qs ps) where
       next-is : nextStep (rosterOf s) t (positionAt c t) ≡ x
       next-is =
           ap (nextStep (rosterOf s) t) position-is ∙
-          (ap (λ (l : List Step). stepIn l k) (script-listed s t runner-listed ∙ ap stepsOf (sym script)) ∙ sym next)
+          (ap (λ (l : List Step). stepIn l k) (script-listed s t runner-listed) ∙ sym next)
 
       step-is : happen (rosterOf s) c Stepped ≡ advance c t (positionAfter k x) (perform (modelOf h ts hd cs qs) x)
       unfolding happen stepBy

@@ -4,7 +4,6 @@ ghost use Prim.Native.Nat.{_*_, _≤_};
 ghost use lib.ListN.{length, getD};
 ghost use lib.Seq.{sets};
 ghost use Rattle.rules.specs.Limits.{taskLimit};
-ghost use Rattle.format.specs.Format.{taskTable};
 ghost use Rattle.format.specs.Roster.{rosterOf};
 ghost use Rattle.format.specs.Check.{checkOf};
 ghost use Rattle.format.specs.declared.Verdict.the-variants.{Passed};
@@ -12,10 +11,10 @@ ghost use Rattle.memory.specs.Memory.{runningCell, runnerOf};
 ghost use Rattle.trace.specs.Limits.{replySize};
 ghost use Rattle.trace.specs.Inputs.{eventCount, inputsOf};
 ghost use Rattle.trace.specs.Run.{answerOf, runningByte, repliesFrom, repliesOf, bufferOf};
-ghost use Rattle.run.specs.Slices.{configOf, Going};
+ghost use Rattle.run.specs.Slices.{configOf, Going, ScriptsRead};
+use crate::scripts::read_scripts;
 use crate::start::start;
 use crate::turns::happen;
-use fields::task_table;
 use inputs::events_good;
 use inputs::input_at;
 use memory::sizes::HEAD_WIDTH;
@@ -43,10 +42,11 @@ fn running_byte(head: &[u64; HEAD_WIDTH]) -> u8
     (running - 1) as u8
 }
 
-// Each event in order, and its reply. The roster's task table starts at `table`.
+// Each event in order, and its reply.
 fn pass(
     roster: &[u8],
-    table: u16,
+    starts: &[u16],
+    lengths: &[u16],
     events: &[u8],
     buffer: &mut [u8],
     head: &mut [u64; HEAD_WIDTH],
@@ -58,7 +58,7 @@ fn pass(
 )
     requires { ⌜ replySize * eventCount (now events) ≤ length (now buffer) ⌝ }
     requires { ⌜ Going (now roster) (now head) (now tasks) (now held) (now ceilings) (now queues) (now positions) ⌝ }
-    requires { ⌜ table ≡ taskTable (now roster) ⌝ }
+    requires { ⌜ ScriptsRead (now roster) (now starts) (now lengths) ⌝ }
     ensures { λ u.
         ⌜ now (buffer .exit) ≡
         sets (now (buffer .entry)) 0
@@ -73,7 +73,8 @@ fn pass(
         let x = input_at(events, i);
         let ruling = happen(
             roster,
-            table,
+            starts,
+            lengths,
             head,
             tasks,
             held,
@@ -96,13 +97,15 @@ fn run_through(roster: &[u8], events: &[u8], buffer: &mut [u8])
     requires { ⌜ replySize * eventCount (now events) ≤ length (now buffer) ⌝ }
     ensures { λ u. ⌜ now (buffer .exit) ≡ sets (now (buffer .entry)) 0 (repliesOf (now (roster .entry)) (now (events .entry))) ⌝ }
 {
-    let table = task_table(roster);
     let mut head = [0u64; HEAD_WIDTH];
     let mut tasks = [0u64; TASK_CELLS];
     let mut held = [0u8; HELD_CELLS];
     let mut ceilings = [0u8; OBJECT_LIMIT];
     let mut queues = [0u8; QUEUE_CELLS];
     let mut positions = [0u16; TASK_LIMIT];
+    let mut starts = [0u16; TASK_LIMIT];
+    let mut lengths = [0u16; TASK_LIMIT];
+    read_scripts(roster, &mut starts, &mut lengths);
     start(
         roster,
         &mut head,
@@ -113,7 +116,8 @@ fn run_through(roster: &[u8], events: &[u8], buffer: &mut [u8])
     );
     pass(
         roster,
-        table,
+        &starts,
+        &lengths,
         events,
         buffer,
         &mut head,

@@ -2,14 +2,12 @@
 ghost use mathlib.Core.Path.{_≡_};
 ghost use Prim.Native.Nat.{_<_};
 ghost use Rattle.rules.specs.Events.{setBase};
-ghost use Rattle.format.specs.Format.{taskTable};
 ghost use Rattle.format.specs.Roster.{rosterOf};
 ghost use Rattle.memory.specs.Memory.{modelOf, Valid, Moves};
 ghost use Rattle.trace.specs.declared.Input.the-variants.{Step as Stepped};
 ghost use Rattle.trace.specs.Config.{perform, positionAfter, happen};
-ghost use Rattle.run.specs.Slices.{configOf, Going, Happened};
-use crate::scripts::script_in;
-use fields::steps;
+ghost use Rattle.run.specs.Slices.{configOf, Going, ScriptsRead, Happened};
+use crate::scripts::step_in;
 use format::Step;
 use memory::rulings::Ruling;
 use memory::sizes::HEAD_WIDTH;
@@ -65,10 +63,11 @@ fn position_after(k: u16, x: Step) -> u16
     }
 }
 
-// The running task takes its next step; a refused one leaves the position. The roster's task table starts at `table`.
+// The running task takes its next step; a refused one leaves the position.
 fn step(
     roster: &[u8],
-    table: u16,
+    starts: &[u16],
+    lengths: &[u16],
     head: &mut [u64; HEAD_WIDTH],
     tasks: &mut [u64],
     held: &mut [u8],
@@ -77,7 +76,7 @@ fn step(
     positions: &mut [u16],
 ) -> Ruling
     requires { ⌜ Going (now roster) (now head) (now tasks) (now held) (now ceilings) (now queues) (now positions) ⌝ }
-    requires { ⌜ table ≡ taskTable (now roster) ⌝ }
+    requires { ⌜ ScriptsRead (now roster) (now starts) (now lengths) ⌝ }
     ensures { λ a.
         ⌜ Happened (now (roster .entry)) (now (head .exit)) (now (tasks .exit)) (now (held .exit)) (now (ceilings .entry))
         (now (queues .exit)) (now (positions .exit)) a
@@ -91,14 +90,14 @@ fn step(
         return Ruling::NobodyRuns;
     }
     let t = (running - 1) as usize;
-    let part = script_in(roster, table, t as u8);
     let k = positions[t];
-    let x = steps::step_at(part, k as usize);
+    let x = step_in(roster, starts, lengths, t, k);
+    let next = position_after(k, x);
     let ruling = perform(head, tasks, held, ceilings, queues, x);
     if ruling.number() != 0 {
         return ruling;
     }
-    positions[t] = position_after(k, x);
+    positions[t] = next;
     ruling
 }
 
@@ -136,7 +135,8 @@ fn set_from(
 // One event.
 pub fn happen(
     roster: &[u8],
-    table: u16,
+    starts: &[u16],
+    lengths: &[u16],
     head: &mut [u64; HEAD_WIDTH],
     tasks: &mut [u64],
     held: &mut [u8],
@@ -146,7 +146,7 @@ pub fn happen(
     x: Input,
 ) -> Ruling
     requires { ⌜ Going (now roster) (now head) (now tasks) (now held) (now ceilings) (now queues) (now positions) ⌝ }
-    requires { ⌜ table ≡ taskTable (now roster) ⌝ }
+    requires { ⌜ ScriptsRead (now roster) (now starts) (now lengths) ⌝ }
     ensures { λ a.
         ⌜ Happened (now (roster .entry)) (now (head .exit)) (now (tasks .exit)) (now (held .exit)) (now (ceilings .entry))
         (now (queues .exit)) (now (positions .exit)) a
@@ -160,7 +160,8 @@ pub fn happen(
         Input::Release(t) => events::release(head, tasks, held, ceilings, queues, t as u64),
         Input::Step => step(
             roster,
-            table,
+            starts,
+            lengths,
             head,
             tasks,
             held,

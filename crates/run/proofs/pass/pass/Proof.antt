@@ -16,18 +16,18 @@ use Rattle.run.proofs.pass.pass.Statement.{statement}
 use Rattle.run.proofs.pass.pass.Tie as tie
 
 abbrev Inv-loop : tie.InvT-loop
-Inv-loop roster table events buffer₀ head₀ tasks₀ held₀ ceilings queues₀ positions₀ n i₀ buffer head tasks held queues positions i =
+Inv-loop roster starts lengths events buffer₀ head₀ tasks₀ held₀ ceilings queues₀ positions₀ n i₀ buffer head tasks held queues positions i =
     (i ≤ n) × (length buffer ≡ length buffer₀) × Going roster head tasks held ceilings queues positions ×
     (sets buffer₀ 0 (repliesFrom (rosterOf roster) (configOf roster head₀ tasks₀ held₀ ceilings queues₀ positions₀) (inputsOf events)) ≡
     sets buffer (replySize * i)
     (repliesFrom (rosterOf roster) (configOf roster head tasks held ceilings queues positions) (drop i (inputsOf events))))
 
 abbrev μ-loop : tie.MeasureT-loop
-μ-loop roster table events buffer₀ head₀ tasks₀ held₀ ceilings queues₀ positions₀ n i₀ buffer head tasks held queues positions i = n - i
+μ-loop roster starts lengths events buffer₀ head₀ tasks₀ held₀ ceilings queues₀ positions₀ n i₀ buffer head tasks held queues positions i = n - i
 
 loop-holds : tie.Need-loop-holds Inv-loop μ-loop
 loop-holds c =
-    (omega arith, refl, c .before .before .before .before .before .before .before .before .pre .1 .0, refl)
+    (omega arith, refl, c .before .before .before .before .before .before .before .before .before .before .pre .1 .0, refl)
 
 input-at-requires : tie.Need-input-at-requires Inv-loop μ-loop
 input-at-requires c κs = search needs
@@ -35,12 +35,12 @@ input-at-requires c κs = search needs
 happen-requires : tie.Need-happen-requires Inv-loop μ-loop
 happen-requires c κs =
     let c7 = c .before .before .before .before .before .before .before in
-    (c7 .loop .inv .2, c7 .before .before .before .before .before .before .before .before .before .pre .1 .1)
+    (c7 .loop .inv .2, c7 .before .before .before .before .before .before .before .before .before .before .before .pre .1 .1)
 
 mul-at : tie.Need-mul-at Inv-loop μ-loop
 mul-at c =
     let c15 = c .before .before .before .before .before .before .before .before .before .before .before .before .before .before .before in
-    let c25 = c15 .before .before .before .before .before .before .before .before .before .before in
+    let c25 = c15 .before .before .before .before .before .before .before .before .before .before .before .before in
     omega (arith, c25 .good .1 .1 .0 .0, c15 .loop-test .taken)
 
 number-requires : tie.Need-number-requires Inv-loop μ-loop
@@ -57,7 +57,7 @@ add-buffer : tie.Need-add-buffer Inv-loop μ-loop
 add-buffer c =
     let c12 = c .before .before .before .before .before .before .before .before .before .before .before .before in
     let c18 = c12 .before .before .before .before .before .before in
-    let c28 = c18 .before .before .before .before .before .before .before .before .before .before in
+    let c28 = c18 .before .before .before .before .before .before .before .before .before .before .before .before in
     omega (arith, c28 .good .1 .1 .0 .0, c18 .loop-test .taken)
 
 slice-write-buffer-2 : tie.Need-slice-write-buffer-2 Inv-loop μ-loop
@@ -73,17 +73,21 @@ add-buffer-2 : tie.Need-add-buffer-2 Inv-loop μ-loop
 add-buffer-2 c =
     let at-turn = c .before .before .before .before .before .before .before .before .before .before .before .before .before .before in
     let at-loop = at-turn .before .before .before .before .before .before in
-    let entry = at-loop .before .before .before .before .before .before .before .before .before .before in
+    let entry = at-loop .before .before .before .before .before .before .before .before .before .before .before .before in
     omega (arith, entry .good .1 .1 .0 .0, at-loop .loop-test .taken)
 
 slice-write-buffer-3 : tie.Need-slice-write-buffer-3 Inv-loop μ-loop
-slice-write-buffer-3 c = simp length-set (omega arith)
+slice-write-buffer-3 c =
+    let at-turn = c .before .before .before .before .before .before .before .before .before .before .before .before .before .before in
+    let at-loop = at-turn .before .before .before .before .before .before in
+    let entry = at-loop .before .before .before .before .before .before .before .before .before .before .before .before in
+    simp length-set (omega (arith, entry .pre .0, at-loop .loop-test .taken, at-loop .before .loop .inv .1))
 
 add-i : tie.Need-add-i Inv-loop μ-loop
 add-i c =
     let at-turn = c .before .before .before .before .before .before .before .before .before .before .before .before .before .before in
     let at-loop = at-turn .before .before .before .before .before .before in
-    let entry = at-loop .before .before .before .before .before .before .before .before .before .before in
+    let entry = at-loop .before .before .before .before .before .before .before .before .before .before .before .before in
     omega (arith, entry .good .1 .1 .0 .0, at-loop .loop-test .taken)
 
 loop-less : tie.Need-loop-less Inv-loop μ-loop

@@ -3,13 +3,24 @@ use mathlib.Core.Path.{ap, _∙_}
 use mathlib.Core.List.{List}
 use Prim.Native.Nat.{ℕ}
 use lib.Seq.{sets}
+use Rattle.format.proofs.FormedLaws.{tasks-few}
+use Rattle.format.proofs.PassedLaws.{passes-form}
 use Rattle.run.proofs.StartLaws.{started, replies-are}
 use borrow.Author.Needs.{needs}
 use Rattle.run.proofs.pass.run_through.Statement.{statement}
 use Rattle.run.proofs.pass.run_through.Tie as tie
 
-task-table-requires : tie.Need-task-table-requires
-task-table-requires c κs = search needs
+slice-aggregate-read-scripts : tie.Need-slice-aggregate-read-scripts
+slice-aggregate-read-scripts c = search needs
+
+slice-aggregate-read-scripts-2 : tie.Need-slice-aggregate-read-scripts-2
+slice-aggregate-read-scripts-2 c = search needs
+
+read-scripts-requires : tie.Need-read-scripts-requires
+read-scripts-requires c κs =
+    let entry = c .before .before .before .before .before in
+    let few = tasks-few (entry .args .roster .now) (passes-form (entry .args .roster .now) (entry .pre .0)) in
+    (few, few)
 
 slice-aggregate-start : tie.Need-slice-aggregate-start
 slice-aggregate-start c = search needs
@@ -41,12 +52,18 @@ slice-aggregate-pass-4 c = search needs
 slice-aggregate-pass-5 : tie.Need-slice-aggregate-pass-5
 slice-aggregate-pass-5 c = search needs
 
+slice-aggregate-pass-6 : tie.Need-slice-aggregate-pass-6
+slice-aggregate-pass-6 c = search needs
+
+slice-aggregate-pass-7 : tie.Need-slice-aggregate-pass-7
+slice-aggregate-pass-7 c = search needs
+
 pass-requires : tie.Need-pass-requires
 pass-requires c κs =
-    let c11 = c .before .before .before .before .before .before .before .before .before .before .before in
-    let c17 = c11 .before .before .before .before .before .before in
-    let c21 = c17 .before .before .before .before in
-    (c21 .pre .1, (started _ (c21 .pre .0) (c11 .start .ensures), c17 .task-table .ensures))
+    let at-start = c .before .before .before .before .before .before .before .before .before .before .before .before .before in
+    let at-scripts = at-start .before .before .before .before .before .before .before .before in
+    let entry = at-scripts .before .before .before .before .before .before in
+    (entry .pre .1, (started _ (entry .pre .0) (at-start .start .ensures), at-scripts .read-scripts .ensures))
 
 same-length : tie.Need-same-length
 same-length c = search needs
@@ -54,8 +71,8 @@ same-length c = search needs
 returns : tie.Need-returns
 returns c =
     let c6 = c .before .before .before .before .before .before in
-    let c18 = c6 .before .before .before .before .before .before .before .before .before .before .before .before in
-    let c28 = c18 .before .before .before .before .before .before .before .before .before .before in
+    let c18 = c6 .before .before .before .before .before .before .before .before .before .before .before .before .before .before in
+    let c28 = c18 .before .before .before .before .before .before .before .before .before .before .before .before .before .before in
     let a = c28 .args in
     c6 .pass .ensures ∙
     ap (λ (l : List ℕ). sets (a .buffer .now) 0 l) (replies-are (a .roster .now) (c28 .pre .0) (c18 .start .ensures) (a .events .now))
@@ -64,7 +81,9 @@ pub run-through-spec : {M : Type 1} → statement M
 run-through-spec =
     tie.close
     (tie.spec
-    task-table-requires
+    slice-aggregate-read-scripts
+    slice-aggregate-read-scripts-2
+    read-scripts-requires
     slice-aggregate-start
     slice-aggregate-start-2
     slice-aggregate-start-3
@@ -75,6 +94,8 @@ run-through-spec =
     slice-aggregate-pass-3
     slice-aggregate-pass-4
     slice-aggregate-pass-5
+    slice-aggregate-pass-6
+    slice-aggregate-pass-7
     pass-requires
     same-length
     returns)

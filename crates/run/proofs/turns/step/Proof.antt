@@ -1,13 +1,12 @@
 -- `run::turns::step` meets its contract.
+use mathlib.Core.Path.{refl}
 use Prim.Native.Nat.{_-_, _<_}
+use native.Mathlib.Omega.{arith}
+use borrow.Author.Needs.{needs}
 use lib.ListN.{getD}
 use Rattle.memory.specs.Memory.{runningCell}
-use native.Mathlib.Omega.{arith}
-use mathlib.Core.Path.{refl}
-use Rattle.format.proofs.FormedLaws.{tasks-few}
-use Rattle.run.proofs.StepLaws.{position-fits, idle-happened, runner-listed, runner-placed, script-here, row-here}
+use Rattle.run.proofs.StepLaws.{position-fits, idle-happened, runner-listed, runner-placed, script-here}
 use Rattle.run.proofs.StepLaws.{step-refused, step-accepted}
-use borrow.Author.Needs.{needs}
 use Rattle.run.proofs.turns.step.Statement.{statement}
 use Rattle.run.proofs.turns.step.Tie as tie
 
@@ -16,39 +15,39 @@ element-copy-out-running c = search needs
 
 returns : tie.Need-returns
 returns c =
-    idle-happened (c .before .before .before .before .before .before .before .before .pre .0) (c .if1 .taken)
+    let entry = c .before .before .before .before .before .before .before .before .before .before in
+    idle-happened (entry .pre .0) (c .if1 .taken)
 
 sub-t : tie.Need-sub-t
 sub-t c = search needs
 
-cast-script-in : tie.Need-cast-script-in
-cast-script-in c =
-    let c8 = c .before .before .before .before .before .before .before .before in
-    omega (arith, runner-listed (c8 .pre .0) _ (c .if1 .left) refl, tasks-few (c8 .args .roster .now) (c8 .pre .0 .form))
-
-script-in-requires : tie.Need-script-in-requires
-script-in-requires c κs =
-    let pre = c .before .before .before .before .before .before .before .before .pre in
-    (pre .1, (row-here (pre .0) _ (c .if1 .left) refl, script-here (pre .0) _ (c .if1 .left) refl))
-
 mul-k : tie.Need-mul-k
 mul-k c =
-    let c9 = c .before .before .before .before .before .before .before .before .before in
-    omega (arith, runner-placed (c9 .pre .0) _ (c .before .if1 .left) refl)
+    let entry = c .before .before .before .before .before .before .before .before .before .before in
+    omega (arith, runner-placed (entry .pre .0) _ (c .if1 .left) refl)
 
 slice-read-k : tie.Need-slice-read-k
 slice-read-k c =
-    let c2 = c .before .before in
-    let c10 = c2 .before .before .before .before .before .before .before .before in
-    runner-placed (c10 .pre .0) _ (c2 .if1 .left) refl
+    let at-if1 = c .before in
+    let entry = at-if1 .before .before .before .before .before .before .before .before .before .before in
+    runner-placed (entry .pre .0) _ (at-if1 .if1 .left) refl
 
-cast-step-at : tie.Need-cast-step-at
-cast-step-at c =
-    let t = getD (c .before .before .before .before .before .before .before .before .before .before .args .head .now) runningCell 0 - 1 in
-    omega (arith, c .slice-known5 .given t)
+step-in-requires : tie.Need-step-in-requires
+step-in-requires c κs =
+    let at-if1 = c .before in
+    let entry = at-if1 .before .before .before .before .before .before .before .before .before .before in
+    let g = entry .pre .0 in
+    (entry .pre .1, (runner-listed g _ (at-if1 .if1 .left) refl, script-here g _ (at-if1 .if1 .left) refl))
 
-step-at-requires : tie.Need-step-at-requires
-step-at-requires c κs = search needs
+position-after-requires : tie.Need-position-after-requires
+position-after-requires c κs =
+    let at-k = c .before in
+    let at-if1 = at-k .before in
+    let entry = at-if1 .before .before .before .before .before .before .before .before .before .before in
+    let a = entry .args in
+    let t = getD (a .head .now) runningCell 0 - 1 in
+    let small : getD (a .positions .now) t 0 < 65536 = omega (arith, at-k .slice-known5 .given t) in
+    position-fits (a .roster .now) t _ _ (entry .pre .0 .form) small (c .step-in .ensures)
 
 perform-requires : tie.Need-perform-requires
 perform-requires c κs = search needs
@@ -67,39 +66,26 @@ same-length-3 c = search needs
 
 returns-2 : tie.Need-returns-2
 returns-2 c =
-    let c8 = c .before .before .before .before .before .before .before .before in
-    let c13 = c8 .before .before .before .before .before in
-    let c15 = c13 .before .before in
-    let c16 = c15 .before in
-    let c24 = c16 .before .before .before .before .before .before .before .before in
-    step-refused (c24 .pre .0) _ (c16 .if1 .left) refl (c15 .script-in .ensures) refl (c13 .step-at .ensures) _
-    (c .before .number .ensures)
-    (c .if2 .taken) (c8 .perform .ensures)
-
-position-after-requires : tie.Need-position-after-requires
-position-after-requires c κs =
-    let c13 = c .before .before .before .before .before .before .before .before .before .before .before .before .before in
-    let c14 = c13 .before in
-    let c15 = c14 .before in
-    let c24 = c15 .before .before .before .before .before .before .before .before .before in
-    let a = c24 .args in
-    let t = getD (a .head .now) runningCell 0 - 1 in
-    let small : getD (a .positions .now) t 0 < 65536 = omega (arith, c14 .slice-known5 .given t) in
-    position-fits (a .roster .now) _ t _ _ (c24 .pre .0 .form) (c15 .script-in .ensures) small (c13 .step-at .ensures)
+    let at-perform = c .before .before .before .before .before .before .before .before in
+    let at-step = at-perform .before .before .before .before .before .before in
+    let at-if1 = at-step .before .before in
+    let entry = at-if1 .before .before .before .before .before .before .before .before .before .before in
+    step-refused (entry .pre .0) _ (at-if1 .if1 .left) refl refl (at-step .step-in .ensures) _ (c .before .number .ensures)
+    (c .if2 .taken) (at-perform .perform .ensures)
 
 mul-positions : tie.Need-mul-positions
 mul-positions c =
-    let c12 = c .before .before .before .before .before .before .before .before .before .before .before .before in
-    let c17 = c12 .before .before .before .before .before in
-    let c25 = c17 .before .before .before .before .before .before .before .before in
-    omega (arith, runner-placed (c25 .pre .0) _ (c17 .if1 .left) refl)
+    let at-perform = c .before .before .before .before .before .before .before .before in
+    let at-if1 = at-perform .before .before .before .before .before .before .before .before in
+    let entry = at-if1 .before .before .before .before .before .before .before .before .before .before in
+    omega (arith, runner-placed (entry .pre .0) _ (at-if1 .if1 .left) refl)
 
 slice-write-positions : tie.Need-slice-write-positions
 slice-write-positions c =
-    let c12 = c .before .before .before .before .before .before .before .before .before .before .before .before in
-    let c17 = c12 .before .before .before .before .before in
-    let c25 = c17 .before .before .before .before .before .before .before .before in
-    runner-placed (c25 .pre .0) _ (c17 .if1 .left) refl
+    let at-perform = c .before .before .before .before .before .before .before .before in
+    let at-if1 = at-perform .before .before .before .before .before .before .before .before in
+    let entry = at-if1 .before .before .before .before .before .before .before .before .before .before in
+    runner-placed (entry .pre .0) _ (at-if1 .if1 .left) refl
 
 same-length-4 : tie.Need-same-length-4
 same-length-4 c = search needs
@@ -115,14 +101,13 @@ same-length-7 c = search needs
 
 returns-3 : tie.Need-returns-3
 returns-3 c =
-    let c2 = c .before .before in
-    let c9 = c2 .before .before .before .before .before .before .before in
-    let c14 = c9 .before .before .before .before .before in
-    let c16 = c14 .before .before in
-    let c17 = c16 .before in
-    let c25 = c17 .before .before .before .before .before .before .before .before in
-    step-accepted (c25 .pre .0) _ (c17 .if1 .left) refl (c16 .script-in .ensures) refl (c14 .step-at .ensures) _ _ (c2 .number .ensures)
-    (c .before .if2 .left) (c .position-after .ensures) (c9 .perform .ensures)
+    let at-perform = c .before .before .before .before .before .before .before .before in
+    let at-after = at-perform .before .before .before .before .before in
+    let at-step = at-after .before in
+    let at-if1 = at-step .before .before in
+    let entry = at-if1 .before .before .before .before .before .before .before .before .before .before in
+    step-accepted (entry .pre .0) _ (at-if1 .if1 .left) refl refl (at-step .step-in .ensures) _ _ (c .before .number .ensures)
+    (c .if2 .left) (at-after .position-after .ensures) (at-perform .perform .ensures)
 
 pub step-spec : {M : Type 1} → statement M
 step-spec =
@@ -131,19 +116,16 @@ step-spec =
     element-copy-out-running
     returns
     sub-t
-    cast-script-in
-    script-in-requires
     mul-k
     slice-read-k
-    cast-step-at
-    step-at-requires
+    step-in-requires
+    position-after-requires
     perform-requires
     number-requires
     same-length
     same-length-2
     same-length-3
     returns-2
-    position-after-requires
     mul-positions
     slice-write-positions
     same-length-4
