@@ -26,7 +26,7 @@ use Rattle.moves.proofs.RoomLaws.{core-dispatches, enter-room}
 -- a dispatch of the Model n, which keeps what the rules promise up to a dispatch
 pub dispatchable : {h ts hd cs qs : List ℕ} {n : Model} → Means h ts hd cs qs n → Pending false n →
     LaidOut h ts hd cs qs × Dispatches (modelOf h ts hd cs qs)
-dispatchable {n = n} x p = (x .laid, rw (x .same) (core-dispatches n (p .core)))
+dispatchable {n = n} x p = (x .laid, rw (x .same) (core-dispatches n (p .core) (λ t g. p .fair t g .rises)))
 
 -- a priority outside the range
 pub too-low : (p : ℕ) → p < firstPriority → inRange p ≡ false

@@ -50,7 +50,7 @@ pub fn enter(
     if held::holds(held, t, object) {
         return Ruling::InsideAction;
     }
-    let a = priorities::active(head, tasks, held, ceilings, queues, t);
+    let a = priorities::active_inside(head, tasks, held, ceilings, queues, t);
     if ceilings[o as usize] < a.0 {
         return Ruling::AboveCeiling;
     }

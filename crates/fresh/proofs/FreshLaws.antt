@@ -10,6 +10,7 @@ use Rattle.rules.specs.Limits.{taskLimit, objectLimit, lastPriority}
 use Rattle.rules.specs.Model.{Model, TaskRecord, blank, taskAt}
 use Rattle.rules.specs.declared.Place.the-variants.{Delayed}
 use Rattle.rules.specs.Moves.{becomeReady}
+use Rattle.rules.specs.Sound.{rising}
 use Rattle.rules.specs.Fresh.{Setup, newTask, newTasks, unstarted, joinFrom, Startable}
 use Rattle.rules.proofs.FreshLaws.{Joined, join-core, join-one, joined-none}
 use Rattle.marks.proofs.MarkLaws.{no-marks}
@@ -21,7 +22,7 @@ use Rattle.fresh.specs.Slices.{newcomer, Enrolled, JoinAll}
 use Rattle.moves.specs.Room.{Dispatches}
 use Rattle.memory.proofs.BlankLaws.{blank-lists, blank-good, blank-tasks}
 use Rattle.memory.proofs.MemoryLaws.{then-means, means-by, count-is}
-use Rattle.moves.proofs.RoomLaws.{core-joins, core-dispatches}
+use Rattle.moves.proofs.RoomLaws.{core-arrives, core-dispatches}
 
 -- newcomers, in a loop over the bases
 pub newcomer-at : (bs : List ℕ) (t : ℕ) → t < length bs → newcomer (getD bs t 0) ≡ getD (map newcomer bs) t blankTask
@@ -135,11 +136,16 @@ module _ (x : Setup) (s : Startable x) where
       record {
         next = λ t h.
             let a = joined-to t (omega (arith, new-count (x .bases))) in
-            core-joins _ t (join-core x s t _ a) (omega (arith, a .size, new-count (x .bases)));
+            core-arrives _ t (join-core x s t _ a) (omega (arith, a .size, new-count (x .bases)));
       }
 
   pub fresh-dispatches : Dispatches (joinFrom 0 (length (x .bases)) (unstarted x))
-  fresh-dispatches = core-dispatches _ (joined-to (length (x .bases)) (omega arith) .core)
+  unfolding rising
+  fresh-dispatches =
+      let n = length (x .bases) in
+      let a = joined-to n (omega arith) in
+      let cs = joinFrom 0 n (unstarted x) .ceilings in
+      core-dispatches _ (a .core) (λ t h. ap (λ (k : TaskRecord). rising cs (k .base) (k .held)) (a .done t (omega (arith, h, a .size))))
 
 -- all tasks of a fresh start have joined
 pub joined-law : {h ts hd cs qs h' ts' qs' : List ℕ} (x : Setup) → Means h ts hd cs qs (unstarted x) →

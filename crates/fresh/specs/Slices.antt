@@ -13,7 +13,7 @@ use Rattle.rules.specs.declared.Task.{Task}
 use Rattle.memory.specs.Rows.{queueWidth, heldWidth}
 use Rattle.memory.specs.Tasks.{taskWidth, tasksIn, Tasks}
 use Rattle.memory.specs.Memory.{headWidth}
-use Rattle.moves.specs.Room.{Joins}
+use Rattle.moves.specs.Room.{Arrives}
 
 -- the sizes of the slices, whatever they hold
 pub record Sized (h ts hd cs qs : List ℕ) : Type 0 where
@@ -34,4 +34,4 @@ pub record Enrolled (before after bases : List ℕ) : Type 0 where
 
 -- the tasks can join their queues in number order
 pub record JoinAll (m : Model) : Type 0 where
-  pub next : (t : ℕ) → t < length (m .tasks) → Joins (joinFrom 0 t m) t
+  pub next : (t : ℕ) → t < length (m .tasks) → Arrives (joinFrom 0 t m) t

@@ -8,7 +8,7 @@ use lib.ListN.{length, take, drop, getD, set, replicate}
 use Rattle.rules.specs.Limits.{taskLimit, objectLimit}
 use Rattle.rules.specs.Model.{Model, TaskRecord, NextBase, none, waits, blank, taskAt}
 use Rattle.rules.specs.Moved.{Moved}
-use Rattle.rules.specs.Sound.{sound}
+use Rattle.rules.specs.Sound.{rising, sound}
 use Rattle.rules.specs.declared.Place.the-variants.{Delayed}
 use Rattle.rules.specs.declared.Runner.{Runner}
 use Rattle.rules.specs.declared.Runner.the-variants.{Nobody, Task as Runs}
@@ -116,6 +116,10 @@ pub record LaidOut (h ts hd cs qs : List ℕ) : Type 0 where
   pub zeros : drop (objectCountIn h) cs ≡ replicate (objectLimit - objectCountIn h) 0
   pub marks : marksIn h ≡ marksOf (queuesIn qs)
   pub next : NobodyBefore (nextIn h) (modelOf h ts hd cs qs)
+
+-- the ceilings of what the task t holds do not fall
+abbrev pub Rises : Model → ℕ → Type 0
+Rises m t = rising (m .ceilings) (taskAt m t .base) (taskAt m t .held) ≡ true
 
 -- the slices are laid out and mean m
 pub record Means (h ts hd cs qs : List ℕ) (m : Model) : Type 0 where

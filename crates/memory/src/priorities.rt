@@ -5,7 +5,8 @@ ghost use lib.ListN.{length, take};
 ghost use Rattle.rules.specs.Limits.{taskLimit};
 ghost use Rattle.rules.specs.Model.{ceilingOf, highestOf, active};
 ghost use Rattle.memory.specs.Rows.{heldBy, Held};
-ghost use Rattle.memory.specs.Memory.{taskCountIn, modelOf, LaidOut};
+ghost use Rattle.memory.specs.Memory.{taskCountIn, modelOf, LaidOut, Rises};
+use crate::held;
 use crate::sizes::HEAD_WIDTH;
 use crate::sizes::HELD_WIDTH;
 use crate::sizes::OBJECTS_CELL;
@@ -63,4 +64,29 @@ pub fn active(
     let n = head[OBJECTS_CELL] as usize;
     let base = tasks::base(tasks, t);
     raised(held, ceilings, n, t, base)
+}
+
+// The same, of a task whose held objects' ceilings do not fall: the innermost has the highest, so that no other is looked at.
+pub fn active_inside(
+    head: &[u64; HEAD_WIDTH],
+    tasks: &[u64],
+    held: &[u8],
+    ceilings: &[u8],
+    queues: &[u8],
+    t: usize,
+) -> Priority
+    requires { ⌜ LaidOut (now head) (now tasks) (now held) (now ceilings) (now queues) ⌝ }
+    requires { ⌜ t < taskCountIn (now head) ⌝ }
+    requires { ⌜ Rises (modelOf (now head) (now tasks) (now held) (now ceilings) (now queues)) t ⌝ }
+    ensures { λ r.
+        ⌜ r .0 ≡
+        active
+        (modelOf (now (head .entry)) (now (tasks .entry)) (now (held .entry)) (now (ceilings .entry)) (now (queues .entry)))
+        t ⌝ }
+{
+    if held::depth(held, t) == 0 {
+        return tasks::base(tasks, t);
+    }
+    let n = head[OBJECTS_CELL] as usize;
+    ceiling(ceilings, n, held::last(held, t))
 }

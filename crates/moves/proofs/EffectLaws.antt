@@ -10,7 +10,7 @@ use lib.ListN.{length, take, drop, getD, set, drop-of-length-le}
 use lib.Seq.{drop-cons, getD-set-same, getD-set-other}
 use Rattle.rules.specs.Limits.{taskLimit}
 use Rattle.rules.specs.Model.{Model, TaskRecord, none, waits, blank, withPlace, withWaiting}
-use Rattle.rules.specs.Model.{withNow, withRunning, taskAt, withTask, queue, withQueue}
+use Rattle.rules.specs.Model.{withNow, withRunning, taskAt, withTask, queue, withQueue, active}
 use Rattle.rules.specs.Moves.{becomeReady, stopped}
 use Rattle.rules.specs.Events.{inside, innermost, Due, nobody, earlier, dueAt, firstDue, wakeUp, requeue, takeHold, giveUp}
 use Rattle.rules.specs.Events.{takeReading}
@@ -32,6 +32,7 @@ use Rattle.rules.proofs.Choices.{compare}
 use Rattle.memory.proofs.TaskLaws.{then-became}
 use Rattle.memory.proofs.MemoryLaws.{then-means, means-by, count-is, task-is, held-is, waiting-is, run-law, now-law}
 use Rattle.memory.proofs.MemoryLaws.{next-law, stays, task-law, place-law, delay-law, waiting-law, held-law}
+use Rattle.moves.proofs.MoveLaws.{base-level}
 use Rattle.moves.proofs.EventLaws.{due-later, first-of-two, due-there}
 
 -- the head's counts stay where the running task changes
@@ -112,6 +113,11 @@ module _ {h ts hd cs qs : List ℕ} (d : LaidOut h ts hd cs qs) where
 
   pub outside-is : (t n : ℕ) → t < taskCountIn h → n ≡ length (heldBy hd t) → n ≤ 0 → inside (taskAt (modelOf h ts hd cs qs) t) ≡ false
   outside-is t n g e z = le-ltb 0 (length (taskAt (modelOf h ts hd cs qs) t .held)) (omega (arith, depth-is t n g e))
+
+  -- outside an action the base is the active priority
+  pub outside-level : (t n : ℕ) (p : Priority) → t < taskCountIn h → n ≡ length (heldBy hd t) → n ≤ 0 → p ≡ taskIn ts t .base →
+      p .0 ≡ active (modelOf h ts hd cs qs) t
+  outside-level t n p g e z f = base-level d t p g (omega (arith, depth-is t n g e)) f
 
   -- the object that it entered last
   last-is : (t x : ℕ) → t < taskCountIn h → x ≡ getD (heldBy hd t) (length (heldBy hd t) - 1) 0 →

@@ -10,6 +10,7 @@ use lib.Seq.{getD-set-other}
 use Rattle.rules.specs.Limits.{taskLimit, lastPriority}
 use Rattle.rules.specs.Model.{Model, active, taskAt, queue, withPlace, withTask, withRunning}
 use Rattle.rules.specs.Moves.{highestTo, highest, headOf, becomeReady, stopped, preempt, start, dispatch}
+use Rattle.rules.specs.declared.Priority.{Priority}
 use Rattle.rules.specs.declared.Place.the-variants.{Running, Ready}
 use Rattle.rules.specs.declared.Runner.the-variants.{Nobody, Task as Runs}
 use Rattle.rules.proofs.Levels.{highest-top, highest-full}
@@ -18,7 +19,8 @@ use Rattle.memory.specs.Rows.{HasQueue, queueIn, Queues}
 use Rattle.memory.specs.Tasks.{taskIn, Tasks, TaskBecame, placed}
 use Rattle.memory.specs.Memory.{runningCell, taskCountIn, runnerOf, modelOf, Marked, ReadyBecame, LaidOut, Means}
 use Rattle.moves.specs.Room.{Joins, Starts, Dispatches}
-use Rattle.memory.proofs.MemoryLaws.{then-means, means-by, as-laid, count-is, run-law, marked, queue-law, place-law}
+use Rattle.memory.proofs.PriorityLaws.{active-bare}
+use Rattle.memory.proofs.MemoryLaws.{then-means, means-by, as-laid, count-is, held-is, run-law, marked, queue-law, place-law}
 
 -- a task that is there is counted in the head
 pub listed : {h ts hd cs qs : List ℕ} {m : Model} → Means h ts hd cs qs m → {t : ℕ} → t < length (m .tasks) → t < taskCountIn h
@@ -36,6 +38,11 @@ module _ {h ts hd cs qs : List ℕ} (d : LaidOut h ts hd cs qs) where
       HasQueue p × (Queues qs × (Marked h qs × (length (queueIn qs p) < taskLimit)))
   open-queue p j e =
       (record { low = omega (arith, j .level .low); high = omega (arith, j .level .high) }, (d .queues, (marked d, rw e (j .room))))
+
+  -- the active priority of a task that holds nothing
+  pub base-level : (t : ℕ) (p : Priority) → t < taskCountIn h → length (taskAt (modelOf h ts hd cs qs) t .held) ≡ 0 → p ≡ taskIn ts t .base →
+      p .0 ≡ active (modelOf h ts hd cs qs) t
+  base-level t p g z e = active-bare d t (p .0) g (ap (λ (v : Priority). v .0) e) (sym (ap length (held-is d t g)) ∙ z)
 
   pub ready-law : {h' ts' qs' : List ℕ} (t p : ℕ) → t < length (modelOf h ts hd cs qs .tasks) → p ≡ active (modelOf h ts hd cs qs) t →
       ReadyBecame h qs h' qs' p (queueIn qs p ++ (t ∷ [])) → TaskBecame ts ts' t (placed (taskIn ts t) Ready) →

@@ -28,15 +28,19 @@ use Rattle.rules.proofs.Room.{queue-room, runner-room}
 use Rattle.rules.proofs.HeldLaws.{held-room}
 use Rattle.rules.proofs.WakingLaws.{Finds, finds, woke, delayed-off, core-now}
 use Rattle.rules.proofs.Pending.{Good, Pending, hold-none, t-runs, t-in, t-fair}
-use Rattle.moves.specs.Room.{Joins, Dispatches, settled, Settles, isSuspended, Releases, Wakes, Requeues, Rebases}
+use Rattle.memory.specs.Memory.{Rises}
+use Rattle.moves.specs.Room.{Joins, Arrives, Dispatches, settled, Settles, isSuspended, Releases, Wakes, Requeues, Rebases}
 
 -- the task on its way can join its queue, and so can the running task
-pub core-joins : {ord : Bool} (m : Model) (x : ℕ) → Core ord m x → x < length (m .tasks) → Joins m x
-core-joins m x c h =
+pub core-arrives : {ord : Bool} (m : Model) (x : ℕ) → Core ord m x → x < length (m .tasks) → Arrives m x
+core-arrives m x c h =
     record {
-      there = h;
-      level = record { low = act-low m x c x h; high = act-high m x c x h };
-      room = omega (arith, queue-room m x c (active m x - 1) h, c .count);
+      joins = record {
+        there = h;
+        level = record { low = act-low m x c x h; high = act-high m x c x h };
+        room = omega (arith, queue-room m x c (active m x - 1) h, c .count);
+      };
+      bare = c .stand .empty;
     }
 
 runner-joins : {ord : Bool} (m : Model) (t : ℕ) → Core ord m taskLimit → m .running ≡ Task t → Joins m t
@@ -60,8 +64,13 @@ head-there m p c f =
     (λ g. absurd (omega (arith, has, queued-at (m .ready) (p - 1) t, q, out-of ready (m .tasks) t g)))
     (λ g. g)
 
-pub core-dispatches : {ord : Bool} (m : Model) → Core ord m taskLimit → Dispatches m
-core-dispatches m c = record { runner = λ t e. runner-joins m t c e; heads = λ p q f. head-there m p c f }
+pub core-dispatches : {ord : Bool} (m : Model) → Core ord m taskLimit → ((t : ℕ) → t < length (m .tasks) → Rises m t) → Dispatches m
+core-dispatches m c r =
+    record {
+      runner = λ t e. runner-joins m t c e;
+      rises = λ t e. r t (runner-in m c t (runs-named (m .running) t e));
+      heads = λ p q f. head-there m p c f;
+    }
 
 -- the running task t, with another record k, stops and goes on its way
 stop-core : {ord : Bool} (m : Model) (t : ℕ) (k : TaskRecord) → Core ord m taskLimit → m .running ≡ Task t → depth (taskAt m t) ≡ 0 →
@@ -91,34 +100,34 @@ module _ {ord : Bool} (m : Model) (t : ℕ) (h : Good ord m) (e : m .running ≡
       sym (ap waitingGood (sym same ∙ w)) ∙ t-fair m t h e .waiting
 
   effect : (p : ℕ) → inside (taskAt (giveUp m t) t) ≡ false → taskAt (giveUp m t) t .waiting ≡ waits p →
-      Joins (settled (giveUp m t) t p) t
+      Arrives (settled (giveUp m t) t p) t
   unfolding stopped
   effect p z w =
       let k = withWaiting (withBase (taskAt (giveUp m t) t) p) none in
       let bare = hold-none (taskAt (giveUp m t) t) z in
       let n : t < length (giveUp m t .tasks) = runner-in (giveUp m t) left-core t (t-runs m t h e) in
-      core-joins _ t (stop-core (giveUp m t) t k left-core e bare bare (left-range p w))
+      core-arrives _ t (stop-core (giveUp m t) t k left-core e bare bare (left-range p w))
       (omega (arith, length-set (giveUp m t .tasks) t k))
 
   pub leave-settles : Settles (giveUp m t) t
   leave-settles = record { there = runner-in (giveUp m t) left-core t (t-runs m t h e); due = effect }
 
   -- Delay
-  pub delay-joins : inside (taskAt m t) ≡ false → Joins (stopped m) t
+  pub delay-joins : inside (taskAt m t) ≡ false → Arrives (stopped m) t
   unfolding stopped
   delay-joins z =
-      core-joins (stopped m) t (core-out m (h .pending .core) t (t-runs m t h e) (hold-none (taskAt m t) z)) (t-in m t h e)
+      core-arrives (stopped m) t (core-out m (h .pending .core) t (t-runs m t h e) (hold-none (taskAt m t) z)) (t-in m t h e)
 
 -- Release of a suspended task
 pub release-needs : {ord : Bool} (m : Model) (t : ℕ) → Core ord m taskLimit → t < length (m .tasks) → Releases m t
 unfolding isSuspended isReady isRunning
 release-needs m t c h = record { there = h; suspended = go (taskAt m t .place) refl }
   where
-    go : (x : Place) → taskAt m t .place ≡ x → isSuspended x ≡ true → Joins m t
+    go : (x : Place) → taskAt m t .place ≡ x → isSuspended x ≡ true → Arrives m t
     go Running e f = clash (sym f)
     go Ready e f = clash (sym f)
     go (Delayed d) e f = clash (sym f)
-    go Suspended e f = core-joins m t (core-wake m c t (ap (λ (x : Place). isReady x + isRunning x) e)) h
+    go Suspended e f = core-arrives m t (core-wake m c t (ap (λ (x : Place). isReady x + isRunning x) e)) h
     go Ended e f = clash (sym f)
 
 -- Clock: after any number of wakings, whoever is due is away and there
@@ -127,11 +136,11 @@ unfolding wakeUp
 wake-core r zero m c = c
 wake-core r (suc n) m c = wake-core r n _ (woke r m (firstDue r nobody 0 (m .tasks)) c (finds r 0 (m .tasks)) .core)
 
-due-joins : {ord : Bool} (m : Model) (r t d : ℕ) → Core ord m taskLimit → Finds r 0 (m .tasks) (task t d) → Joins m t
+due-joins : {ord : Bool} (m : Model) (r t d : ℕ) → Core ord m taskLimit → Finds r 0 (m .tasks) (task t d) → Arrives m t
 due-joins m r t d c f =
     let at : t ≡ f .at = omega (arith, f .is) in
     let place : taskAt m t .place ≡ Delayed d = ap (λ (v : ℕ). taskAt m v .place) at ∙ f .place in
-    core-joins m t (core-wake m c t (delayed-off (taskAt m t .place) d place)) (omega (arith, f .low))
+    core-arrives m t (core-wake m c t (delayed-off (taskAt m t .place) d place)) (omega (arith, f .low))
 
 pub clock-wakes : {ord : Bool} (m : Model) (r : ℕ) → Core ord m taskLimit → Wakes (withNow m r) r
 clock-wakes m r c =
@@ -175,9 +184,9 @@ module _ {ord : Bool} (m : Model) (t p : ℕ) (c : Core ord m taskLimit) (h : t 
   requeue-needs x e =
       record {
         there = based-there;
-        running = λ f. core-joins _ t (stop-core m t (withBase (taskAt m t) p) c (runs-at (e ∙ f)) z z g) based-there;
+        running = λ f. core-arrives _ t (stop-core m t (withBase (taskAt m t) p) c (runs-at (e ∙ f)) z z g) based-there;
         ready = λ f. record { low = act-low m taskLimit c t h; high = act-high m taskLimit c t h };
-        again = λ f. core-joins _ t (unqueued-core (ap isReady (e ∙ f))) based-there;
+        again = λ f. core-arrives _ t (unqueued-core (ap isReady (e ∙ f))) based-there;
       }
 
 pub rebase-needs : {ord : Bool} (m : Model) (t p : ℕ) → Core ord m taskLimit → t < length (m .tasks) → inRange p ≡ true → Rebases m t p

@@ -16,6 +16,7 @@ use Rattle.rules.specs.Lists.{without}
 use Rattle.moves.specs.declared.effects.Due.{Due}
 use Rattle.memory.specs.Tasks.{noDue}
 use Rattle.memory.specs.Rows.{HasQueue}
+use Rattle.memory.specs.Memory.{Rises}
 
 -- the task t can join the queue for its active priority
 pub record Joins (m : Model) (t : ℕ) : Type 0 where
@@ -23,15 +24,21 @@ pub record Joins (m : Model) (t : ℕ) : Type 0 where
   pub level : HasQueue (active m t)
   pub room : length (queue m (active m t)) < taskLimit
 
+-- .. and holds nothing, so that this is its base
+pub record Arrives (m : Model) (t : ℕ) : Type 0 where
+  pub joins : Joins m t
+  pub bare : length (taskAt m t .held) ≡ 0
+
 -- the head of the queue for p can run
 pub record Starts (m : Model) (p : ℕ) : Type 0 where
   pub level : HasQueue p
   pub full : 0 < length (queue m p)
   pub head : headOf m p < length (m .tasks)
 
--- a dispatch: the running task can join its queue, and any head can run
+-- a dispatch: the running task can join its queue, the ceilings of what it holds do not fall, and any head can run
 pub record Dispatches (m : Model) : Type 0 where
   pub runner : (t : ℕ) → m .running ≡ Runs t → Joins m t
+  pub rises : (t : ℕ) → m .running ≡ Runs t → Rises m t
   pub heads : (p : ℕ) → HasQueue p → 0 < length (queue m p) → headOf m p < length (m .tasks)
 
 -- the task t stopped, its base p, which waited, having taken effect
@@ -41,7 +48,7 @@ settled m t p = stopped (withTask m t (withWaiting (withBase (taskAt m t) p) non
 -- a base that is due can take effect
 pub record Settles (m : Model) (t : ℕ) : Type 0 where
   pub there : t < length (m .tasks)
-  pub due : (p : ℕ) → inside (taskAt m t) ≡ false → taskAt m t .waiting ≡ waits p → Joins (settled m t p) t
+  pub due : (p : ℕ) → inside (taskAt m t) ≡ false → taskAt m t .waiting ≡ waits p → Arrives (settled m t p) t
 
 unfoldable pub isSuspended : Place → Bool
 isSuspended Running = false
@@ -53,7 +60,7 @@ isSuspended Ended = false
 -- a suspended task can be released
 pub record Releases (m : Model) (t : ℕ) : Type 0 where
   pub there : t < length (m .tasks)
-  pub suspended : isSuspended (taskAt m t .place) ≡ true → Joins m t
+  pub suspended : isSuspended (taskAt m t .place) ≡ true → Arrives m t
 
 -- of two delayed tasks the former, having the lower number, unless the latter is due earlier
 unfoldable pub soonerOf : Due → Due → Due
@@ -75,14 +82,14 @@ someDue (task t d) = true
 
 -- after any number of wakings, who is the next to wake can join its queue
 pub record Wakes (m : Model) (r : ℕ) : Type 0 where
-  pub next : (n t d : ℕ) → firstDue r nobody 0 (wakeUp r n m .tasks) ≡ task t d → Joins (wakeUp r n m) t
+  pub next : (n t d : ℕ) → firstDue r nobody 0 (wakeUp r n m .tasks) ≡ task t d → Arrives (wakeUp r n m) t
 
 -- a task at the place x, with its new base, can go to the tail of its queue; a ready one leaves the queue for p
 pub record Requeues (m : Model) (t p : ℕ) (x : Place) : Type 0 where
   pub there : t < length (m .tasks)
-  pub running : x ≡ Running → Joins (stopped m) t
+  pub running : x ≡ Running → Arrives (stopped m) t
   pub ready : x ≡ Ready → HasQueue p
-  pub again : x ≡ Ready → Joins (withQueue m p (without t (queue m p))) t
+  pub again : x ≡ Ready → Arrives (withQueue m p (without t (queue m p))) t
 
 -- the base p can take effect outside an action
 pub record Rebases (m : Model) (t p : ℕ) : Type 0 where

@@ -1,10 +1,11 @@
 // Internal: pub only for our own crates. The moves that events are made of, as in specs/Moves.antt of crate rules, in place on the slices
 // of crate memory.
+ghost use mathlib.Core.Path.{_≡_};
 ghost use Prim.Native.Nat.{_<_};
 ghost use Rattle.rules.specs.Model.{active};
 ghost use Rattle.rules.specs.Moves.{becomeReady, preempt, start, dispatch};
 ghost use Rattle.memory.specs.Memory.{modelOf, LaidOut, Means};
-ghost use Rattle.moves.specs.Room.{Joins, Starts, Dispatches};
+ghost use Rattle.moves.specs.Room.{Joins, Arrives, Starts, Dispatches};
 use memory::priorities;
 use memory::queues;
 use memory::sizes::HEAD_WIDTH;
@@ -15,7 +16,7 @@ use rules::Priority;
 
 pub mod effects;
 
-// The task t becomes ready, at the tail of its queue.
+// The task t, which holds nothing, becomes ready, at the tail of the queue for its base.
 pub fn become_ready(
     head: &mut [u64; HEAD_WIDTH],
     tasks: &mut [u64],
@@ -25,19 +26,19 @@ pub fn become_ready(
     t: usize,
 )
     requires { ⌜ LaidOut (now head) (now tasks) (now held) (now ceilings) (now queues) ⌝ }
-    requires { ⌜ Joins (modelOf (now head) (now tasks) (now held) (now ceilings) (now queues)) t ⌝ }
+    requires { ⌜ Arrives (modelOf (now head) (now tasks) (now held) (now ceilings) (now queues)) t ⌝ }
     ensures { λ u.
         ⌜ Means (now (head .exit)) (now (tasks .exit)) (now (held .entry)) (now (ceilings .entry)) (now (queues .exit))
         (becomeReady
         (modelOf (now (head .entry)) (now (tasks .entry)) (now (held .entry)) (now (ceilings .entry)) (now (queues .entry)))
         t) ⌝ }
 {
-    let p = priorities::active(head, tasks, held, ceilings, queues, t);
+    let p = tasks::base(tasks, t);
     queues::push_tail(head, queues, p, t as u8);
     tasks::set_place(tasks, t, Place::Ready);
 }
 
-// The running task t stops, and goes to the head of its queue.
+// The running task t, whose active priority is p, stops, and goes to the head of its queue.
 pub fn preempt(
     head: &mut [u64; HEAD_WIDTH],
     tasks: &mut [u64],
@@ -45,16 +46,17 @@ pub fn preempt(
     ceilings: &[u8],
     queues: &mut [u8],
     t: usize,
+    p: Priority,
 )
     requires { ⌜ LaidOut (now head) (now tasks) (now held) (now ceilings) (now queues) ⌝ }
     requires { ⌜ Joins (modelOf (now head) (now tasks) (now held) (now ceilings) (now queues)) t ⌝ }
+    requires { ⌜ p .0 ≡ active (modelOf (now head) (now tasks) (now held) (now ceilings) (now queues)) t ⌝ }
     ensures { λ u.
         ⌜ Means (now (head .exit)) (now (tasks .exit)) (now (held .entry)) (now (ceilings .entry)) (now (queues .exit))
         (preempt
         (modelOf (now (head .entry)) (now (tasks .entry)) (now (held .entry)) (now (ceilings .entry)) (now (queues .entry)))
         t) ⌝ }
 {
-    let p = priorities::active(head, tasks, held, ceilings, queues, t);
     queues::push_head(head, queues, p, t as u8);
     tasks::set_place(tasks, t, Place::Ready);
     head[RUNNING_CELL] = 0;
@@ -108,10 +110,10 @@ pub fn dispatch(
         return;
     }
     let t = (running - 1) as usize;
-    let a = priorities::active(head, tasks, held, ceilings, queues, t);
+    let a = priorities::active_inside(head, tasks, held, ceilings, queues, t);
     if p.0 <= a.0 {
         return;
     }
-    preempt(head, tasks, held, ceilings, queues, t);
+    preempt(head, tasks, held, ceilings, queues, t, a);
     start(head, tasks, held, ceilings, queues, p);
 }

@@ -3,6 +3,7 @@ use mathlib.Core.Path.{refl, _∙_}
 use Prim.Native.Nat.{_-_}
 use borrow.Author.Needs.{needs}
 use Rattle.memory.specs.declared.rulings.Ruling.the-variants as Ruling
+use Rattle.rules.proofs.Pending.{t-fair}
 use Rattle.rules.proofs.EventLaws.{enter-2, enter-5, enter-7, enter-8, enter-0}
 use Rattle.moves.proofs.EffectLaws.{holdable, hold-law}
 use Rattle.moves.proofs.EventLaws.{did-not, did-quiet, quiet-enter}
@@ -65,15 +66,15 @@ returns-3 c =
     let held = holds-is v _ _ _ g (at-holds .holds .ensures) ∙ c .if3 .taken in
     did-not Ruling.InsideAction refl d (enter-7 _ _ _ (known-object v _ (at-if1 .if1 .left)) e held)
 
-active-requires : tie.Need-active-requires
-active-requires c κs =
+active-inside-requires : tie.Need-active-inside-requires
+active-inside-requires c κs =
     let at-if2 = c .before .before .before .before in
     let entry = at-if2 .before .before .before .before .before .before .before .before in
     let v = entry .pre in
     let d = v .laid in
     let e = runner v (at-if2 .if2 .left) in
     let g = runner-counted v (at-if2 .if2 .left) in
-    (d, g)
+    (d, (g, t-fair _ _ (good v) e .rises))
 
 shared-slice-read-if4 : tie.Need-shared-slice-read-if4
 shared-slice-read-if4 c = search needs
@@ -97,7 +98,7 @@ returns-4 c =
     let e = runner v (at-if2 .if2 .left) in
     let g = runner-counted v (at-if2 .if2 .left) in
     let free = holds-is v _ _ _ g (at-holds .holds .ensures) ∙ at-if3 .if3 .left in
-    let above = above-ceiling v _ _ _ (at-if1 .if1 .left) (at-active .active .ensures) (c .if4 .taken) in
+    let above = above-ceiling v _ _ _ (at-if1 .if1 .left) (at-active .active-inside .ensures) (c .if4 .taken) in
     did-not Ruling.AboveCeiling refl d (enter-8 _ _ _ (known-object v _ (at-if1 .if1 .left)) e free above)
 
 push-requires : tie.Need-push-requires
@@ -129,7 +130,7 @@ returns-5 c =
     let e = runner v (at-if2 .if2 .left) in
     let g = runner-counted v (at-if2 .if2 .left) in
     let free = holds-is v _ _ _ g (at-holds .holds .ensures) ∙ at-if3 .if3 .left in
-    let within = within-ceiling v _ _ _ (at-if1 .if1 .left) (at-active .active .ensures) (at-if4 .if4 .left) in
+    let within = within-ceiling v _ _ _ (at-if1 .if1 .left) (at-active .active-inside .ensures) (at-if4 .if4 .left) in
     did-quiet (hold-law d _ _ g (at-push .push .ensures)) (quiet-enter _ _ _ (good v) e)
     (enter-0 _ _ _ (known-object v _ (at-if1 .if1 .left)) e free within)
 
@@ -146,7 +147,7 @@ enter-spec =
     holds-requires
     same-length
     returns-3
-    active-requires
+    active-inside-requires
     shared-slice-read-if4
     same-length-2
     returns-4

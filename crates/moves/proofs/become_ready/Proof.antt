@@ -2,30 +2,32 @@
 use Prim.Native.Nat.{_-_}
 use native.Mathlib.Omega.{arith}
 use borrow.Author.Needs.{needs}
-use Rattle.moves.proofs.MoveLaws.{counted, writable, open-queue, ready-law}
+use Rattle.moves.proofs.MoveLaws.{counted, writable, open-queue, base-level, ready-law}
 use Rattle.moves.proofs.become_ready.Statement.{statement}
 use Rattle.moves.proofs.become_ready.Tie as tie
 
-active-requires : tie.Need-active-requires
-active-requires c κs =
-    let entry = c .before .before .before .before .before .before .before in
-    (entry .pre .0, counted (entry .pre .0) (entry .pre .1 .there))
+base-requires : tie.Need-base-requires
+base-requires c κs =
+    let entry = c .before .before .before .before .before in
+    writable (entry .pre .0) (entry .pre .1 .joins .there)
 
 cast-push-tail : tie.Need-cast-push-tail
 cast-push-tail c =
-    let entry = c .before .before .before .before .before .before .before .before .before .before in
-    omega (arith, writable (entry .pre .0) (entry .pre .1 .there) .0)
+    let entry = c .before .before .before .before .before .before .before .before in
+    omega (arith, writable (entry .pre .0) (entry .pre .1 .joins .there) .0)
 
 push-tail-requires : tie.Need-push-tail-requires
 push-tail-requires c κs =
-    let at-active = c .before .before in
-    let entry = at-active .before .before .before .before .before .before .before .before in
-    open-queue (entry .pre .0) _ (entry .pre .1) (at-active .active .ensures)
+    let at-base = c .before .before in
+    let entry = at-base .before .before .before .before .before .before in
+    let d = entry .pre .0 in
+    let a = entry .pre .1 in
+    open-queue d _ (a .joins) (base-level d _ _ (counted d (a .joins .there)) (a .bare) (at-base .base .ensures))
 
 set-place-requires : tie.Need-set-place-requires
 set-place-requires c κs =
-    let entry = c .before .before .before .before .before .before .before .before .before .before .before .before .before .before in
-    writable (entry .pre .0) (entry .pre .1 .there)
+    let entry = c .before .before .before .before .before .before .before .before .before .before .before .before in
+    writable (entry .pre .0) (entry .pre .1 .joins .there)
 
 same-length : tie.Need-same-length
 same-length c = search needs
@@ -37,16 +39,18 @@ returns : tie.Need-returns
 returns c =
     let at-set-place = c .before .before in
     let at-push-tail = at-set-place .before .before .before .before in
-    let at-active = at-push-tail .before .before .before in
-    let entry = at-active .before .before .before .before .before .before .before .before in
-    ready-law (entry .pre .0) _ _ (entry .pre .1 .there) (at-active .active .ensures) (at-push-tail .push-tail .ensures)
-    (at-set-place .set-place .ensures)
+    let at-base = at-push-tail .before .before .before in
+    let entry = at-base .before .before .before .before .before .before in
+    let d = entry .pre .0 in
+    let a = entry .pre .1 in
+    let level = base-level d _ _ (counted d (a .joins .there)) (a .bare) (at-base .base .ensures) in
+    ready-law d _ _ (a .joins .there) level (at-push-tail .push-tail .ensures) (at-set-place .set-place .ensures)
 
 pub become-ready-spec : {M : Type 1} → statement M
 become-ready-spec =
     tie.close
     (tie.spec
-    active-requires
+    base-requires
     cast-push-tail
     push-tail-requires
     set-place-requires

@@ -53,12 +53,13 @@ returns-2 c =
 sub-t : tie.Need-sub-t
 sub-t c = search needs
 
-active-requires : tie.Need-active-requires
-active-requires c κs =
+active-inside-requires : tie.Need-active-inside-requires
+active-inside-requires c κs =
     let at-if1 = c .before .before .before in
     let entry = at-if1 .before .before .before .before .before .before .before .before .before in
     let d = entry .pre .0 in
-    (d, counted d (entry .pre .1 .runner _ (busy d (at-if1 .if1 .left)) .there))
+    let e = busy d (at-if1 .if1 .left) in
+    (d, (counted d (entry .pre .1 .runner _ e .there), entry .pre .1 .rises _ e))
 
 same-length-4 : tie.Need-same-length-4
 same-length-4 c = search needs
@@ -74,14 +75,15 @@ returns-3 c =
     let entry = at-highest .before .before .before .before .before .before .before in
     let d = entry .pre .0 in
     means-by (as-laid d)
-    (stay-way _ _ (at-highest .highest .ensures) _ _ (busy d (at-if1 .if1 .left)) (at-active .active .ensures) (c .if3 .taken))
+    (stay-way _ _ (at-highest .highest .ensures) _ _ (busy d (at-if1 .if1 .left)) (at-active .active-inside .ensures) (c .if3 .taken))
 
 preempt-requires : tie.Need-preempt-requires
 preempt-requires c κs =
-    let at-if1 = c .before .before .before .before .before .before .before .before .before .before in
+    let at-active = c .before .before .before .before .before .before in
+    let at-if1 = at-active .before .before .before .before in
     let entry = at-if1 .before .before .before .before .before .before .before .before .before in
     let d = entry .pre .0 in
-    (d, entry .pre .1 .runner _ (busy d (at-if1 .if1 .left)))
+    (d, (entry .pre .1 .runner _ (busy d (at-if1 .if1 .left)), at-active .active-inside .ensures))
 
 start-requires-2 : tie.Need-start-requires-2
 start-requires-2 c κs =
@@ -95,7 +97,7 @@ start-requires-2 c κs =
     let joins = entry .pre .1 .runner _ (busy d (at-if1 .if1 .left)) in
     let starts = highest-starts _ _ (entry .pre .1) (at-highest .highest .ensures) (λ e. omega (arith, at-if3 .if3 .left)) in
     let x = at-preempt .preempt .ensures in
-    let s = preempted-starts _ _ _ starts (omega (arith, at-active .active .ensures, at-if3 .if3 .left)) (joins .level .low) in
+    let s = preempted-starts _ _ _ starts (omega (arith, at-active .active-inside .ensures, at-if3 .if3 .left)) (joins .level .low) in
     (x .laid, rw (x .same) s)
 
 same-length-6 : tie.Need-same-length-6
@@ -117,7 +119,7 @@ returns-4 c =
     let p = at-highest .highest .result .0 in
     let x = then-means (λ (m : Model). start m p) (at-preempt .preempt .ensures) (at-start2 .start2 .ensures) in
     means-by x
-    (switch-way _ _ (at-highest .highest .ensures) _ _ (busy d (at-if1 .if1 .left)) (at-active .active .ensures) (at-if3 .if3 .left))
+    (switch-way _ _ (at-highest .highest .ensures) _ _ (busy d (at-if1 .if1 .left)) (at-active .active-inside .ensures) (at-if3 .if3 .left))
 
 pub dispatch-spec : {M : Type 1} → statement M
 dispatch-spec =
@@ -132,7 +134,7 @@ dispatch-spec =
     same-length-3
     returns-2
     sub-t
-    active-requires
+    active-inside-requires
     same-length-4
     same-length-5
     returns-3

@@ -37,7 +37,7 @@ expect-requires c κs = c .before .before .before .before .before .before .befor
 set-place-requires : tie.Need-set-place-requires
 set-place-requires c κs =
     let entry = c .before .before .before .before .before .before .before .before .before in
-    writable (entry .pre .0) (entry .pre .1 .0 .there)
+    writable (entry .pre .0) (entry .pre .1 .0 .joins .there)
 
 same-length-3 : tie.Need-same-length-3
 same-length-3 c = search needs
@@ -49,7 +49,7 @@ returns-2 c =
     let at-if1 = at-expect .before .before .before in
     let entry = at-if1 .before .before .before .before .before in
     let d = entry .pre .0 in
-    let g = counted d (entry .pre .1 .0 .there) in
+    let g = counted d (entry .pre .1 .0 .joins .there) in
     means-by (until-law d _ _ g (at-expect .expect .ensures) (at-set-place .set-place .ensures))
     (sym (put-until _ _ _ (ne-eqb _ 0 (at-if1 .if1 .left))))
 

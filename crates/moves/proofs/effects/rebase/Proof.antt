@@ -5,7 +5,7 @@ use borrow.Author.Needs.{needs}
 use Rattle.rules.specs.Events.{requeue}
 use Rattle.rules.specs.Model.{Model}
 use Rattle.rules.proofs.EventLaws.{rebase-inside, rebase-outside}
-use Rattle.moves.proofs.EffectLaws.{readable, holdable, wait-law, inside-is, outside-is}
+use Rattle.moves.proofs.EffectLaws.{readable, holdable, wait-law, inside-is, outside-is, outside-level}
 use Rattle.memory.proofs.MemoryLaws.{means-by, then-means, place-is, base-law}
 use Rattle.moves.proofs.MoveLaws.{counted}
 use Rattle.moves.proofs.effects.rebase.Statement.{statement}
@@ -39,23 +39,22 @@ returns c =
     let in-action = inside-is d _ _ g (at-depth .depth .ensures) (at-if1 .if1 .taken) in
     means-by (wait-law d _ _ g (at-set-waiting .set-waiting .ensures)) (sym (rebase-inside _ _ _ in-action))
 
-active-requires : tie.Need-active-requires
-active-requires c κs =
-    let entry = c .before .before .before .before .before .before .before .before .before in
+base-requires : tie.Need-base-requires
+base-requires c κs =
+    let entry = c .before .before .before .before .before .before .before in
     let d = entry .pre .0 in
-    let g = counted d (entry .pre .1 .there) in
-    (d, g)
+    readable d _ (counted d (entry .pre .1 .there))
 
 place-requires : tie.Need-place-requires
 place-requires c κs =
-    let entry = c .before .before .before .before .before .before .before .before .before .before .before in
+    let entry = c .before .before .before .before .before .before .before .before .before in
     let d = entry .pre .0 in
     let g = counted d (entry .pre .1 .there) in
     readable d _ g
 
 set-base-requires : tie.Need-set-base-requires
 set-base-requires c κs =
-    let entry = c .before .before .before .before .before .before .before .before .before .before .before .before .before in
+    let entry = c .before .before .before .before .before .before .before .before .before .before .before in
     let d = entry .pre .0 in
     let g = counted d (entry .pre .1 .there) in
     readable d _ g
@@ -64,16 +63,17 @@ requeue-requires : tie.Need-requeue-requires
 requeue-requires c κs =
     let at-set-base = c .before .before .before .before .before in
     let at-place = at-set-base .before .before in
-    let at-active = at-place .before .before in
-    let at-if1 = at-active .before .before .before .before in
+    let at-base = at-place .before .before in
+    let at-if1 = at-base .before .before in
     let at-depth = at-if1 .before in
     let entry = at-depth .before .before .before .before .before in
     let d = entry .pre .0 in
     let g = counted d (entry .pre .1 .there) in
     let bare = outside-is d _ _ g (at-depth .depth .ensures) (at-if1 .if1 .left) in
+    let level = outside-level d _ _ _ g (at-depth .depth .ensures) (at-if1 .if1 .left) (at-base .base .ensures) in
     let x = base-law d _ _ g (at-set-base .set-base .ensures) in
     let place = at-place .place .ensures ∙ sym (place-is d _ g) in
-    (x .laid, rw (x .same, at-active .active .ensures, place) (entry .pre .1 .outside bare))
+    (x .laid, rw (x .same, level, place) (entry .pre .1 .outside bare))
 
 same-length-2 : tie.Need-same-length-2
 same-length-2 c = search needs
@@ -86,20 +86,21 @@ returns-2 c =
     let at-requeue = c .before .before .before .before in
     let at-set-base = at-requeue .before .before .before .before .before .before in
     let at-place = at-set-base .before .before in
-    let at-active = at-place .before .before in
-    let at-if1 = at-active .before .before .before .before in
+    let at-base = at-place .before .before in
+    let at-if1 = at-base .before .before in
     let at-depth = at-if1 .before in
     let entry = at-depth .before .before .before .before .before in
     let d = entry .pre .0 in
     let g = counted d (entry .pre .1 .there) in
     let bare = outside-is d _ _ g (at-depth .depth .ensures) (at-if1 .if1 .left) in
+    let level = outside-level d _ _ _ g (at-depth .depth .ensures) (at-if1 .if1 .left) (at-base .base .ensures) in
     let t = entry .args .t in
     let x = base-law d _ _ g (at-set-base .set-base .ensures) in
     let place = at-place .place .ensures ∙ sym (place-is d _ g) in
     let y =
-    then-means (λ (m : Model). requeue m t (at-active .active .result .0) (at-place .place .result)) x
+    then-means (λ (m : Model). requeue m t (at-base .base .result .0) (at-place .place .result)) x
     (at-requeue .requeue .ensures) in
-    means-by y (rw (at-active .active .ensures, place) (sym (rebase-outside _ t _ bare)))
+    means-by y (rw (level, place) (sym (rebase-outside _ t _ bare)))
 
 pub rebase-spec : {M : Type 1} → statement M
 rebase-spec =
@@ -109,7 +110,7 @@ rebase-spec =
     set-waiting-requires
     same-length
     returns
-    active-requires
+    base-requires
     place-requires
     set-base-requires
     requeue-requires
