@@ -6,10 +6,10 @@ use Prim.Native.Nat.{ℕ, zero, suc, _+_, _-_, _≤_, _<_}
 use native.Mathlib.Omega.{arith}
 use borrow.Author.Tests.{le-leb, lt-leb, eq-eqb, ne-eqb, leb-true, leb-false}
 use lib.Dec.{eqb, leb, ltb, leb·zero}
-use lib.ListN.{length, take, getD, List·getD-eq-default}
+use lib.ListN.{length, take, getD}
 use Rattle.rules.specs.Limits.{taskLimit, objectLimit, lastPriority, lastReading}
 use Rattle.rules.specs.Priorities.{inRange}
-use Rattle.rules.specs.Model.{Model, TaskRecord, blank, highestOf, active, taskAt, queue}
+use Rattle.rules.specs.Model.{Model, active, taskAt}
 use Rattle.rules.specs.Moves.{highestTo, highest}
 use Rattle.rules.specs.Fresh.{countsGood}
 use Rattle.rules.specs.Events.{noTask, inside}
@@ -22,8 +22,9 @@ use Rattle.marks.specs.Marks.{marksOf}
 use Rattle.memory.specs.Rows.{queueWidth, queuesIn, queueIn, heldBy}
 use Rattle.memory.specs.Tasks.{taskIn}
 use Rattle.memory.specs.Memory.{nowCell, runningCell, taskCountIn, objectCountIn, marksIn, runnerOf, waitingIn, modelOf, LaidOut}
+use Rattle.rules.proofs.Choices.{compare}
 use Rattle.rules.proofs.SoundLaws.{stands-is}
-use Rattle.soundness.proofs.TestedLaws.{tested}
+use Rattle.soundness.proofs.TestedLaws.{tested, active-none}
 use Rattle.soundness.specs.Tested.{heldGoodAt, holderHere, waitsInside, taskSound, queueSound}
 use Rattle.memory.proofs.GridLaws.{list-count}
 use Rattle.memory.proofs.MemoryLaws.{count-is, objects-is, task-is, held-is, place-is, waiting-is}
@@ -75,13 +76,12 @@ module _ {h ts hd cs qs : List ℕ} (d : LaidOut h ts hd cs qs) where
         runner zero = sym (leb·zero (taskCountIn h))
         runner (suc t) = below-is (length (modelOf h ts hd cs qs .tasks)) t ∙ ap (leb (suc t)) (count-is d)
 
-  -- active priorities; that of no task is 0
+  -- active priorities; that of no task is 0, and no queue is for 0
   pub active-out : (t : ℕ) → taskCountIn h ≤ t → 0 ≡ active (modelOf h ts hd cs qs) t
-  unfolding highestOf
-  active-out t g =
-      let none : taskAt (modelOf h ts hd cs qs) t ≡ blank =
-      List·getD-eq-default (modelOf h ts hd cs qs .tasks) blank {n = t} (omega (arith, count-is d)) in
-      sym (ap (λ (k : TaskRecord). highestOf (modelOf h ts hd cs qs .ceilings) (k .base) (k .held)) none)
+  active-out t g = sym (active-none (modelOf h ts hd cs qs) t (omega (arith, count-is d)))
+
+  pub active-in : (t p : ℕ) → 0 < p → active (modelOf h ts hd cs qs) t ≡ p → t < taskCountIn h
+  active-in t p g e = compare (taskCountIn h) t (λ f. absurd (omega (arith, g, e, active-out t f))) (λ f. f)
 
   -- a task's record
   pub record-is : (t : ℕ) → t < taskCountIn h → recordGood (modelOf h ts hd cs qs) (taskAt (modelOf h ts hd cs qs) t) ≡
@@ -111,13 +111,6 @@ module _ {h ts hd cs qs : List ℕ} (d : LaidOut h ts hd cs qs) where
       (ltb 0 n || isNone (waitingIn w)) ≡ waitsInside (taskAt (modelOf h ts hd cs qs) t)
   waits-one t n w g e f = rw (e, f, task-is d t g)
 
-  -- a queue's tasks
-  pub queue-one : (p : ℕ) → queueSound (modelOf h ts hd cs qs) p ≡
-      (allOf (λ t. not (leb (taskCountIn h) t)) (queueIn qs p) &&
-      allOf (λ t. eqb (active (modelOf h ts hd cs qs) t) p) (queue (modelOf h ts hd cs qs) p))
-  unfolding queueSound
-  queue-one p = rw (count-is d)
-
 -- who runs is not below a ready task
 pub idle-top : (m : Model) (v p : ℕ) → v ≡ 0 → p ≡ highestTo (m .ready) lastPriority → eqb p 0 ≡ highestRuns m (runnerOf v)
 unfolding highestRuns highest runnerOf
@@ -141,8 +134,8 @@ module _ {h ts hd cs qs : List ℕ} (d : LaidOut h ts hd cs qs) (w : ℕ) (b : B
 -- all clauses
 pub tested-all : {h ts hd cs qs : List ℕ} (d : LaidOut h ts hd cs qs) → tested (modelOf h ts hd cs qs) ≡
     (sizesGood (modelOf h ts hd cs qs) && runnerGood (modelOf h ts hd cs qs) (runnerOf (getD h runningCell 0)) &&
-    highestRuns (modelOf h ts hd cs qs) (runnerOf (getD h runningCell 0)) && below (taskCountIn h) (taskSound (modelOf h ts hd cs qs)) &&
-    eachPriority (queueSound (modelOf h ts hd cs qs)))
+    highestRuns (modelOf h ts hd cs qs) (runnerOf (getD h runningCell 0)) && eachPriority (queueSound (modelOf h ts hd cs qs)) &&
+    below (taskCountIn h) (taskSound (modelOf h ts hd cs qs)))
 unfolding tested
 tested-all d = rw (count-is d)
 

@@ -1,18 +1,18 @@
 -- Laws of the test of soundness: its clauses regrouped, and the loops of each clause.
 use mathlib.Core.Path.{_≡_, ap, _∙_, sym}
 use mathlib.Core.Bool.{Bool, true, false, not, _&&_}
-use mathlib.Core.List.{List, []}
+use mathlib.Core.List.{List}
 use Prim.Native.Nat.{ℕ, suc, _+_, _-_, _≤_, _<_}
 use native.Mathlib.Numerals.{add-one}
 use native.Mathlib.Omega.{arith}
-use borrow.Author.Tests.{le-leb, lt-leb, lt-ltb, le-ltb, leb-true}
+use borrow.Author.Tests.{le-leb, lt-leb, lt-ltb, le-ltb, leb-true, eqb-true}
 use lib.Dec.{eqb, leb, ltb}
-use lib.ListN.{length, drop, getD, drop-of-length-le}
+use lib.ListN.{length, drop, getD, drop-of-length-le, List·getD-eq-default}
 use lib.Seq.{drop-cons}
 use Rattle.rules.specs.Limits.{lastPriority, lastDelay}
-use Rattle.rules.specs.Model.{Model, taskAt, queue, ceilingOf, active}
+use Rattle.rules.specs.Model.{Model, TaskRecord, blank, taskAt, queue, ceilingOf, highestOf, active}
 use Rattle.rules.specs.Events.{noTask}
-use Rattle.rules.specs.Sound.{sizesGood, recordGood, runnerGood, runs, queued}
+use Rattle.rules.specs.Sound.{sizesGood, recordGood, runnerGood, runs}
 use Rattle.rules.specs.Sound.{highestRuns, dueGood, rising, eachTask, eachPriority}
 use Rattle.rules.specs.Sound.{numbersGood, inOnePlace, onePlace, ownQueue, dueAhead, heldGood, holdersHere, waitingInside, sound}
 use Rattle.rules.specs.declared.Place.{Place}
@@ -20,7 +20,8 @@ use Rattle.rules.specs.declared.Place.the-variants.{Delayed}
 use Rattle.rules.specs.declared.Runner.{Runner}
 use Rattle.rules.specs.declared.Runner.the-variants.{Task}
 use Rattle.rules.specs.Lists.{allOf, timesIn, below}
-use Rattle.rules.proofs.Choices.{and-left, and-right, and-make}
+use Rattle.rules.proofs.Choices.{compare, and-left, and-right, and-make}
+use Rattle.rules.proofs.HeldLaws.{all-at, all-make}
 use Rattle.rules.proofs.TaskLaws.{runs-self, runs-apart}
 use Rattle.rules.proofs.SoundLaws.{below-at, below-make}
 use Rattle.memory.specs.Memory.{runnerOf}
@@ -30,8 +31,8 @@ use Rattle.memory.proofs.TestLaws.{same-test, fails-first, holds-first}
 -- all clauses
 unfoldable pub tested : Model → Bool
 tested m =
-    sizesGood m && runnerGood m (m .running) && highestRuns m (m .running) && below (length (m .tasks)) (taskSound m) &&
-    eachPriority (queueSound m)
+    sizesGood m && runnerGood m (m .running) && highestRuns m (m .running) && eachPriority (queueSound m) &&
+    below (length (m .tasks)) (taskSound m)
 
 -- ceilings that do not fall, in a loop from the front
 module _ (cs : List ℕ) (b low i : ℕ) (l : List ℕ) (e : rising cs b l ≡ rising cs low (drop i l)) where
@@ -77,20 +78,6 @@ module _ (v t : ℕ) (n : v ≡ 0 → ⊥) where
   pub named-other : (v - 1 ≡ t → ⊥) → runs (runnerOf v) t ≡ 0
   named-other k = ap (λ (w : Runner). runs w t) is-task ∙ runs-apart (v - 1) t (λ e. k (sym e))
 
--- how often t stands in the queues, in a loop from the first on: n times before i
-module _ (t n i : ℕ) (qs : List (List ℕ)) (e : n + queued (drop i qs) t ≡ queued qs t) where
-  pub queued-more : (c : ℕ) → i < length qs → c ≡ timesIn t (getD qs i []) → (n + c) + queued (drop (i + 1) qs) t ≡ queued qs t
-  unfolding queued
-  queued-more c h f =
-      let step : queued (drop i qs) t ≡ timesIn t (getD qs i []) + queued (drop (suc i) qs) t = rw (drop-cons qs i [] h) in
-      rw (add-one i) (omega (arith, e, step, f))
-
-  pub queued-end : length qs ≤ i → n ≡ queued qs t
-  unfolding queued
-  queued-end h =
-      let none : queued (drop i qs) t ≡ 0 = rw (drop-of-length-le qs {i = i} h) in
-      omega (arith, e, none)
-
 -- "and" of several, taken apart and made
 four-each : (a b c d : Bool) → (a && b && c && d) ≡ true → (a ≡ true) × (b ≡ true) × (c ≡ true) × (d ≡ true)
 four-each a b c d e =
@@ -119,8 +106,20 @@ eight-each a b c d e f g h i =
     let x = six-each a b c d e f (and-left (a && b && c && d && e && f) g seven) in
     (x .0, x .1, x .2, x .3, x .4, x .5, and-right (a && b && c && d && e && f) g seven, and-right (a && b && c && d && e && f && g) h i)
 
+-- the active priority of no task is 0, and a number that has one is a task's
+pub active-none : (m : Model) (t : ℕ) → length (m .tasks) ≤ t → active m t ≡ 0
+unfolding highestOf
+active-none m t h =
+    ap (λ (k : TaskRecord). highestOf (m .ceilings) (k .base) (k .held)) (List·getD-eq-default (m .tasks) blank {n = t} h)
+
 -- the clauses of a Model that passes the one test, and the other
 module _ (m : Model) where
+  active-task : (t : ℕ) → 0 < active m t → not (noTask m t) ≡ true
+  active-task t h =
+      let few : t < length (m .tasks) =
+      compare (length (m .tasks)) t (λ g. absurd (omega (arith, h, active-none m t g))) (λ g. g) in
+      ap not (lt-leb (length (m .tasks)) t few)
+
   at-task : (below (length (m .tasks)) (taskSound m) ≡ true) → (t : ℕ) → t < length (m .tasks) →
       (recordGood m (taskAt m t) ≡ true) × (inOnePlace m t ≡ true) × (dueGood (m .now) (taskAt m t .place) ≡ true) ×
       (heldGoodAt m (taskAt m t) ≡ true) × (holderHere (taskAt m t) ≡ true) × (waitsInside (taskAt m t) ≡ true)
@@ -133,18 +132,18 @@ module _ (m : Model) where
       (allOf (λ t. not (noTask m t)) (queue m (suc p)) ≡ true) × (allOf (λ t. eqb (active m t) (suc p)) (queue m (suc p)) ≡ true)
   unfolding queueSound
   at-queue e p h =
-      let both = below-at lastPriority (λ q. queueSound m (suc q)) e p h in
-      let known = allOf (λ t. not (noTask m t)) (queue m (suc p)) in
-      let own = allOf (λ t. eqb (active m t) (suc p)) (queue m (suc p)) in
-      (and-left known own both, and-right known own both)
+      let own = below-at lastPriority (λ q. queueSound m (suc q)) e p h in
+      let level : (u : ℕ) → 0 < timesIn u (queue m (suc p)) → active m u ≡ suc p = λ u g.
+      eqb-true (active m u) (suc p) (all-at (λ t. eqb (active m t) (suc p)) (queue m (suc p)) own u g) in
+      (all-make (λ t. not (noTask m t)) (queue m (suc p)) (λ u g. active-task u (omega (arith, level u g))), own)
 
   tested-sound : tested m ≡ true → sound m ≡ true
   unfolding tested sound numbersGood onePlace ownQueue dueAhead heldGood holdersHere waitingInside
   tested-sound e =
       let x = five-each (sizesGood m) (runnerGood m (m .running)) (highestRuns m (m .running))
-      (below (length (m .tasks)) (taskSound m)) (eachPriority (queueSound m)) e in
-      let task = at-task (x .3) in
-      let line = at-queue (x .4) in
+      (eachPriority (queueSound m)) (below (length (m .tasks)) (taskSound m)) e in
+      let line = at-queue (x .3) in
+      let task = at-task (x .4) in
       let count = length (m .tasks) in
       let records = below-make count (λ t. recordGood m (taskAt m t)) (λ t h. task t h .0) in
       let known = below-make lastPriority (λ p. allOf (λ t. not (noTask m t)) (queue m (suc p))) (λ p h. line p h .0) in
@@ -173,12 +172,9 @@ module _ (m : Model) where
         below-at count (λ t. holderHere (taskAt m t)) (x .6) t h,
         below-at count (λ t. waitsInside (taskAt m t)) (x .7) t h,
       )) in
-      let lines = below-make lastPriority (λ p. queueSound m (suc p)) (λ p h.
-      rw (
-        below-at lastPriority (λ p. allOf (λ t. not (noTask m t)) (queue m (suc p))) (y .3) p h,
-        below-at lastPriority (λ p. allOf (λ t. eqb (active m t) (suc p)) (queue m (suc p))) (x .2) p h,
-      )) in
-      rw (y .0, y .2, x .4, tasks, lines)
+      let lines = below-make lastPriority (λ p. queueSound m (suc p))
+      (below-at lastPriority (λ p. allOf (λ t. eqb (active m t) (suc p)) (queue m (suc p))) (x .2)) in
+      rw (y .0, y .2, x .4, lines, tasks)
 
 pub tested-is : (m : Model) → tested m ≡ sound m
 tested-is m = same-test (tested m) (sound m) (tested-sound m) (sound-tested m)

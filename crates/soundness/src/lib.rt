@@ -1,20 +1,21 @@
 // Internal: pub only for our own crates. The test of soundness, clause by clause as in specs/Sound.antt of crate rules, of slices
 // that are laid out, and of the word of marks.
 ghost use mathlib.Core.Path.{_≡_};
-ghost use mathlib.Core.Bool.{not, _&&_, _||_};
-ghost use Prim.Native.Nat.{_+_, _≤_, _<_};
+ghost use mathlib.Core.Bool.{true, not, _&&_, _||_};
+ghost use mathlib.Core.List.{[]};
+ghost use Prim.Native.Nat.{_+_, _-_, _≤_, _<_};
 ghost use lib.Dec.{eqb, leb, ltb};
-ghost use lib.ListN.{length, take, getD};
+ghost use lib.ListN.{length, take, drop, getD};
 ghost use Rattle.rules.specs.Limits.{taskLimit, lastReading};
 ghost use Rattle.rules.specs.Priorities.{inRange};
-ghost use Rattle.rules.specs.Model.{taskAt, queue, active};
-ghost use Rattle.rules.specs.Sound.{eachPriority, waitingGood, recordGood, runs, isRunning, isReady, queued, dueGood, isNone};
+ghost use Rattle.rules.specs.Model.{taskAt, active};
+ghost use Rattle.rules.specs.Sound.{eachPriority, waitingGood, recordGood, runs, isRunning, isReady, dueGood, isNone};
 ghost use Rattle.rules.specs.Sound.{inOnePlace, rising, sizesGood, runnerGood, highestRuns, sound};
 ghost use Rattle.rules.specs.Lists.{allOf, below};
 ghost use Rattle.marks.specs.Marks.{marksOf};
-ghost use Rattle.memory.specs.Rows.{HasQueue, queuesIn, Queues, heldBy, Held};
+ghost use Rattle.memory.specs.Rows.{HasQueue, queuesIn, heldBy, Held};
 ghost use Rattle.memory.specs.Memory.{nowCell, runningCell, taskCountIn, objectCountIn, runnerOf, waitingIn, modelOf, LaidOut};
-ghost use Rattle.soundness.specs.Tested.{heldGoodAt, taskSound, queueSound};
+ghost use Rattle.soundness.specs.Tested.{heldGoodAt, taskSound, queueSound, Counted};
 use memory::held;
 use memory::priorities;
 use memory::queues;
@@ -27,6 +28,7 @@ use memory::sizes::NOW_CELL;
 use memory::sizes::OBJECTS_CELL;
 use memory::sizes::QUEUE_WIDTH;
 use memory::sizes::RUNNING_CELL;
+use memory::sizes::TASK_LIMIT;
 use memory::sizes::TASKS_CELL;
 use memory::tasks;
 use rules::Place;
@@ -105,21 +107,6 @@ fn named(running: u64, t: usize) -> usize
         return 1;
     }
     0
-}
-
-// How often t stands in the ready queues.
-fn count_queued(queues: &[u8], t: u8) -> usize
-    requires { ⌜ Queues (now queues) ⌝ }
-    ensures { λ r. ⌜ r ≡ queued (queuesIn (now (queues .entry))) t ⌝ }
-{
-    let last = Priority::LAST;
-    let mut n: usize = 0;
-    let mut p: u8 = 0;
-    while p < last.0 {
-        p += 1;
-        n += queues::count(queues, Priority(p), t);
-    }
-    n
 }
 
 fn ceilings_good(ceilings: &[u8], n: usize) -> bool
@@ -289,10 +276,12 @@ fn one_place(
     held: &[u8],
     ceilings: &[u8],
     queues: &[u8],
+    counts: &[u16],
     t: usize,
 ) -> bool
     requires { ⌜ LaidOut (now head) (now tasks) (now held) (now ceilings) (now queues) ⌝ }
     requires { ⌜ t < taskCountIn (now head) ⌝ }
+    requires { ⌜ Counted (now counts) [] (queuesIn (now queues)) ⌝ }
     ensures { λ r.
         ⌜ r ≡
         inOnePlace
@@ -303,7 +292,7 @@ fn one_place(
     if named(head[RUNNING_CELL], t) != is_running(place) {
         return false;
     }
-    count_queued(queues, t as u8) == is_ready(place)
+    counts[t] as usize == is_ready(place)
 }
 
 // What t holds is held once, with ceilings that do not fall.
@@ -339,10 +328,12 @@ fn task_good(
     held: &[u8],
     ceilings: &[u8],
     queues: &[u8],
+    counts: &[u16],
     t: usize,
 ) -> bool
     requires { ⌜ LaidOut (now head) (now tasks) (now held) (now ceilings) (now queues) ⌝ }
     requires { ⌜ t < taskCountIn (now head) ⌝ }
+    requires { ⌜ Counted (now counts) [] (queuesIn (now queues)) ⌝ }
     ensures { λ r.
         ⌜ r ≡
         taskSound
@@ -352,7 +343,7 @@ fn task_good(
     if !record_good(head, tasks, held, ceilings, queues, t) {
         return false;
     }
-    if !one_place(head, tasks, held, ceilings, queues, t) {
+    if !one_place(head, tasks, held, ceilings, queues, counts, t) {
         return false;
     }
     let place = tasks::place(tasks, t);
@@ -375,8 +366,10 @@ fn tasks_good(
     held: &[u8],
     ceilings: &[u8],
     queues: &[u8],
+    counts: &[u16],
 ) -> bool
     requires { ⌜ LaidOut (now head) (now tasks) (now held) (now ceilings) (now queues) ⌝ }
+    requires { ⌜ Counted (now counts) [] (queuesIn (now queues)) ⌝ }
     ensures { λ r.
         ⌜ r ≡
         below (taskCountIn (now (head .entry)))
@@ -386,7 +379,7 @@ fn tasks_good(
     let n = head[TASKS_CELL] as usize;
     let mut t: usize = 0;
     while t < n {
-        if !task_good(head, tasks, held, ceilings, queues, t) {
+        if !task_good(head, tasks, held, ceilings, queues, counts, t) {
             return false;
         }
         t += 1;
@@ -394,29 +387,26 @@ fn tasks_good(
     true
 }
 
-// All tasks in the queue for p have the active priority p.
-fn own_queue(
+// All tasks in the queue for p have the active priority p, so that each is a task; and each entry is counted.
+fn queue_good(
     head: &[u64; HEAD_WIDTH],
     tasks: &[u64],
     held: &[u8],
     ceilings: &[u8],
     queues: &[u8],
+    counts: &mut [u16],
     p: Priority,
 ) -> bool
     requires { ⌜ LaidOut (now head) (now tasks) (now held) (now ceilings) (now queues) ⌝ }
     requires { ⌜ HasQueue (p .0) ⌝ }
+    requires { ⌜ Counted (now counts) (drop (p .0 - 1) (queuesIn (now queues))) (queuesIn (now queues)) ⌝ }
     ensures { λ r.
         ⌜ r ≡
-        allOf
-        (λ t.
-        eqb
-        (active
+        queueSound
         (modelOf (now (head .entry)) (now (tasks .entry)) (now (held .entry)) (now (ceilings .entry)) (now (queues .entry)))
-        t)
-        (p .0))
-        (queue
-        (modelOf (now (head .entry)) (now (tasks .entry)) (now (held .entry)) (now (ceilings .entry)) (now (queues .entry)))
-        (p .0)) ⌝ }
+        (p .0) ⌝ }
+    ensures { λ r.
+        ⌜ (r ≡ true → Counted (now (counts .exit)) (drop (p .0) (queuesIn (now (queues .entry)))) (queuesIn (now (queues .entry)))) ⌝ }
 {
     let row = (p.0 as usize - 1) * QUEUE_WIDTH;
     let size = queues[row] as usize;
@@ -427,52 +417,34 @@ fn own_queue(
         if a.0 != p.0 {
             return false;
         }
+        counts[t] += 1;
         i += 1;
     }
     true
 }
 
-// All clauses about the queue for p.
-fn queue_good(
-    head: &[u64; HEAD_WIDTH],
-    tasks: &[u64],
-    held: &[u8],
-    ceilings: &[u8],
-    queues: &[u8],
-    p: Priority,
-) -> bool
-    requires { ⌜ LaidOut (now head) (now tasks) (now held) (now ceilings) (now queues) ⌝ }
-    requires { ⌜ HasQueue (p .0) ⌝ }
-    ensures { λ r.
-        ⌜ r ≡
-        queueSound
-        (modelOf (now (head .entry)) (now (tasks .entry)) (now (held .entry)) (now (ceilings .entry)) (now (queues .entry)))
-        (p .0) ⌝ }
-{
-    if !queues::all_below(queues, p, head[TASKS_CELL] as usize) {
-        return false;
-    }
-    own_queue(head, tasks, held, ceilings, queues, p)
-}
-
+// All clauses about the queues; and how often each task stands in them, in one pass.
 fn queues_good(
     head: &[u64; HEAD_WIDTH],
     tasks: &[u64],
     held: &[u8],
     ceilings: &[u8],
     queues: &[u8],
+    counts: &mut [u16],
 ) -> bool
     requires { ⌜ LaidOut (now head) (now tasks) (now held) (now ceilings) (now queues) ⌝ }
+    requires { ⌜ Counted (now counts) (queuesIn (now queues)) (queuesIn (now queues)) ⌝ }
     ensures { λ r.
         ⌜ r ≡
         eachPriority
         (queueSound
         (modelOf (now (head .entry)) (now (tasks .entry)) (now (held .entry)) (now (ceilings .entry)) (now (queues .entry)))) ⌝ }
+    ensures { λ r. ⌜ (r ≡ true → Counted (now (counts .exit)) [] (queuesIn (now (queues .entry)))) ⌝ }
 {
     let last = Priority::LAST;
     let mut p: u8 = 0;
     while p < last.0 {
-        if !queue_good(head, tasks, held, ceilings, queues, Priority(p + 1)) {
+        if !queue_good(head, tasks, held, ceilings, queues, counts, Priority(p + 1)) {
             return false;
         }
         p += 1;
@@ -506,8 +478,9 @@ pub fn sound(
     if !highest_runs(head, tasks, held, ceilings, queues) {
         return false;
     }
-    if !tasks_good(head, tasks, held, ceilings, queues) {
+    let mut counts = [0u16; TASK_LIMIT];
+    if !queues_good(head, tasks, held, ceilings, queues, &mut counts) {
         return false;
     }
-    queues_good(head, tasks, held, ceilings, queues)
+    tasks_good(head, tasks, held, ceilings, queues, &counts)
 }

@@ -3,6 +3,7 @@ use mathlib.Core.Path.{_∙_, sym}
 use Prim.Native.Nat.{_-_}
 use borrow.Author.Needs.{needs}
 use borrow.Author.Tests.{not-true, not-false}
+use Rattle.soundness.proofs.CountLaws.{counted-none}
 use Rattle.soundness.proofs.ClauseLaws.{marks-wrong, marks-right, tested-all}
 use Rattle.memory.proofs.TestLaws.{fails-first, holds-first}
 use Rattle.soundness.proofs.TestedLaws.{tested-is}
@@ -44,13 +45,18 @@ returns-3 c =
     let b = holds-first _ _ a ∙ (sym (at-highest-runs .highest-runs .ensures) ∙ not-true _ (c .if3 .taken)) in
     sym (all ∙ fails-first _ _ (fails-first _ _ b))
 
-tasks-good-requires : tie.Need-tasks-good-requires
-tasks-good-requires c κs = search needs
+slice-aggregate-queues-good : tie.Need-slice-aggregate-queues-good
+slice-aggregate-queues-good c = search needs
+
+queues-good-requires : tie.Need-queues-good-requires
+queues-good-requires c κs =
+    let entry = c .before .before .before .before .before .before .before .before .before .before .before in
+    (entry .pre, counted-none _)
 
 returns-4 : tie.Need-returns-4
 returns-4 c =
-    let at-tasks-good = c .before in
-    let at-if3 = at-tasks-good .before in
+    let at-queues-good = c .before .before in
+    let at-if3 = at-queues-good .before .before in
     let at-highest-runs = at-if3 .before in
     let at-if2 = at-highest-runs .before in
     let at-head-good = at-if2 .before in
@@ -59,17 +65,24 @@ returns-4 c =
     let all = marks-right (entry .pre) _ _ (at-if1 .if1 .left) ∙ (sym (tested-is _) ∙ tested-all (entry .pre)) in
     let a = sym (at-head-good .head-good .ensures) ∙ not-false _ (at-if2 .if2 .left) in
     let b = holds-first _ _ a ∙ (sym (at-highest-runs .highest-runs .ensures) ∙ not-false _ (at-if3 .if3 .left)) in
-    let f = holds-first _ _ b ∙ (sym (at-tasks-good .tasks-good .ensures) ∙ not-true _ (c .if4 .taken)) in
+    let f = holds-first _ _ b ∙ (sym (at-queues-good .queues-good .ensures .0) ∙ not-true _ (c .if4 .taken)) in
     sym (all ∙ fails-first _ _ f)
 
-queues-good-requires : tie.Need-queues-good-requires
-queues-good-requires c κs = search needs
+slice-aggregate-tasks-good : tie.Need-slice-aggregate-tasks-good
+slice-aggregate-tasks-good c = search needs
+
+tasks-good-requires : tie.Need-tasks-good-requires
+tasks-good-requires c κs =
+    let at-if4 = c .before in
+    let at-queues-good = at-if4 .before .before in
+    let entry = at-queues-good .before .before .before .before .before .before .before .before .before .before .before .before in
+    (entry .pre, at-queues-good .queues-good .ensures .1 (not-false _ (at-if4 .if4 .left)))
 
 returns-5 : tie.Need-returns-5
 returns-5 c =
-    let at-if4 = c .before in
-    let at-tasks-good = at-if4 .before in
-    let at-if3 = at-tasks-good .before in
+    let at-if4 = c .before .before in
+    let at-queues-good = at-if4 .before .before in
+    let at-if3 = at-queues-good .before .before in
     let at-highest-runs = at-if3 .before in
     let at-if2 = at-highest-runs .before in
     let at-head-good = at-if2 .before in
@@ -78,8 +91,8 @@ returns-5 c =
     let all = marks-right (entry .pre) _ _ (at-if1 .if1 .left) ∙ (sym (tested-is _) ∙ tested-all (entry .pre)) in
     let a = sym (at-head-good .head-good .ensures) ∙ not-false _ (at-if2 .if2 .left) in
     let b = holds-first _ _ a ∙ (sym (at-highest-runs .highest-runs .ensures) ∙ not-false _ (at-if3 .if3 .left)) in
-    let f = holds-first _ _ b ∙ (sym (at-tasks-good .tasks-good .ensures) ∙ not-false _ (at-if4 .if4 .left)) in
-    c .queues-good .ensures ∙ sym (all ∙ holds-first _ _ f)
+    let f = holds-first _ _ b ∙ (sym (at-queues-good .queues-good .ensures .0) ∙ not-false _ (at-if4 .if4 .left)) in
+    c .tasks-good .ensures ∙ sym (all ∙ holds-first _ _ f)
 
 pub sound-spec : {M : Type 1} → statement M
 sound-spec =
@@ -91,7 +104,9 @@ sound-spec =
     returns-2
     highest-runs-requires
     returns-3
-    tasks-good-requires
-    returns-4
+    slice-aggregate-queues-good
     queues-good-requires
+    returns-4
+    slice-aggregate-tasks-good
+    tasks-good-requires
     returns-5)

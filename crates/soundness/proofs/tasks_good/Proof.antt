@@ -13,11 +13,11 @@ use Rattle.soundness.proofs.tasks_good.Statement.{statement}
 use Rattle.soundness.proofs.tasks_good.Tie as tie
 
 abbrev Inv-loop : tie.InvT-loop
-Inv-loop head tasks held ceilings queues n t₀ t =
+Inv-loop head tasks held ceilings queues counts n t₀ t =
     (t ≤ n) × (below t (taskSound (modelOf head tasks held ceilings queues)) ≡ true)
 
 abbrev μ-loop : tie.MeasureT-loop
-μ-loop head tasks held ceilings queues n t₀ t = n - t
+μ-loop head tasks held ceilings queues counts n t₀ t = n - t
 
 element-copy-out-n : tie.Need-element-copy-out-n Inv-loop μ-loop
 element-copy-out-n c = search needs
@@ -28,8 +28,8 @@ loop-holds c = (search needs, refl)
 
 task-good-requires : tie.Need-task-good-requires Inv-loop μ-loop
 task-good-requires c κs =
-    let entry = c .before .before .before .before .before .before .before in
-    (entry .pre, omega arith)
+    let entry = c .before .before .before .before .before .before .before .before in
+    (entry .pre .0, (omega arith, entry .pre .1))
 
 returns : tie.Need-returns Inv-loop μ-loop
 returns c =
@@ -54,7 +54,7 @@ loop-again c =
 returns-2 : tie.Need-returns-2 Inv-loop μ-loop
 returns-2 c =
     let at-loop = c .before in
-    let entry = at-loop .before .before .before .before .before .before in
+    let entry = at-loop .before .before .before .before .before .before .before in
     let e : at-loop .loop .t ≡ taskCountIn (entry .args .head .now) = omega arith in
     sym (rw e at (at-loop .loop .inv .1))
 
