@@ -1,34 +1,33 @@
 -- Laws of the clauses of soundness, read off slices that are laid out.
 use mathlib.Core.Path.{_≡_, refl, ap, _∙_, sym}
-use mathlib.Core.Bool.{Bool, true, false, not, _&&_, _||_}
-use mathlib.Core.List.{List, []}
+use mathlib.Core.Bool.{Bool, true, false, not, _&&_}
+use mathlib.Core.List.{List, [], _∷_}
 use Prim.Native.Nat.{ℕ, zero, suc, _+_, _-_, _≤_, _<_}
 use native.Mathlib.Omega.{arith}
-use borrow.Author.Tests.{le-leb, lt-leb, eq-eqb, ne-eqb, leb-true, leb-false}
-use lib.Dec.{eqb, leb, ltb, leb·zero}
+use borrow.Author.Tests.{le-leb, lt-leb, lt-ltb, le-ltb, eq-eqb, ne-eqb, leb-true, leb-false}
+use lib.Dec.{eqb, leb, leb·zero}
 use lib.ListN.{length, take, getD}
 use Rattle.rules.specs.Limits.{taskLimit, objectLimit, lastPriority, lastReading}
 use Rattle.rules.specs.Priorities.{inRange}
 use Rattle.rules.specs.Model.{Model, active, taskAt}
 use Rattle.rules.specs.Moves.{highestTo, highest}
-use Rattle.rules.specs.Fresh.{countsGood}
-use Rattle.rules.specs.Events.{noTask, inside}
+use Rattle.rules.specs.Events.{inside}
 use Rattle.rules.specs.Sound.{sizesGood, recordGood, waitingGood, runnerGood, runs, isRunning, queued, isReady, dueGood, distinct}
 use Rattle.rules.specs.Sound.{inOnePlace, rising, highestRuns, isNone, eachPriority}
 use Rattle.rules.specs.declared.Place.{Place}
 use Rattle.rules.specs.declared.WaitingBase.{WaitingBase}
 use Rattle.rules.specs.Lists.{allOf, below}
 use Rattle.marks.specs.Marks.{marksOf}
-use Rattle.memory.specs.Rows.{queueWidth, queuesIn, queueIn, heldBy}
+use Rattle.memory.specs.Rows.{queueWidth, queuesIn, heldBy}
 use Rattle.memory.specs.Tasks.{taskIn}
 use Rattle.memory.specs.Memory.{nowCell, runningCell, taskCountIn, objectCountIn, marksIn, runnerOf, waitingIn, modelOf, LaidOut}
 use Rattle.rules.proofs.Choices.{compare}
 use Rattle.rules.proofs.SoundLaws.{stands-is}
 use Rattle.soundness.proofs.TestedLaws.{tested, active-none}
-use Rattle.soundness.specs.Tested.{heldGoodAt, holderHere, waitsInside, taskSound, queueSound}
+use Rattle.soundness.specs.Tested.{heldGoodAt, taskSound, queueSound}
 use Rattle.memory.proofs.GridLaws.{list-count}
 use Rattle.memory.proofs.MemoryLaws.{count-is, objects-is, task-is, held-is, place-is, waiting-is}
-use Rattle.memory.proofs.TestLaws.{same-test, fails-first, holds-first}
+use Rattle.memory.proofs.TestLaws.{fails-first, holds-first}
 
 -- not at or above n: below it
 below-is : (n t : ℕ) → not (leb n t) ≡ leb (suc t) n
@@ -103,13 +102,23 @@ module _ {h ts hd cs qs : List ℕ} (d : LaidOut h ts hd cs qs) where
       dueGood (getD h nowCell 0) x ≡ dueGood (modelOf h ts hd cs qs .now) (taskAt (modelOf h ts hd cs qs) t .place)
   due-one t x g e = ap (dueGood (getD h nowCell 0)) (e ∙ sym (place-is d t g))
 
-  pub holder-one : (t n : ℕ) (x : Place) → t < taskCountIn h → n ≡ length (heldBy hd t) → x ≡ taskIn ts t .place →
-      (not (ltb 0 n) || eqb (isReady x + isRunning x) 1) ≡ holderHere (taskAt (modelOf h ts hd cs qs) t)
-  holder-one t n x g e f = rw (e, f, task-is d t g)
+  pub holder-one : (t a b : ℕ) (x : Place) → t < taskCountIn h → x ≡ taskIn ts t .place → a ≡ isReady x → b ≡ isRunning x →
+      eqb (a + b) 1 ≡
+      eqb (isReady (taskAt (modelOf h ts hd cs qs) t .place) + isRunning (taskAt (modelOf h ts hd cs qs) t .place)) 1
+  holder-one t a b x g e p q =
+      let place : taskAt (modelOf h ts hd cs qs) t .place ≡ x = place-is d t g ∙ sym e in
+      rw (place, p, q)
 
-  pub waits-one : (t n : ℕ) (w : WaitingBase) → t < taskCountIn h → n ≡ length (heldBy hd t) → w ≡ taskIn ts t .waiting →
-      (ltb 0 n || isNone (waitingIn w)) ≡ waitsInside (taskAt (modelOf h ts hd cs qs) t)
-  waits-one t n w g e f = rw (e, f, task-is d t g)
+  pub waits-one : (t : ℕ) (w : WaitingBase) → t < taskCountIn h → w ≡ taskIn ts t .waiting →
+      isNone (waitingIn w) ≡ isNone (taskAt (modelOf h ts hd cs qs) t .waiting)
+  waits-one t w g e = rw (e, waiting-is d t g)
+
+  pub free-one : (t n : ℕ) → t < taskCountIn h → n ≡ length (heldBy hd t) → n ≡ 0 → length (taskAt (modelOf h ts hd cs qs) t .held) ≡ 0
+  free-one t n g e f = ap length (held-is d t g) ∙ (sym e ∙ f)
+
+  pub holds-one : (t n : ℕ) → t < taskCountIn h → n ≡ length (heldBy hd t) → (n ≡ 0 → ⊥) →
+      length (taskAt (modelOf h ts hd cs qs) t .held) ≡ 0 → ⊥
+  holds-one t n g e f k = f (e ∙ (ap length (sym (held-is d t g)) ∙ k))
 
 -- who runs is not below a ready task
 pub idle-top : (m : Model) (v p : ℕ) → v ≡ 0 → p ≡ highestTo (m .ready) lastPriority → eqb p 0 ≡ highestRuns m (runnerOf v)
@@ -139,6 +148,12 @@ pub tested-all : {h ts hd cs qs : List ℕ} (d : LaidOut h ts hd cs qs) → test
 unfolding tested
 tested-all d = rw (count-is d)
 
+-- who holds nothing holds well
+held-none : (cs : List ℕ) (p : ℕ) (l : List ℕ) → length l ≡ 0 → (distinct l && rising cs p l) ≡ true
+unfolding distinct rising
+held-none cs p [] e = refl
+held-none cs p (o ∷ l) e = absurd (omega (arith, e))
+
 -- the clauses about one task, tested one after the other
 module _ (m : Model) (t : ℕ) where
   pub task-1 : recordGood m (taskAt m t) ≡ false → taskSound m t ≡ false
@@ -156,15 +171,24 @@ module _ (m : Model) (t : ℕ) where
       task-3 c = rw (a, b, c)
 
       module _ (c : dueGood (m .now) (taskAt m t .place) ≡ true) where
-        pub task-4 : heldGoodAt m (taskAt m t) ≡ false → taskSound m t ≡ false
+        -- it holds nothing
+        pub task-free : length (taskAt m t .held) ≡ 0 → taskSound m t ≡ isNone (taskAt m t .waiting)
         unfolding taskSound
-        task-4 e = rw (a, b, c, e)
+        task-free e =
+            let held = held-none (m .ceilings) (taskAt m t .base) (taskAt m t .held) e in
+            let out : inside (taskAt m t) ≡ false = le-ltb 0 (length (taskAt m t .held)) (omega (arith, e)) in
+            rw (a, b, c, held, out)
 
-        module _ (e : heldGoodAt m (taskAt m t) ≡ true) where
-          pub task-5 : holderHere (taskAt m t) ≡ false → taskSound m t ≡ false
-          unfolding taskSound
-          task-5 f = rw (a, b, c, e, f)
+        -- it holds something
+        module _ (n : length (taskAt m t .held) ≡ 0 → ⊥) where
+          holds : inside (taskAt m t) ≡ true
+          holds = lt-ltb 0 (length (taskAt m t .held)) (omega (arith, n))
 
-          pub task-6 : holderHere (taskAt m t) ≡ true → taskSound m t ≡ waitsInside (taskAt m t)
+          pub task-4 : heldGoodAt m (taskAt m t) ≡ false → taskSound m t ≡ false
           unfolding taskSound
-          task-6 f = rw (a, b, c, e, f)
+          task-4 e = rw (a, b, c, e)
+
+          pub task-5 : heldGoodAt m (taskAt m t) ≡ true →
+              taskSound m t ≡ eqb (isReady (taskAt m t .place) + isRunning (taskAt m t .place)) 1
+          unfolding taskSound
+          task-5 e = rw (a, b, c, e, holds) (and-true _)

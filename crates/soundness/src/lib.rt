@@ -1,12 +1,12 @@
 // Internal: pub only for our own crates. The test of soundness, clause by clause as in specs/Sound.antt of crate rules, of slices
 // that are laid out, and of the word of marks.
 ghost use mathlib.Core.Path.{_≡_};
-ghost use mathlib.Core.Bool.{true, not, _&&_, _||_};
+ghost use mathlib.Core.Bool.{true, _&&_};
 ghost use mathlib.Core.List.{[]};
 ghost use Prim.Native.Nat.{_+_, _-_, _≤_, _<_};
-ghost use lib.Dec.{eqb, leb, ltb};
+ghost use lib.Dec.{eqb};
 ghost use lib.ListN.{length, take, drop, getD};
-ghost use Rattle.rules.specs.Limits.{taskLimit, lastReading};
+ghost use Rattle.rules.specs.Limits.{taskLimit};
 ghost use Rattle.rules.specs.Priorities.{inRange};
 ghost use Rattle.rules.specs.Model.{taskAt, active};
 ghost use Rattle.rules.specs.Sound.{eachPriority, waitingGood, recordGood, runs, isRunning, isReady, dueGood, isNone};
@@ -14,7 +14,7 @@ ghost use Rattle.rules.specs.Sound.{inOnePlace, rising, sizesGood, runnerGood, 
 ghost use Rattle.rules.specs.Lists.{allOf, below};
 ghost use Rattle.marks.specs.Marks.{marksOf};
 ghost use Rattle.memory.specs.Rows.{HasQueue, queuesIn, heldBy, Held};
-ghost use Rattle.memory.specs.Memory.{nowCell, runningCell, taskCountIn, objectCountIn, runnerOf, waitingIn, modelOf, LaidOut};
+ghost use Rattle.memory.specs.Memory.{runningCell, taskCountIn, runnerOf, waitingIn, modelOf, LaidOut};
 ghost use Rattle.soundness.specs.Tested.{heldGoodAt, taskSound, queueSound, Counted};
 use memory::held;
 use memory::priorities;
@@ -143,26 +143,6 @@ fn rises(held: &[u8], ceilings: &[u8], n: usize, t: usize, p: Priority) -> bool
         i += 1;
     }
     true
-}
-
-// A holder is ready or running.
-fn holder_here(depth: u8, place: Place) -> bool
-    ensures { λ r. ⌜ r ≡ (not (ltb 0 depth) || eqb (isReady place + isRunning place) 1) ⌝ }
-{
-    if depth == 0 {
-        return true;
-    }
-    is_ready(place) + is_running(place) == 1
-}
-
-// A base waits only inside an action.
-fn waits_inside(depth: u8, waiting: WaitingBase) -> bool
-    ensures { λ r. ⌜ r ≡ (ltb 0 depth || isNone (waitingIn waiting)) ⌝ }
-{
-    if 0 < depth {
-        return true;
-    }
-    is_none(waiting)
 }
 
 // The counts, now, the ceilings and the running task are in range.
@@ -321,7 +301,7 @@ fn held_good(
     rises(held, ceilings, head[OBJECTS_CELL] as usize, t, base)
 }
 
-// All clauses about t.
+// All clauses about t. Where it holds nothing, no base may wait; a holder is ready or running.
 fn task_good(
     head: &[u64; HEAD_WIDTH],
     tasks: &[u64],
@@ -350,14 +330,13 @@ fn task_good(
     if !due_good(head[NOW_CELL], place) {
         return false;
     }
+    if held::depth(held, t) == 0 {
+        return is_none(tasks::waiting(tasks, t));
+    }
     if !held_good(head, tasks, held, ceilings, queues, t) {
         return false;
     }
-    let depth = held::depth(held, t);
-    if !holder_here(depth, place) {
-        return false;
-    }
-    waits_inside(depth, tasks::waiting(tasks, t))
+    is_ready(place) + is_running(place) == 1
 }
 
 fn tasks_good(
