@@ -1,8 +1,8 @@
 -- Laws of the test of soundness: its clauses regrouped, and the loops of each clause.
-use mathlib.Core.Path.{_≡_, ap, _∙_, sym}
+use mathlib.Core.Path.{_≡_, refl, ap, _∙_}
 use mathlib.Core.Bool.{Bool, true, false, not, _&&_}
 use mathlib.Core.List.{List}
-use Prim.Native.Nat.{ℕ, suc, _+_, _-_, _≤_, _<_}
+use Prim.Native.Nat.{ℕ, zero, suc, _+_, _-_, _≤_, _<_}
 use native.Mathlib.Numerals.{add-one}
 use native.Mathlib.Omega.{arith}
 use borrow.Author.Tests.{le-leb, lt-leb, lt-ltb, le-ltb, leb-true, eqb-true}
@@ -17,8 +17,6 @@ use Rattle.rules.specs.Sound.{highestRuns, dueGood, rising, eachTask, eachPrior
 use Rattle.rules.specs.Sound.{numbersGood, inOnePlace, onePlace, ownQueue, dueAhead, heldGood, holdersHere, waitingInside, sound}
 use Rattle.rules.specs.declared.Place.{Place}
 use Rattle.rules.specs.declared.Place.the-variants.{Delayed}
-use Rattle.rules.specs.declared.Runner.{Runner}
-use Rattle.rules.specs.declared.Runner.the-variants.{Task}
 use Rattle.rules.specs.Lists.{allOf, timesIn, below}
 use Rattle.rules.proofs.Choices.{compare, and-left, and-right, and-make}
 use Rattle.rules.proofs.HeldLaws.{all-at, all-make}
@@ -63,20 +61,14 @@ due-ahead now d x e h =
     (λ f. le-leb d (now + lastDelay) (omega (arith, leb-true (d - now) lastDelay f))))
 
 -- who is named as running
-pub named-none : (v t : ℕ) → v ≡ 0 → runs (runnerOf v) t ≡ 0
+pub named-is : (v t : ℕ) → v ≡ t + 1 → runs (runnerOf v) t ≡ 1
+unfolding runnerOf
+named-is v t e = ap (λ (n : ℕ). runs (runnerOf n) t) (e ∙ add-one t) ∙ runs-self t
+
+pub named-other : (v t : ℕ) → (v ≡ t + 1 → ⊥) → runs (runnerOf v) t ≡ 0
 unfolding runs runnerOf
-named-none v t e = ap (λ (n : ℕ). runs (runnerOf n) t) e
-
-module _ (v t : ℕ) (n : v ≡ 0 → ⊥) where
-  is-task : runnerOf v ≡ Task (v - 1)
-  unfolding runnerOf
-  is-task = let e : v ≡ suc (v - 1) = omega (arith, n) in ap runnerOf e
-
-  pub named-is : v - 1 ≡ t → runs (runnerOf v) t ≡ 1
-  named-is e = ap (λ (w : Runner). runs w t) (is-task ∙ ap Task e) ∙ runs-self t
-
-  pub named-other : (v - 1 ≡ t → ⊥) → runs (runnerOf v) t ≡ 0
-  named-other k = ap (λ (w : Runner). runs w t) is-task ∙ runs-apart (v - 1) t (λ e. k (sym e))
+named-other zero t n = refl
+named-other (suc u) t n = runs-apart u t (λ e. n (omega (arith, e)))
 
 -- "and" of several, taken apart and made
 four-each : (a b c d : Bool) → (a && b && c && d) ≡ true → (a ≡ true) × (b ≡ true) × (c ≡ true) × (d ≡ true)

@@ -98,12 +98,10 @@ fn due_good(now: u64, place: Place) -> bool
 
 // 1 where the head's running cell names the task t.
 fn named(running: u64, t: usize) -> usize
+    requires { ⌜ t < taskLimit ⌝ }
     ensures { λ r. ⌜ r ≡ runs (runnerOf running) t ⌝ }
 {
-    if running == 0 {
-        return 0;
-    }
-    if running - 1 == t as u64 {
+    if running == t as u64 + 1 {
         return 1;
     }
     0
