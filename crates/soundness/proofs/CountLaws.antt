@@ -82,5 +82,6 @@ pub counted-few : {cs qs : List ℕ} {rest : List (List ℕ)} (t : ℕ) → t < 
     getD cs t 0 ≤ lastPriority * taskLimit
 counted-few {cs} {qs} {rest} t h g x =
     let count = list-count queueWidth lastPriority qs in
-    let few = queued-few taskLimit t (queuesIn qs) (λ i k. omega (arith, list-room queueWidth lastPriority i qs g (omega (arith, count)))) in
-    omega (arith, x .sum t h, few, count)
+    let short : (i : ℕ) → i < length (queuesIn qs) → length (getD (queuesIn qs) i []) ≤ taskLimit = λ i k.
+    omega (arith, list-room queueWidth lastPriority i qs g (omega (arith, count))) in
+    omega (arith, x .sum t h, queued-few taskLimit t (queuesIn qs) short, count)
