@@ -15,15 +15,15 @@ fn accepted_by(before: u64, pending: u64, after: u64) -> Ruling
     ensures { λ r. ⌜ reportIn r ≡ reportBy (runnerOf before) (runnerOf pending) (runnerOf after) ⌝ }
 {
     if before == after {
-        return Ruling::Unchanged;
+        return Ruling::UNCHANGED;
     }
     if before == 0 {
-        return Ruling::Changed;
+        return Ruling::CHANGED;
     }
     if before == pending {
-        return Ruling::Preempted;
+        return Ruling::PREEMPTED;
     }
-    Ruling::Changed
+    Ruling::CHANGED
 }
 
 // The running cell was `before` when the event came.

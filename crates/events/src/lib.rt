@@ -39,23 +39,23 @@ pub fn enter(
         o) ⌝ }
 {
     if head[OBJECTS_CELL] <= o {
-        return Ruling::NoSuchObject;
+        return Ruling::NO_SUCH_OBJECT;
     }
     let running = head[RUNNING_CELL];
     if running == 0 {
-        return Ruling::NobodyRuns;
+        return Ruling::NOBODY_RUNS;
     }
     let t = (running - 1) as usize;
     let object = o as u8;
     if held::holds(held, t, object) {
-        return Ruling::InsideAction;
+        return Ruling::INSIDE_ACTION;
     }
     let a = priorities::active_inside(head, tasks, held, ceilings, queues, t);
     if ceilings[o as usize] < a.0 {
-        return Ruling::AboveCeiling;
+        return Ruling::ABOVE_CEILING;
     }
     held::push(held, t, object);
-    Ruling::Unchanged
+    Ruling::UNCHANGED
 }
 
 pub fn leave(
@@ -74,18 +74,18 @@ pub fn leave(
         o) ⌝ }
 {
     if head[OBJECTS_CELL] <= o {
-        return Ruling::NoSuchObject;
+        return Ruling::NO_SUCH_OBJECT;
     }
     let running = head[RUNNING_CELL];
     if running == 0 {
-        return Ruling::NobodyRuns;
+        return Ruling::NOBODY_RUNS;
     }
     let t = (running - 1) as usize;
     if held::depth(held, t) == 0 {
-        return Ruling::NotInnermost;
+        return Ruling::NOT_INNERMOST;
     }
     if held::last(held, t) as u64 != o {
-        return Ruling::NotInnermost;
+        return Ruling::NOT_INNERMOST;
     }
     held::drop_last(held, t);
     effects::settle(head, tasks, held, ceilings, queues, t);
@@ -109,11 +109,11 @@ pub fn delay(
 {
     let running = head[RUNNING_CELL];
     if running == 0 {
-        return Ruling::NobodyRuns;
+        return Ruling::NOBODY_RUNS;
     }
     let t = (running - 1) as usize;
     if 0 < held::depth(held, t) {
-        return Ruling::InsideAction;
+        return Ruling::INSIDE_ACTION;
     }
     head[RUNNING_CELL] = 0;
     effects::put_off(head, tasks, held, ceilings, queues, t, d);
@@ -136,14 +136,14 @@ pub fn suspend(
 {
     let running = head[RUNNING_CELL];
     if running == 0 {
-        return Ruling::NobodyRuns;
+        return Ruling::NOBODY_RUNS;
     }
     let t = (running - 1) as usize;
     if 0 < held::depth(held, t) {
-        return Ruling::InsideAction;
+        return Ruling::INSIDE_ACTION;
     }
     if effects::rest(head, tasks, held, ceilings, queues, t) {
-        return Ruling::Unchanged;
+        return Ruling::UNCHANGED;
     }
     conclude(head, tasks, held, ceilings, queues, running)
 }
@@ -165,11 +165,11 @@ pub fn release(
         t) ⌝ }
 {
     if head[TASKS_CELL] <= t {
-        return Ruling::NoSuchTask;
+        return Ruling::NO_SUCH_TASK;
     }
     let running = head[RUNNING_CELL];
     if !effects::release_from(head, tasks, held, ceilings, queues, t as usize) {
-        return Ruling::Unchanged;
+        return Ruling::UNCHANGED;
     }
     conclude(head, tasks, held, ceilings, queues, running)
 }
@@ -208,12 +208,12 @@ pub fn clock(
 {
     let at = head[NOW_CELL];
     if bad_reading(at, r) {
-        return Ruling::BadReading;
+        return Ruling::BAD_READING;
     }
     let running = head[RUNNING_CELL];
     head[NOW_CELL] = r;
     if !effects::wake_up(head, tasks, held, ceilings, queues, r) {
-        return Ruling::Unchanged;
+        return Ruling::UNCHANGED;
     }
     conclude(head, tasks, held, ceilings, queues, running)
 }
@@ -237,17 +237,17 @@ pub fn set(
     let first = Priority::FIRST;
     let last = Priority::LAST;
     if head[TASKS_CELL] <= t {
-        return Ruling::NoSuchTask;
+        return Ruling::NO_SUCH_TASK;
     }
     if p.0 < first.0 {
-        return Ruling::BadPriority;
+        return Ruling::BAD_PRIORITY;
     }
     if last.0 < p.0 {
-        return Ruling::BadPriority;
+        return Ruling::BAD_PRIORITY;
     }
     let place = tasks::place(tasks, t as usize);
     if effects::is_ended(place) {
-        return Ruling::EndedTask;
+        return Ruling::ENDED_TASK;
     }
     let running = head[RUNNING_CELL];
     effects::rebase(head, tasks, held, ceilings, queues, t as usize, p);
@@ -269,9 +269,9 @@ pub fn work(
         (modelOf (now (head .entry)) (now (tasks .entry)) (now (held .entry)) (now (ceilings .entry)) (now (queues .entry)))) ⌝ }
 {
     if head[RUNNING_CELL] == 0 {
-        return Ruling::NobodyRuns;
+        return Ruling::NOBODY_RUNS;
     }
-    Ruling::Unchanged
+    Ruling::UNCHANGED
 }
 
 pub fn finish(
@@ -289,11 +289,11 @@ pub fn finish(
 {
     let running = head[RUNNING_CELL];
     if running == 0 {
-        return Ruling::NobodyRuns;
+        return Ruling::NOBODY_RUNS;
     }
     let t = (running - 1) as usize;
     if 0 < held::depth(held, t) {
-        return Ruling::InsideAction;
+        return Ruling::INSIDE_ACTION;
     }
     head[RUNNING_CELL] = 0;
     tasks::set_place(tasks, t, Place::Ended);

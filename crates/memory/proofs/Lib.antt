@@ -7,3 +7,4 @@ pub mod BlankLaws
 pub mod MemoryLaws
 pub mod PriorityLaws
 pub mod ReadyLaws
+pub mod RulingLaws

@@ -18,7 +18,7 @@ use Rattle.rules.specs.declared.Runner.{Runner}
 use Rattle.rules.specs.declared.Runner.the-variants.{Task}
 use Rattle.rules.specs.declared.Report.the-variants.{Unchanged}
 use Rattle.memory.specs.declared.rulings.Ruling.{Ruling}
-use Rattle.memory.specs.declared.rulings.Ruling.the-variants as Ruling
+use Rattle.memory.specs.Rulings as Ruling
 use Rattle.rules.proofs.Choices.{clash, compare, cond-true, cond-false}
 use Rattle.rules.proofs.EventLaws.{rest-permit}
 use Rattle.rules.proofs.Pending.{Good}
@@ -51,7 +51,7 @@ pub record Quiet (m n : Model) : Type 0 where
   pub runner : n .running ≡ m .running
 
 pub did-quiet : {h ts hd cs qs : List ℕ} {r : Moved} {m n : Model} → Means h ts hd cs qs n → Quiet m n → r ≡ accepted (m .running) n →
-    Did h ts hd cs qs Ruling.Unchanged r
+    Did h ts hd cs qs Ruling.unchanged r
 unfolding accepted
 did-quiet {m = m} {n = n} x q e =
     record {

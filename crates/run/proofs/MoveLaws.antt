@@ -10,7 +10,7 @@ use Rattle.rules.specs.Events.{enter, leave, delay, suspend, release, setBase, 
 use Rattle.rules.specs.Sound.{sound}
 use Rattle.rules.specs.declared.Answer.the-variants.{Done}
 use Rattle.memory.specs.declared.rulings.Ruling.{Ruling}
-use Rattle.memory.specs.declared.rulings.Ruling.the-variants as Ruling
+use Rattle.memory.specs.Rulings as Ruling
 use Rattle.rules.specs.declared.Event.{Event}
 use Rattle.rules.specs.declared.Event.the-variants as Event
 use Rattle.rules.specs.declared.Priority.{Priority}
@@ -73,7 +73,7 @@ module _ {h ts hd cs qs : List ℕ} {z : Ruling} where
 
 -- Again leaves the state
 pub again-moves : {h ts hd cs qs : List ℕ} (x : Step) → x ≡ Again → Valid h ts hd cs qs →
-    Moves h ts hd cs qs Ruling.Unchanged (perform (modelOf h ts hd cs qs) x)
+    Moves h ts hd cs qs Ruling.unchanged (perform (modelOf h ts hd cs qs) x)
 unfolding perform answerTo eventOf
 again-moves {h} {ts} {hd} {cs} {qs} x e v =
     let k = ap (perform (modelOf h ts hd cs qs)) e in

@@ -14,7 +14,7 @@ use Rattle.rules.specs.Model.{Model}
 use Rattle.rules.specs.Moved.{Moved}
 use Rattle.rules.specs.declared.Answer.{Answer}
 use Rattle.memory.specs.declared.rulings.Ruling.{Ruling}
-use Rattle.memory.specs.declared.rulings.Ruling.the-variants as Ruling
+use Rattle.memory.specs.Rulings as Ruling
 use Rattle.rules.specs.declared.Runner.{Runner}
 use Rattle.rules.specs.declared.Runner.the-variants.{Nobody, Task}
 use Rattle.rules.proofs.SoundLaws.{sound-is}
@@ -100,7 +100,7 @@ module _ {s h ts hd cs qs ps : List ℕ} (g : Going s h ts hd cs qs ps) where
 
   -- nobody runs
   pub idle-happened : getD h runningCell 0 ≡ 0 →
-      Happened s h ts hd cs qs ps Ruling.NobodyRuns (happen (rosterOf s) (configOf s h ts hd cs qs ps) Stepped)
+      Happened s h ts hd cs qs ps Ruling.nobodyRuns (happen (rosterOf s) (configOf s h ts hd cs qs ps) Stepped)
   unfolding happen stepBy
   idle-happened e =
       let k = ap (stepBy (rosterOf s) (configOf s h ts hd cs qs ps)) (idle (g .valid .laid) e) in

@@ -86,7 +86,7 @@ fn pass(
         let at = REPLY_SIZE * i;
         buffer[at] = ruling.number();
         buffer[at + 1] = running_byte(head);
-        buffer[at + 2] = ruling.report().number();
+        buffer[at + 2] = ruling.report_number();
         i += 1;
     }
 }

@@ -40,7 +40,7 @@ fn perform(
         Step::Suspend => events::suspend(head, tasks, held, ceilings, queues),
         Step::Release(t) => events::release(head, tasks, held, ceilings, queues, t as u64),
         Step::Set(t, p) => events::set(head, tasks, held, ceilings, queues, t as u64, p),
-        Step::Again => Ruling::Unchanged,
+        Step::Again => Ruling::UNCHANGED,
         Step::Finish => events::finish(head, tasks, held, ceilings, queues),
     }
 }
@@ -87,7 +87,7 @@ fn step(
 {
     let running = head[RUNNING_CELL];
     if running == 0 {
-        return Ruling::NobodyRuns;
+        return Ruling::NOBODY_RUNS;
     }
     let t = (running - 1) as usize;
     let k = positions[t];

@@ -4,7 +4,7 @@ use Prim.Native.Nat.{_-_}
 use native.Mathlib.Omega.{arith}
 use borrow.Author.Needs.{needs}
 use borrow.Author.Tests.{not-true}
-use Rattle.memory.specs.declared.rulings.Ruling.the-variants as Ruling
+use Rattle.memory.specs.Rulings as Ruling
 use Rattle.rules.proofs.EventLaws.{clock-4, clock-0}
 use Rattle.rules.proofs.Readings.{reading-early, reading-low}
 use Rattle.rules.proofs.Pending.{pending-clock}
@@ -26,7 +26,7 @@ returns : tie.Need-returns
 returns c =
     let at-test = c .before in
     let entry = at-test .before .before .before .before .before .before in
-    did-not Ruling.BadReading refl (entry .pre .laid) (clock-4 _ _ (sym (at-test .bad-reading .ensures) ∙ c .if1 .taken))
+    did-not Ruling.badReading refl (entry .pre .laid) (clock-4 _ _ (sym (at-test .bad-reading .ensures) ∙ c .if1 .taken))
 
 element-copy-out-running : tie.Need-element-copy-out-running
 element-copy-out-running c = search needs

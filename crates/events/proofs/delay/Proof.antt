@@ -6,7 +6,7 @@ use borrow.Author.Needs.{needs}
 use lib.ListN.{getD}
 use Rattle.rules.specs.Events.{putOff}
 use Rattle.rules.specs.Model.{Model}
-use Rattle.memory.specs.declared.rulings.Ruling.the-variants as Ruling
+use Rattle.memory.specs.Rulings as Ruling
 use Rattle.rules.proofs.EventLaws.{delay-5, delay-7, delay-0}
 use Rattle.rules.proofs.Pending.{pending-delay}
 use Rattle.memory.specs.Memory.{runningCell}
@@ -26,7 +26,7 @@ returns c =
     let entry = c .before .before .before .before .before .before in
     let v = entry .pre in
     let d = v .laid in
-    did-not Ruling.NobodyRuns refl d (delay-5 _ _ (idle d (c .if1 .taken)))
+    did-not Ruling.nobodyRuns refl d (delay-5 _ _ (idle d (c .if1 .taken)))
 
 sub-t : tie.Need-sub-t
 sub-t c = search needs
@@ -50,7 +50,7 @@ returns-2 c =
     let e = runner v (at-if1 .if1 .left) in
     let g = runner-counted v (at-if1 .if1 .left) in
     let in-action = inside-is d _ _ g (at-depth .depth .ensures) (c .if2 .taken) in
-    did-not Ruling.InsideAction refl d (delay-7 _ _ _ e in-action)
+    did-not Ruling.insideAction refl d (delay-7 _ _ _ e in-action)
 
 element-write-head : tie.Need-element-write-head
 element-write-head c = search needs

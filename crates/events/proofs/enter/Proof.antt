@@ -2,7 +2,7 @@
 use mathlib.Core.Path.{refl, _∙_}
 use Prim.Native.Nat.{_-_}
 use borrow.Author.Needs.{needs}
-use Rattle.memory.specs.declared.rulings.Ruling.the-variants as Ruling
+use Rattle.memory.specs.Rulings as Ruling
 use Rattle.rules.proofs.Pending.{t-fair}
 use Rattle.rules.proofs.EventLaws.{enter-2, enter-5, enter-7, enter-8, enter-0}
 use Rattle.moves.proofs.EffectLaws.{holdable, hold-law}
@@ -21,7 +21,7 @@ returns c =
     let entry = c .before .before .before .before .before .before in
     let v = entry .pre in
     let d = v .laid in
-    did-not Ruling.NoSuchObject refl d (enter-2 _ _ (unknown-object v _ (c .if1 .taken)))
+    did-not Ruling.noSuchObject refl d (enter-2 _ _ (unknown-object v _ (c .if1 .taken)))
 
 element-copy-out-running : tie.Need-element-copy-out-running
 element-copy-out-running c = search needs
@@ -32,7 +32,7 @@ returns-2 c =
     let entry = at-if1 .before .before .before .before .before .before in
     let v = entry .pre in
     let d = v .laid in
-    did-not Ruling.NobodyRuns refl d (enter-5 _ _ (known-object v _ (at-if1 .if1 .left)) (idle d (c .if2 .taken)))
+    did-not Ruling.nobodyRuns refl d (enter-5 _ _ (known-object v _ (at-if1 .if1 .left)) (idle d (c .if2 .taken)))
 
 sub-t : tie.Need-sub-t
 sub-t c = search needs
@@ -64,7 +64,7 @@ returns-3 c =
     let e = runner v (at-if2 .if2 .left) in
     let g = runner-counted v (at-if2 .if2 .left) in
     let held = holds-is v _ _ _ g (at-holds .holds .ensures) ∙ c .if3 .taken in
-    did-not Ruling.InsideAction refl d (enter-7 _ _ _ (known-object v _ (at-if1 .if1 .left)) e held)
+    did-not Ruling.insideAction refl d (enter-7 _ _ _ (known-object v _ (at-if1 .if1 .left)) e held)
 
 active-inside-requires : tie.Need-active-inside-requires
 active-inside-requires c κs =
@@ -99,7 +99,7 @@ returns-4 c =
     let g = runner-counted v (at-if2 .if2 .left) in
     let free = holds-is v _ _ _ g (at-holds .holds .ensures) ∙ at-if3 .if3 .left in
     let above = above-ceiling v _ _ _ (at-if1 .if1 .left) (at-active .active-inside .ensures) (c .if4 .taken) in
-    did-not Ruling.AboveCeiling refl d (enter-8 _ _ _ (known-object v _ (at-if1 .if1 .left)) e free above)
+    did-not Ruling.aboveCeiling refl d (enter-8 _ _ _ (known-object v _ (at-if1 .if1 .left)) e free above)
 
 push-requires : tie.Need-push-requires
 push-requires c κs =

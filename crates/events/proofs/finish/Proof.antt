@@ -3,7 +3,7 @@ use mathlib.Core.Path.{refl}
 use Prim.Native.Nat.{_-_}
 use native.Mathlib.Omega.{arith}
 use borrow.Author.Needs.{needs}
-use Rattle.memory.specs.declared.rulings.Ruling.the-variants as Ruling
+use Rattle.memory.specs.Rulings as Ruling
 use Rattle.rules.specs.declared.Place.the-variants.{Ended}
 use Rattle.rules.proofs.EventLaws.{finish-5, finish-7, finish-0}
 use Rattle.rules.proofs.Pending.{pending-end}
@@ -22,7 +22,7 @@ returns c =
     let entry = c .before .before .before .before .before .before in
     let v = entry .pre in
     let d = v .laid in
-    did-not Ruling.NobodyRuns refl d (finish-5 _ (idle d (c .if1 .taken)))
+    did-not Ruling.nobodyRuns refl d (finish-5 _ (idle d (c .if1 .taken)))
 
 sub-t : tie.Need-sub-t
 sub-t c = search needs
@@ -46,7 +46,7 @@ returns-2 c =
     let e = runner v (at-if1 .if1 .left) in
     let g = runner-counted v (at-if1 .if1 .left) in
     let in-action = inside-is d _ _ g (at-depth .depth .ensures) (c .if2 .taken) in
-    did-not Ruling.InsideAction refl d (finish-7 _ _ e in-action)
+    did-not Ruling.insideAction refl d (finish-7 _ _ e in-action)
 
 element-write-head : tie.Need-element-write-head
 element-write-head c = search needs

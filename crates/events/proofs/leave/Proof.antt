@@ -6,7 +6,7 @@ use borrow.Author.Needs.{needs}
 use lib.ListN.{getD}
 use Rattle.rules.specs.Events.{settle}
 use Rattle.rules.specs.Model.{Model}
-use Rattle.memory.specs.declared.rulings.Ruling.the-variants as Ruling
+use Rattle.memory.specs.Rulings as Ruling
 use Rattle.rules.proofs.EventLaws.{leave-2, leave-5, leave-9, leave-0}
 use Rattle.rules.proofs.Pending.{pending-leave}
 use Rattle.memory.specs.Memory.{runningCell}
@@ -26,7 +26,7 @@ returns c =
     let entry = c .before .before .before .before .before .before in
     let v = entry .pre in
     let d = v .laid in
-    did-not Ruling.NoSuchObject refl d (leave-2 _ _ (unknown-object v _ (c .if1 .taken)))
+    did-not Ruling.noSuchObject refl d (leave-2 _ _ (unknown-object v _ (c .if1 .taken)))
 
 element-copy-out-running : tie.Need-element-copy-out-running
 element-copy-out-running c = search needs
@@ -37,7 +37,7 @@ returns-2 c =
     let entry = at-if1 .before .before .before .before .before .before in
     let v = entry .pre in
     let d = v .laid in
-    did-not Ruling.NobodyRuns refl d (leave-5 _ _ (known-object v _ (at-if1 .if1 .left)) (idle d (c .if2 .taken)))
+    did-not Ruling.nobodyRuns refl d (leave-5 _ _ (known-object v _ (at-if1 .if1 .left)) (idle d (c .if2 .taken)))
 
 sub-t : tie.Need-sub-t
 sub-t c = search needs
@@ -66,7 +66,7 @@ returns-3 c =
     let e = runner v (at-if2 .if2 .left) in
     let g = runner-counted v (at-if2 .if2 .left) in
     let none = innermost-none d _ _ _ g (at-depth .depth .ensures) (omega (arith, c .if3 .taken)) in
-    did-not Ruling.NotInnermost refl d (leave-9 _ _ _ (known-object v _ (at-if1 .if1 .left)) e none)
+    did-not Ruling.notInnermost refl d (leave-9 _ _ _ (known-object v _ (at-if1 .if1 .left)) e none)
 
 last-requires : tie.Need-last-requires
 last-requires c κs =
@@ -102,7 +102,7 @@ returns-4 c =
     let other =
     innermost-other d _ _ _ _ g (at-depth .depth .ensures) (omega (arith, at-if3 .if3 .left)) (at-last .last .ensures)
     (c .if4 .taken) in
-    did-not Ruling.NotInnermost refl d (leave-9 _ _ _ (known-object v _ (at-if1 .if1 .left)) e other)
+    did-not Ruling.notInnermost refl d (leave-9 _ _ _ (known-object v _ (at-if1 .if1 .left)) e other)
 
 drop-last-requires : tie.Need-drop-last-requires
 drop-last-requires c κs =

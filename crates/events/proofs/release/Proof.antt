@@ -3,7 +3,7 @@ use mathlib.Core.Path.{refl, _∙_, sym}
 use Prim.Native.Nat.{_-_}
 use borrow.Author.Needs.{needs}
 use borrow.Author.Tests.{not-true}
-use Rattle.memory.specs.declared.rulings.Ruling.the-variants as Ruling
+use Rattle.memory.specs.Rulings as Ruling
 use Rattle.rules.proofs.EventLaws.{release-1, release-0}
 use Rattle.rules.proofs.Pending.{pending-release}
 use Rattle.moves.proofs.EventLaws.{did-not, did, did-quiet, quiet-release}
@@ -20,7 +20,7 @@ returns c =
     let entry = c .before .before .before .before .before .before in
     let v = entry .pre in
     let d = v .laid in
-    did-not Ruling.NoSuchTask refl d (release-1 _ _ (unknown-task v _ (c .if1 .taken)))
+    did-not Ruling.noSuchTask refl d (release-1 _ _ (unknown-task v _ (c .if1 .taken)))
 
 element-copy-out-running : tie.Need-element-copy-out-running
 element-copy-out-running c = search needs

@@ -4,7 +4,7 @@ use Prim.Native.Nat.{_-_}
 use borrow.Author.Needs.{needs}
 use lib.ListN.{set}
 use Rattle.rules.specs.Events.{isEnded}
-use Rattle.memory.specs.declared.rulings.Ruling.the-variants as Ruling
+use Rattle.memory.specs.Rulings as Ruling
 use Rattle.rules.proofs.EventLaws.{set-1, set-3, set-6, set-0}
 use Rattle.rules.proofs.Pending.{pending-rebase}
 use Rattle.rules.proofs.PriorityLaws.{bounds-in}
@@ -23,7 +23,7 @@ returns c =
     let entry = c .before .before .before .before .before .before in
     let v = entry .pre in
     let d = v .laid in
-    did-not Ruling.NoSuchTask refl d (set-1 _ _ _ (unknown-task v _ (c .if1 .taken)))
+    did-not Ruling.noSuchTask refl d (set-1 _ _ _ (unknown-task v _ (c .if1 .taken)))
 
 returns-2 : tie.Need-returns-2
 returns-2 c =
@@ -32,7 +32,7 @@ returns-2 c =
     let v = entry .pre in
     let d = v .laid in
     let here = known-task v _ (at-if1 .if1 .left) in
-    did-not Ruling.BadPriority refl d (set-3 _ _ _ here (too-low _ (c .if2 .taken)))
+    did-not Ruling.badPriority refl d (set-3 _ _ _ here (too-low _ (c .if2 .taken)))
 
 returns-3 : tie.Need-returns-3
 returns-3 c =
@@ -42,7 +42,7 @@ returns-3 c =
     let v = entry .pre in
     let d = v .laid in
     let here = known-task v _ (at-if1 .if1 .left) in
-    did-not Ruling.BadPriority refl d (set-3 _ _ _ here (too-high _ (at-if2 .if2 .left) (c .if3 .taken)))
+    did-not Ruling.badPriority refl d (set-3 _ _ _ here (too-high _ (at-if2 .if2 .left) (c .if3 .taken)))
 
 place-requires : tie.Need-place-requires
 place-requires c κs = search needs
@@ -67,7 +67,7 @@ returns-4 c =
     let range = bounds-in _ (at-if2 .if2 .left) (at-if3 .if3 .left) in
     let place = place-is d _ (at-if1 .if1 .left) ∙ sym (at-place .place .ensures) in
     let ended = ap isEnded place ∙ (sym (at-is-ended .is-ended .ensures) ∙ c .if4 .taken) in
-    did-not Ruling.EndedTask refl d (set-6 _ _ _ here range ended)
+    did-not Ruling.endedTask refl d (set-6 _ _ _ here range ended)
 
 element-copy-out-running : tie.Need-element-copy-out-running
 element-copy-out-running c = search needs

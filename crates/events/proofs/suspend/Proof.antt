@@ -2,7 +2,7 @@
 use mathlib.Core.Path.{refl, _∙_, sym}
 use Prim.Native.Nat.{_-_}
 use borrow.Author.Needs.{needs}
-use Rattle.memory.specs.declared.rulings.Ruling.the-variants as Ruling
+use Rattle.memory.specs.Rulings as Ruling
 use Rattle.rules.proofs.EventLaws.{suspend-5, suspend-7, suspend-0}
 use Rattle.rules.proofs.Pending.{pending-rest}
 use Rattle.moves.proofs.EffectLaws.{holdable, inside-is, outside-is}
@@ -20,7 +20,7 @@ returns c =
     let entry = c .before .before .before .before .before .before in
     let v = entry .pre in
     let d = v .laid in
-    did-not Ruling.NobodyRuns refl d (suspend-5 _ (idle d (c .if1 .taken)))
+    did-not Ruling.nobodyRuns refl d (suspend-5 _ (idle d (c .if1 .taken)))
 
 sub-t : tie.Need-sub-t
 sub-t c = search needs
@@ -44,7 +44,7 @@ returns-2 c =
     let e = runner v (at-if1 .if1 .left) in
     let g = runner-counted v (at-if1 .if1 .left) in
     let in-action = inside-is d _ _ g (at-depth .depth .ensures) (c .if2 .taken) in
-    did-not Ruling.InsideAction refl d (suspend-7 _ _ e in-action)
+    did-not Ruling.insideAction refl d (suspend-7 _ _ e in-action)
 
 rest-requires : tie.Need-rest-requires
 rest-requires c κs =

@@ -2,7 +2,7 @@
 use mathlib.Core.Path.{refl}
 use Prim.Native.Nat.{_-_}
 use borrow.Author.Needs.{needs}
-use Rattle.memory.specs.declared.rulings.Ruling.the-variants as Ruling
+use Rattle.memory.specs.Rulings as Ruling
 use Rattle.rules.proofs.EventLaws.{work-5, work-0}
 use Rattle.moves.proofs.EventLaws.{did-not, did-quiet, quiet-work}
 use Rattle.memory.proofs.MemoryLaws.{as-laid, idle}
@@ -18,7 +18,7 @@ returns c =
     let entry = c .before .before in
     let v = entry .pre in
     let d = v .laid in
-    did-not Ruling.NobodyRuns refl d (work-5 _ (idle d (c .if1 .taken)))
+    did-not Ruling.nobodyRuns refl d (work-5 _ (idle d (c .if1 .taken)))
 
 returns-2 : tie.Need-returns-2
 returns-2 c =

@@ -1,11 +1,10 @@
 -- `run::pass::pass` meets its contract.
 use native.Mathlib.Omega.{arith}
 use borrow.Author.Needs.{needs}
-use mathlib.Core.Path.{_≡_, refl, ap, _∙_}
+use mathlib.Core.Path.{_≡_, refl}
 use Prim.Native.Nat.{_*_, _≤_, _-_}
 use lib.ListN.{length, drop, length-set}
 use lib.Seq.{sets}
-use Rattle.rules.specs.Answers.{reportNumber}
 use Rattle.format.specs.Roster.{rosterOf}
 use Rattle.trace.specs.Limits.{replySize}
 use Rattle.trace.specs.Inputs.{inputsOf}
@@ -63,29 +62,26 @@ add-buffer c =
 slice-write-buffer-2 : tie.Need-slice-write-buffer-2 Inv-loop μ-loop
 slice-write-buffer-2 c = simp length-set (omega arith)
 
-report-requires : tie.Need-report-requires Inv-loop μ-loop
-report-requires c κs = search needs
-
-number-requires-2 : tie.Need-number-requires-2 Inv-loop μ-loop
-number-requires-2 c κs = search needs
+report-number-requires : tie.Need-report-number-requires Inv-loop μ-loop
+report-number-requires c κs = search needs
 
 add-buffer-2 : tie.Need-add-buffer-2 Inv-loop μ-loop
 add-buffer-2 c =
-    let at-turn = c .before .before .before .before .before .before .before .before .before .before .before .before .before .before in
+    let at-turn = c .before .before .before .before .before .before .before .before .before .before .before .before .before in
     let at-loop = at-turn .before .before .before .before .before .before in
     let entry = at-loop .before .before .before .before .before .before .before .before .before .before .before .before in
     omega (arith, entry .good .1 .1 .0 .0, at-loop .loop-test .taken)
 
 slice-write-buffer-3 : tie.Need-slice-write-buffer-3 Inv-loop μ-loop
 slice-write-buffer-3 c =
-    let at-turn = c .before .before .before .before .before .before .before .before .before .before .before .before .before .before in
+    let at-turn = c .before .before .before .before .before .before .before .before .before .before .before .before .before in
     let at-loop = at-turn .before .before .before .before .before .before in
     let entry = at-loop .before .before .before .before .before .before .before .before .before .before .before .before in
     simp length-set (omega (arith, entry .pre .0, at-loop .loop-test .taken, at-loop .before .loop .inv .1))
 
 add-i : tie.Need-add-i Inv-loop μ-loop
 add-i c =
-    let at-turn = c .before .before .before .before .before .before .before .before .before .before .before .before .before .before in
+    let at-turn = c .before .before .before .before .before .before .before .before .before .before .before .before .before in
     let at-loop = at-turn .before .before .before .before .before .before in
     let entry = at-loop .before .before .before .before .before .before .before .before .before .before .before .before in
     omega (arith, entry .good .1 .1 .0 .0, at-loop .loop-test .taken)
@@ -95,20 +91,19 @@ loop-less c = omega arith
 
 loop-again : tie.Need-loop-again Inv-loop μ-loop
 loop-again c =
-    let at-running = c .before .before in
+    let at-running = c .before in
     let at-number = at-running .before .before in
     let at-happen = at-number .before .before .before .before .before .before .before .before .before in
     let at-input = at-happen .before .before .before .before .before .before in
     let at-test = at-input .before in
     let loop = at-test .before .loop in
-    let event = at-happen .happen .ensures in
-    let number = c .number2 .ensures ∙ ap reportNumber (c .before .report .ensures) in (
+    let event = at-happen .happen .ensures in (
       omega arith,
       simp length-set (loop .inv .1),
       event .going,
       replies-turn _ _ _ _ _ _ _ _ _ _ _ (at-happen .happen .result) (at-test .loop-test .taken) (at-input .input-at .ensures)
           (event .answer) (event .report) (event .same) (at-number .number .ensures) (at-running .running-byte .ensures)
-          number (loop .inv .3),
+          (c .report-number .ensures) (loop .inv .3),
     )
 
 same-length : tie.Need-same-length Inv-loop μ-loop
@@ -144,8 +139,7 @@ pass-spec =
     running-byte-requires
     add-buffer
     slice-write-buffer-2
-    report-requires
-    number-requires-2
+    report-number-requires
     add-buffer-2
     slice-write-buffer-3
     add-i
