@@ -1,14 +1,14 @@
 // The form of a roster: answers 11 to 16.
 ghost use mathlib.Core.Path.{_≡_};
 ghost use mathlib.Core.Bool.{true, _&&_};
-ghost use Prim.Native.Nat.{_<_};
+ghost use Prim.Native.Nat.{suc, _<_};
 ghost use lib.Dec.{eqb};
 ghost use Rattle.rules.specs.Lists.{below};
 ghost use Rattle.format.specs.Format.{taskCount, objectCount};
 ghost use Rattle.format.specs.Form.{lengthGood, markGood, countsKept, tablesGood, laidFrom, scriptsLaid};
 ghost use Rattle.format.specs.Form.{layoutGood, taskRowGood, objectRowGood, valuesGood};
-ghost use Rattle.format.specs.Form.{isStep, unusedZero, namesListed, standsRight, stepGood, stepForm, stepsForm, scriptsForm, formOf};
-ghost use Rattle.format.specs.Steps.{stepCount};
+ghost use Rattle.format.specs.Form.{isStep, unusedZero, namesListed, standsRight, stepGood, stepsForm, scriptsForm, formOf};
+ghost use Rattle.format.specs.Steps.{aAt, bAt, stepAt, stepCount};
 use crate::parts::script_part;
 use fields::steps;
 use format::Limits;
@@ -224,20 +224,19 @@ fn step_good(tasks: u8, objects: u8, last: bool, a: u8, b: u16, x: Step) -> bool
     stands_right(last, x)
 }
 
-// 16, of the step at position k of task t's script.
-fn step_form(tasks: u8, objects: u8, t: u8, part: &[u8], k: usize) -> Verdict
+// 16, of the step at position k.
+fn good_step_at(tasks: u8, objects: u8, part: &[u8], k: usize) -> bool
     requires { ⌜ k < stepCount (now part) ⌝ }
-    ensures { λ r. ⌜ r ≡ stepForm tasks objects t (now (part .entry)) k ⌝ }
+    ensures { λ r.
+        ⌜ r ≡ stepGood tasks objects (eqb (suc k) (stepCount (now (part .entry)))) (aAt (now (part .entry)) k) (bAt (now (part .entry)) k)
+        (stepAt (now (part .entry)) k) ⌝ }
 {
     let at = Limits::STEP * k;
-    let a = words::byte_at(part, at + 1);
-    let b = words::word_at(part, at + 2);
+    let a = part[at + 1];
+    let b = words::word_in(part, at + 2);
     let x = steps::step_at(part, k);
     let last = k + 1 == part.len() / Limits::STEP;
-    if step_good(tasks, objects, last, a, b, x) {
-        return Verdict::Passed;
-    }
-    Verdict::BadStep(t, k)
+    step_good(tasks, objects, last, a, b, x)
 }
 
 fn steps_form(tasks: u8, objects: u8, t: u8, part: &[u8]) -> Verdict
@@ -246,9 +245,8 @@ fn steps_form(tasks: u8, objects: u8, t: u8, part: &[u8]) -> Verdict
     let n = part.len() / Limits::STEP;
     let mut k: usize = 0;
     while k < n {
-        let v = step_form(tasks, objects, t, part, k);
-        if !v.passed() {
-            return v;
+        if !good_step_at(tasks, objects, part, k) {
+            return Verdict::BadStep(t, k);
         }
         k += 1;
     }

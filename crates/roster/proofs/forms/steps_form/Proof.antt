@@ -8,6 +8,7 @@ use Rattle.format.specs.Answers.{first}
 use Rattle.format.specs.Form.{stepForm, stepsForm}
 use Rattle.format.specs.declared.Verdict.the-variants.{Passed}
 use Rattle.format.proofs.TestLaws.{turn-finds, turn-passes, turns-pass}
+use Rattle.format.proofs.FormLaws.{form-good, form-broken}
 use Rattle.roster.proofs.forms.steps_form.Statement.{statement}
 use Rattle.roster.proofs.forms.steps_form.Tie as tie
 
@@ -21,22 +22,19 @@ loop-holds : tie.Need-loop-holds Inv-loop μ-loop
 unfolding first
 loop-holds c = (omega arith, refl)
 
-step-form-requires : tie.Need-step-form-requires Inv-loop μ-loop
-step-form-requires c κs = search needs
-
-passed-requires : tie.Need-passed-requires Inv-loop μ-loop
-passed-requires c κs = search needs
+good-step-at-requires : tie.Need-good-step-at-requires Inv-loop μ-loop
+good-step-at-requires c κs = search needs
 
 returns : tie.Need-returns Inv-loop μ-loop
 unfolding stepsForm
 returns c =
-    let c2 = c .before .before in
-    let c3 = c2 .before in
-    let c4 = c3 .before in
-    let c6 = c4 .before .before in
-    let form = stepForm (c6 .args .tasks) (c6 .args .objects) (c6 .args .t) (c6 .args .part .now) in
-    turn-finds form _ _ _ _ _ refl (c3 .loop-test .taken)
-    (c4 .loop .inv .1) (c2 .step-form .ensures) (c .before .passed .ensures) (not-true _ (c .if1 .taken))
+    let c3 = c .before .before .before in
+    let a = c3 .before .before .args in
+    let k = c3 .loop .k in
+    let bad = form-broken (a .tasks) (a .objects) (a .t) (a .part .now) k _ _ _ _ _ refl refl refl refl (c .before .good-step-at .ensures)
+    (not-true _ (c .if1 .taken)) in
+    turn-finds (stepForm (a .tasks) (a .objects) (a .t) (a .part .now)) _ _ k _ _ refl (c .before .before .loop-test .taken)
+    (c3 .loop .inv .1) bad refl refl
 
 add-k : tie.Need-add-k Inv-loop μ-loop
 add-k c = omega arith
@@ -46,14 +44,12 @@ loop-less c = omega arith
 
 loop-again : tie.Need-loop-again Inv-loop μ-loop
 loop-again c =
-    let c2 = c .before .before in
-    let c4 = c2 .before .before in
-    let c6 = c4 .before .before in
-    let form = stepForm (c6 .args .tasks) (c6 .args .objects) (c6 .args .t) (c6 .args .part .now) in (
-      omega arith,
-      turn-passes form _ _ _ (c4 .loop .inv .1)
-          (c2 .step-form .ensures) (c .before .passed .ensures) (not-false _ (c .if1 .left)),
-    )
+    let c3 = c .before .before .before in
+    let a = c3 .before .before .args in
+    let k = c3 .loop .k in
+    let good = form-good (a .tasks) (a .objects) (a .t) (a .part .now) k _ _ _ _ _ refl refl refl refl (c .before .good-step-at .ensures)
+    (not-false _ (c .if1 .left)) in
+    (omega arith, turn-passes (stepForm (a .tasks) (a .objects) (a .t) (a .part .now)) k _ _ (c3 .loop .inv .1) good refl refl)
 
 returns-2 : tie.Need-returns-2 Inv-loop μ-loop
 unfolding stepsForm
@@ -69,8 +65,7 @@ steps-form-spec =
     Inv-loop
     μ-loop
     loop-holds
-    step-form-requires
-    passed-requires
+    good-step-at-requires
     returns
     add-k
     loop-less
