@@ -6,13 +6,14 @@ ghost use lib.Dec.{eqb};
 ghost use Rattle.rules.specs.Limits.{objectLimit};
 ghost use Rattle.rules.specs.Model.{highestOf};
 ghost use Rattle.format.specs.Format.{taskCount, objectCount};
-ghost use Rattle.format.specs.Steps.{stepsOf};
+ghost use Rattle.rules.specs.Priorities.{checkedOf};
+ghost use Rattle.format.specs.Steps.{setStep, stepAt, stepCount, stepsOf};
 ghost use Rattle.format.specs.Roster.{rosterOf};
 ghost use Rattle.format.specs.Form.{formOf};
 ghost use Rattle.format.specs.Check.{something, isInnermost, ownSet, topOf, faultOf, stepsFault, scriptFault, rosterFault, checkOf};
 ghost use Rattle.roster.specs.Held.{listOf};
 ghost use Rattle.roster.specs.Listed.{AllListed};
-ghost use Rattle.format.specs.declared.Step.the-variants.{Enter, Set};
+ghost use Rattle.format.specs.declared.Step.the-variants.{Enter};
 ghost use Rattle.format.specs.declared.Verdict.the-variants.{Passed, WhileHeld, NotInnermost, OtherTask};
 use crate::forms;
 use crate::held::Held;
@@ -21,6 +22,7 @@ use fields::steps;
 use format::Limits;
 use format::Step;
 use format::Verdict;
+use rules::Checked;
 use rules::Priority;
 
 // The highest of a priority and the ceilings of what is held.
@@ -40,27 +42,29 @@ fn highest(roster: &[u8], held: Held, top: Priority) -> Priority
     p
 }
 
-// What task t's step sets its own base to, or 0.
-fn own_set(t: u8, x: Step) -> Priority
-    ensures { λ r. ⌜ r .0 ≡ ownSet t x ⌝ }
+// What a Set of task u to b sets the base of its own task t to, or 0.
+fn own_value(t: u8, u: u8, b: u16) -> Priority
+    ensures { λ r. ⌜ r .0 ≡ ownSet t (setStep u (checkedOf b)) ⌝ }
 {
-    match x {
-        Step::Enter(_) => Priority(0),
-        Step::Leave(_) => Priority(0),
-        Step::Delay(_) => Priority(0),
-        Step::Work => Priority(0),
-        Step::Suspend => Priority(0),
-        Step::Release(_) => Priority(0),
-        Step::Set(u, p) => own_value(t, u, p),
-        Step::Again => Priority(0),
-        Step::Finish => Priority(0),
+    if u != t {
+        return Priority(0);
+    }
+    match Priority::checked(b as u64) {
+        Checked::Good(p) => p,
+        Checked::OutOfRange => Priority(0),
     }
 }
 
-fn own_value(t: u8, u: u8, p: Priority) -> Priority
-    ensures { λ r. ⌜ r .0 ≡ ownSet t (Set u p) ⌝ }
+// What the step at position k sets the base of its own task t to, or 0: past the code only a Set is read.
+fn own_set(part: &[u8], k: usize, t: u8) -> Priority
+    requires { ⌜ k < stepCount (now part) ⌝ }
+    ensures { λ r. ⌜ r .0 ≡ ownSet t (stepAt (now (part .entry)) k) ⌝ }
 {
-    if u == t { p } else { Priority(0) }
+    let at = Limits::STEP * k;
+    if part[at] != Step::SET {
+        return Priority(0);
+    }
+    own_value(t, part[at + 1], words::word_in(part, at + 2))
 }
 
 // The highest of a base and all own Set values of a script, found once for the whole script.
@@ -71,8 +75,7 @@ fn top_of(part: &[u8], t: u8, base: Priority) -> Priority
     let mut top = base;
     let mut k: usize = 0;
     while k < n {
-        let x = steps::step_at(part, k);
-        let value = own_set(t, x);
+        let value = own_set(part, k, t);
         top = top.higher(value);
         k += 1;
     }

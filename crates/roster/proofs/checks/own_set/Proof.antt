@@ -1,95 +1,51 @@
 -- `roster::checks::own_set` meets its contract.
-use mathlib.Core.Path.{sym, ap, _∙_}
-use Rattle.format.specs.Check.{ownSet}
+use Rattle.format.specs.Steps.{codeAt, aAt, bAt, stepAt}
+use Rattle.roster.proofs.CheckLaws.{own-set, own-none}
 use borrow.Author.Needs.{needs}
 use Rattle.roster.proofs.checks.own_set.Statement.{statement}
 use Rattle.roster.proofs.checks.own_set.Tie as tie
 
-enum-told : tie.Need-enum-told
-enum-told c = search needs
+mul-at : tie.Need-mul-at
+mul-at c = search needs
 
-enum-told-2 : tie.Need-enum-told-2
-enum-told-2 c = search needs
+shared-slice-read-if1 : tie.Need-shared-slice-read-if1
+shared-slice-read-if1 c = search needs
 
-enum-told-3 : tie.Need-enum-told-3
-enum-told-3 c = search needs
+returns : tie.Need-returns
+unfolding stepAt codeAt
+returns c = own-none _ _ _ _ (c .if1 .taken)
 
-enum-told-4 : tie.Need-enum-told-4
-enum-told-4 c = search needs
+add-own-value : tie.Need-add-own-value
+add-own-value c = search needs
 
-enum-told-5 : tie.Need-enum-told-5
-enum-told-5 c = search needs
+shared-slice-read-own-value : tie.Need-shared-slice-read-own-value
+shared-slice-read-own-value c = search needs
 
-enum-told-6 : tie.Need-enum-told-6
-enum-told-6 c = search needs
+add-word-in : tie.Need-add-word-in
+add-word-in c = search needs
 
-enum-known-x : tie.Need-enum-known-x
-enum-known-x c = search needs
+word-in-requires : tie.Need-word-in-requires
+word-in-requires c κs = search needs
 
 own-value-requires : tie.Need-own-value-requires
 own-value-requires c κs = search needs
 
-enum-told-7 : tie.Need-enum-told-7
-enum-told-7 c = search needs
-
-enum-told-8 : tie.Need-enum-told-8
-enum-told-8 c = search needs
-
-returns : tie.Need-returns
-unfolding ownSet
-returns c = sym (ap (ownSet (c .before .before .args .t)) (c .enum-told .given .1))
-
 returns-2 : tie.Need-returns-2
-unfolding ownSet
-returns-2 c = sym (ap (ownSet (c .before .before .args .t)) (c .enum-told2 .given .1))
-
-returns-3 : tie.Need-returns-3
-unfolding ownSet
-returns-3 c = sym (ap (ownSet (c .before .before .args .t)) (c .enum-told3 .given .1))
-
-returns-4 : tie.Need-returns-4
-unfolding ownSet
-returns-4 c = sym (ap (ownSet (c .before .before .args .t)) (c .enum-told4 .given .1))
-
-returns-5 : tie.Need-returns-5
-unfolding ownSet
-returns-5 c = sym (ap (ownSet (c .before .before .args .t)) (c .enum-told5 .given .1))
-
-returns-6 : tie.Need-returns-6
-unfolding ownSet
-returns-6 c = sym (ap (ownSet (c .before .before .args .t)) (c .enum-told6 .given .1))
-
-returns-7 : tie.Need-returns-7
-returns-7 c = c .own-value .ensures ∙ sym (ap (ownSet (c .before .before .before .before .args .t)) (c .before .before .x .given .1))
-
-returns-8 : tie.Need-returns-8
-unfolding ownSet
-returns-8 c = sym (ap (ownSet (c .before .before .args .t)) (c .enum-told7 .given .1))
-
-returns-9 : tie.Need-returns-9
-unfolding ownSet
-returns-9 c = sym (ap (ownSet (c .before .before .args .t)) (c .enum-told8 .given .1))
+unfolding stepAt codeAt aAt bAt
+returns-2 c =
+    let a = c .before .before .before .before .before .before .args in
+    own-set _ _ (aAt (a .part .now) (a .k)) (bAt (a .part .now) (a .k)) _ (c .before .before .before .if1 .left) (cc)
 
 pub own-set-spec : {M : Type 1} → statement M
 own-set-spec =
     tie.close
     (tie.spec
-    enum-told
-    enum-told-2
-    enum-told-3
-    enum-told-4
-    enum-told-5
-    enum-told-6
-    enum-known-x
-    own-value-requires
-    enum-told-7
-    enum-told-8
+    mul-at
+    shared-slice-read-if1
     returns
-    returns-2
-    returns-3
-    returns-4
-    returns-5
-    returns-6
-    returns-7
-    returns-8
-    returns-9)
+    add-own-value
+    shared-slice-read-own-value
+    add-word-in
+    word-in-requires
+    own-value-requires
+    returns-2)

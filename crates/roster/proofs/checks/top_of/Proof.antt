@@ -1,13 +1,13 @@
 -- `roster::checks::top_of` meets its contract.
 use native.Mathlib.Omega.{arith}
-use mathlib.Core.Path.{_≡_, refl}
+use mathlib.Core.Path.{_≡_, refl, sym}
 use Prim.Native.Nat.{_≤_, _-_}
 use lib.ListN.{length}
 use borrow.Author.Needs.{needs}
 use lib.ListN.{drop}
 use Rattle.format.specs.Steps.{stepsOf}
 use Rattle.format.specs.Check.{topOf}
-use Rattle.format.proofs.StepLaws.{steps-length}
+use Rattle.format.proofs.StepLaws.{steps-length, steps-at}
 use Rattle.roster.proofs.CheckLaws.{top-on, top-end}
 use Rattle.roster.proofs.checks.top_of.Statement.{statement}
 use Rattle.roster.proofs.checks.top_of.Tie as tie
@@ -20,9 +20,6 @@ abbrev μ-loop : tie.MeasureT-loop
 
 loop-holds : tie.Need-loop-holds Inv-loop μ-loop
 loop-holds c = (omega arith, refl)
-
-step-at-requires : tie.Need-step-at-requires Inv-loop μ-loop
-step-at-requires c κs = search needs
 
 own-set-requires : tie.Need-own-set-requires Inv-loop μ-loop
 own-set-requires c κs = search needs
@@ -38,10 +35,11 @@ loop-less c = omega arith
 
 loop-again : tie.Need-loop-again Inv-loop μ-loop
 loop-again c =
-    let part = c .before .before .before .before .before .before .args .part .now in (
+    let c3 = c .before .before .before in
+    let part = c3 .before .before .args .part .now in (
       omega arith,
-      top-on _ _ (stepsOf part) _ _ _ _ _ (omega (arith, steps-length part)) (c .before .before .before .before .loop .inv .1)
-          (c .before .before .step-at .ensures) (c .before .own-set .ensures) (c .higher .ensures),
+      top-on _ _ (stepsOf part) _ _ _ _ _ (omega (arith, steps-length part)) (c3 .loop .inv .1)
+          (sym (steps-at part (c3 .loop .k) (omega arith))) (c .before .own-set .ensures) (c .higher .ensures),
     )
 
 returns : tie.Need-returns Inv-loop μ-loop
@@ -57,7 +55,6 @@ top-of-spec =
     Inv-loop
     μ-loop
     loop-holds
-    step-at-requires
     own-set-requires
     higher-requires
     add-k
