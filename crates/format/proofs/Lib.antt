@@ -3,7 +3,6 @@ pub mod TestLaws
 pub mod StepLaws
 pub mod FormatLaws
 pub mod FormLaws
-pub mod HeldLaws
 pub mod WalkLaws
 pub mod FormedLaws
 pub mod AnswerLaws

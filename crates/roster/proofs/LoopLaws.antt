@@ -1,57 +1,98 @@
 -- Laws of the loop over a script, with the stack that keeps what is held.
-use mathlib.Core.Path.{_≡_, ap, sym, _∙_, subst}
+use mathlib.Core.Path.{_≡_, refl, ap, sym, _∙_, subst}
 use mathlib.Core.Bool.{true}
 use mathlib.Core.List.{List}
-use Prim.Native.Nat.{ℕ, suc, _+_, _-_, _≤_}
+use Prim.Native.Nat.{ℕ, zero, suc, _+_, _-_, _≤_, _<_}
 use native.Mathlib.Omega.{arith}
 use native.Mathlib.Numerals.{add-one}
+use borrow.Author.Tests.{ltb-false}
 use lib.ListN.{length}
 use Rattle.rules.specs.Limits.{objectLimit}
+use Rattle.rules.specs.Model.{ceilingOf, highestOf}
+use Rattle.rules.specs.Sound.{rising}
+use Rattle.rules.proofs.HeldLaws.{rising-push, rising-take}
 use Rattle.format.specs.Answers.{first}
-use Rattle.format.specs.Steps.{stepIn}
-use Rattle.format.specs.Form.{namesListed}
-use Rattle.format.specs.Check.{heldAfter, heldBefore}
+use Rattle.format.specs.Format.{taskCount, objectCount, partAt}
+use Rattle.format.specs.Steps.{stepsOf, stepIn}
+use Rattle.format.specs.Roster.{rosterOf}
+use Rattle.format.specs.Form.{namesListed, formOf}
+use Rattle.format.specs.Check.{heldAfter, heldBefore, lowCeiling}
 use Rattle.format.specs.Check.{faultOf, faultIn, stepsFault}
-use Rattle.roster.specs.Held.{listOf, Holds}
-use Rattle.roster.specs.declared.held.Held.{Held}
+use Rattle.roster.specs.Held.{Stacked}
+use Rattle.roster.specs.Listed.{AllListed}
 use Rattle.format.specs.declared.Step.{Step}
-use Rattle.format.specs.declared.Step.the-variants.{Finish}
+use Rattle.format.specs.declared.Step.the-variants.{Enter, Leave, Delay, Work, Suspend, Release, Set, Again, Finish}
 use Rattle.format.specs.declared.Verdict.{Verdict}
 use Rattle.format.specs.declared.Verdict.the-variants.{Passed}
-use Rattle.format.proofs.TestLaws.{first-new}
-use Rattle.format.proofs.WalkLaws.{held-room}
+use Rattle.format.proofs.TestLaws.{first-new, first-below}
+use Rattle.format.proofs.FormatLaws.{ceiling-count}
+use Rattle.format.proofs.FormedLaws.{objects-few, part-listed}
+use Rattle.format.proofs.WalkLaws.{Clean, clean, held-room}
 
--- the loop over a script: the fault of a turn, what is held after it, and the script's end
+-- a step without a fault keeps the ceilings from falling
+rising-after : (cs : List ℕ) (top : ℕ) (held : List ℕ) (t : ℕ) (x : Step) → rising cs top held ≡ true → Clean cs top held t x →
+    rising cs top (heldAfter held x) ≡ true
+unfolding heldAfter lowCeiling
+rising-after cs top held t (Enter o) e r = rising-push cs top o held e (ltb-false (ceilingOf cs o) (highestOf cs top held) (r .high))
+rising-after cs top held t (Leave o) e r = rising-take cs top (length held - 1) held e
+rising-after cs top held t (Delay d) e r = e
+rising-after cs top held t Work e r = e
+rising-after cs top held t Suspend e r = e
+rising-after cs top held t (Release u) e r = e
+rising-after cs top held t (Set u p) e r = e
+rising-after cs top held t Again e r = e
+rising-after cs top held t Finish e r = e
+
+-- the loop over a script: what is held so far, the fault of a turn, what is held after it, and the script's end
 module _ (cs : List ℕ) (top t : ℕ) (steps : List Step) where
-  pub fault-here : (k : ℕ) (h : Held) (x : Step) (v : Verdict) → Holds h (heldBefore steps k) → x ≡ stepIn steps k →
-      v ≡ faultOf cs top (listOf h) t k x → v ≡ faultIn cs top t steps k
-  unfolding faultIn
-  fault-here k h x v r e f =
-      f ∙ (ap (λ (l : List ℕ). faultOf cs top l t k x) (r .same) ∙ ap (faultOf cs top (heldBefore steps k) t k) e)
+  rising-before : (k : ℕ) → first k (faultIn cs top t steps) ≡ Passed → rising cs top (heldBefore steps k) ≡ true
+  unfolding heldBefore faultIn rising
+  rising-before zero e = refl
+  rising-before (suc k) e =
+      let b = first-below (faultIn cs top t steps) k e in
+      let held = heldBefore steps k in
+      rising-after cs top held t (stepIn steps k) (rising-before k (b .0)) (clean cs top held t k (stepIn steps k) (b .1))
 
-  pub fault-end : (n k : ℕ) (h : Held) (v : Verdict) → n ≡ length steps → k ≡ n → Holds h (heldBefore steps k) → stepIn steps n ≡ Finish →
-      first k (faultIn cs top t steps) ≡ Passed → v ≡ faultOf cs top (listOf h) t n Finish → v ≡ stepsFault cs top t steps
+  pub rising-held : (k : ℕ) (held : List ℕ) → held ≡ heldBefore steps k → first k (faultIn cs top t steps) ≡ Passed →
+      rising cs top held ≡ true
+  rising-held k held e p = ap (rising cs top) e ∙ rising-before k p
+
+  pub fault-here : (k : ℕ) (held : List ℕ) (x : Step) (v : Verdict) → held ≡ heldBefore steps k → x ≡ stepIn steps k →
+      v ≡ faultOf cs top held t k x → v ≡ faultIn cs top t steps k
+  unfolding faultIn
+  fault-here k held x v e f g = cc
+
+  pub fault-end : (n k : ℕ) (held : List ℕ) (v : Verdict) → n ≡ length steps → k ≡ n → held ≡ heldBefore steps k →
+      stepIn steps n ≡ Finish → first k (faultIn cs top t steps) ≡ Passed → v ≡ faultOf cs top held t n Finish →
+      v ≡ stepsFault cs top t steps
   unfolding stepsFault
-  fault-end n k h v e f r g p q =
+  fault-end n k held v e f r g p q =
+      let here = fault-here n held Finish v (r ∙ ap (heldBefore steps) f) (sym g) q in
       let i : k ≡ length steps = f ∙ e in
-      let here = fault-here n h Finish v (subst (λ (j : ℕ). Holds h (heldBefore steps j)) f r) (sym g) q in
       here ∙ (ap (faultIn cs top t steps) e ∙
       sym (first-new (faultIn cs top t steps) (length steps) (subst (λ (j : ℕ). first j (faultIn cs top t steps) ≡ Passed) i p)))
 
-pub held-after : (steps : List Step) (k : ℕ) (h r : Held) (x : Step) → Holds h (heldBefore steps k) → x ≡ stepIn steps k →
-    Holds r (heldAfter (listOf h) x) → Holds r (heldBefore steps (k + 1))
-unfolding heldBefore
-held-after steps k h r x a e b =
-    let f : heldAfter (listOf h) x ≡ heldBefore steps (k + 1) =
-    ap (λ (l : List ℕ). heldAfter l x) (a .same) ∙ (ap (heldAfter (heldBefore steps k)) e ∙ ap (heldBefore steps) (sym (add-one k))) in
-    subst (Holds r) f b
-
-module _ (n m : ℕ) (cs : List ℕ) (top t : ℕ) (steps : List Step) (listed : (k : ℕ) → namesListed n m (stepIn steps k) ≡ true) where
-  pub after-room : (k : ℕ) (h : Held) (x : Step) → m ≤ objectLimit → Holds h (heldBefore steps k) → x ≡ stepIn steps k →
-      first (k + 1) (faultIn cs top t steps) ≡ Passed → length (heldAfter (listOf h) x) ≤ objectLimit
+  pub after-room : (k : ℕ) (held : List ℕ) (x : Step) → AllListed (length cs) steps → length cs ≤ objectLimit →
+      held ≡ heldBefore steps k → x ≡ stepIn steps k → first (k + 1) (faultIn cs top t steps) ≡ Passed →
+      length (heldAfter held x) ≤ objectLimit
   unfolding heldBefore
-  after-room k h x b a e p =
-      let f : heldAfter (listOf h) x ≡ heldBefore steps (suc k) =
-      ap (λ (l : List ℕ). heldAfter l x) (a .same) ∙ ap (heldAfter (heldBefore steps k)) e in
+  after-room k held x listed b e f p =
+      let g : heldAfter held x ≡ heldBefore steps (suc k) = cc in
       let q = subst (λ (j : ℕ). first j (faultIn cs top t steps) ≡ Passed) (add-one k) p in
-      omega (arith, ap length f, held-room n m cs top t steps listed (suc k) q)
+      omega (arith, ap length g, held-room (listed .0) (length cs) cs top t steps (listed .1) (suc k) q)
+
+pub held-after : (steps : List Step) (k : ℕ) (cells : List ℕ) (depth : ℕ) (held : List ℕ) (x : Step) → held ≡ heldBefore steps k →
+    x ≡ stepIn steps k → Stacked cells depth (heldAfter held x) → Stacked cells depth (heldBefore steps (k + 1))
+unfolding heldBefore
+held-after steps k cells depth held x a e b =
+    let f : heldAfter held x ≡ heldBefore steps (suc k) = cc in
+    subst (Stacked cells depth) (f ∙ ap (heldBefore steps) (sym (add-one k))) b
+
+-- what the form gives the walk: as many ceilings as fit, and steps that name what is listed
+pub walk-given : (s : List ℕ) → formOf s ≡ Passed → (t : ℕ) (part cs : List ℕ) → t < taskCount s → part ≡ partAt s t →
+    cs ≡ rosterOf s .ceilings → (length cs ≤ objectLimit) × (AllListed (length cs) (stepsOf part))
+walk-given s ok t part cs h e f =
+    let count : length cs ≡ objectCount s = ap length f ∙ ceiling-count s in (
+      omega (arith, objects-few s ok),
+      (taskCount s, λ k. ap (λ (m : ℕ). namesListed (taskCount s) m (stepIn (stepsOf part) k)) count ∙ part-listed s ok t part h e k),
+    )

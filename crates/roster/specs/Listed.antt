@@ -7,6 +7,6 @@ use Rattle.format.specs.Steps.{stepIn}
 use Rattle.format.specs.Form.{namesListed}
 use Rattle.format.specs.declared.Step.{Step}
 
--- of n tasks and m objects
-abbrev pub AllListed : ℕ → ℕ → List Step → Type 0
-AllListed n m steps = (k : ℕ) → namesListed n m (stepIn steps k) ≡ true
+-- of some number of tasks and m objects
+abbrev pub AllListed : ℕ → List Step → Type 0
+AllListed m steps = (n : ℕ) × ((k : ℕ) → namesListed n m (stepIn steps k) ≡ true)

@@ -1,22 +1,22 @@
 // The check of a roster: answers 17 to 20.
 ghost use mathlib.Core.Path.{_≡_};
-ghost use mathlib.Core.Bool.{cond};
+ghost use mathlib.Core.Bool.{true, cond};
 ghost use Prim.Native.Nat.{_≤_, _<_};
 ghost use lib.Dec.{eqb};
+ghost use lib.ListN.{length, take};
 ghost use Rattle.rules.specs.Limits.{objectLimit};
-ghost use Rattle.rules.specs.Model.{highestOf};
-ghost use Rattle.format.specs.Format.{taskCount, objectCount};
 ghost use Rattle.rules.specs.Priorities.{checkedOf};
+ghost use Rattle.rules.specs.Sound.{rising};
+ghost use Rattle.format.specs.Format.{taskCount, objectCount};
 ghost use Rattle.format.specs.Steps.{setStep, stepAt, stepCount, stepsOf};
 ghost use Rattle.format.specs.Roster.{rosterOf};
 ghost use Rattle.format.specs.Form.{formOf};
 ghost use Rattle.format.specs.Check.{something, isInnermost, ownSet, topOf, faultOf, stepsFault, scriptFault, rosterFault, checkOf};
-ghost use Rattle.roster.specs.Held.{listOf};
 ghost use Rattle.roster.specs.Listed.{AllListed};
 ghost use Rattle.format.specs.declared.Step.the-variants.{Enter};
 ghost use Rattle.format.specs.declared.Verdict.the-variants.{Passed, WhileHeld, NotInnermost, OtherTask};
 use crate::forms;
-use crate::held::Held;
+use crate::held;
 use crate::parts::script_part;
 use fields::steps;
 use format::Limits;
@@ -24,23 +24,6 @@ use format::Step;
 use format::Verdict;
 use rules::Checked;
 use rules::Priority;
-
-// The highest of a priority and the ceilings of what is held.
-fn highest(roster: &[u8], held: Held, top: Priority) -> Priority
-    requires { ⌜ held .depth ≤ objectLimit ⌝ }
-    ensures { λ r. ⌜ r .0 ≡ highestOf (rosterOf (now (roster .entry)) .ceilings) (top .0) (listOf held) ⌝ }
-{
-    let objects = held.objects;
-    let n = held.depth;
-    let mut p = top;
-    let mut i: usize = 0;
-    while i < n {
-        let ceiling = fields::ceiling_of(roster, objects[i]);
-        p = p.higher(ceiling);
-        i += 1;
-    }
-    p
-}
 
 // What a Set of task u to b sets the base of its own task t to, or 0.
 fn own_value(t: u8, u: u8, b: u16) -> Priority
@@ -83,27 +66,26 @@ fn top_of(part: &[u8], t: u8, base: Priority) -> Priority
 }
 
 // 17 of Enter, then 18.
-fn enter_fault(roster: &[u8], held: Held, top: Priority, t: u8, k: usize, o: u8) -> Verdict
-    requires { ⌜ held .depth ≤ objectLimit ⌝ }
-    ensures { λ r. ⌜ r ≡ faultOf (rosterOf (now (roster .entry)) .ceilings) (top .0) (listOf held) t k (Enter o) ⌝ }
+fn enter_fault(ceilings: &[u8], held: &[u8], top: Priority, t: u8, k: usize, o: u8) -> Verdict
+    requires { ⌜ rising (now ceilings) (top .0) (now held) ≡ true ⌝ }
+    ensures { λ r. ⌜ r ≡ faultOf (now (ceilings .entry)) (top .0) (now (held .entry)) t k (Enter o) ⌝ }
 {
-    if held.has(o) {
+    if held::is_held(held, o) {
         return Verdict::WhileHeld(t, k);
     }
-    let ceiling = fields::ceiling_of(roster, o);
-    let active = highest(roster, held, top);
-    if ceiling.0 < active.0 {
+    let ceiling = words::byte_at(ceilings, o as usize);
+    let active = held::highest(ceilings, held, top);
+    if ceiling < active.0 {
         return Verdict::LowCeiling(t, k);
     }
     Verdict::Passed
 }
 
 // 19
-fn leave_fault(held: Held, t: u8, k: usize, o: u8) -> Verdict
-    requires { ⌜ held .depth ≤ objectLimit ⌝ }
-    ensures { λ r. ⌜ r ≡ cond (isInnermost (listOf held) o) Passed (NotInnermost t k) ⌝ }
+fn leave_fault(held: &[u8], t: u8, k: usize, o: u8) -> Verdict
+    ensures { λ r. ⌜ r ≡ cond (isInnermost (now (held .entry)) o) Passed (NotInnermost t k) ⌝ }
 {
-    if held.innermost(o) {
+    if held::is_innermost(held, o) {
         return Verdict::Passed;
     }
     Verdict::NotInnermost(t, k)
@@ -120,23 +102,22 @@ fn set_fault(t: u8, k: usize, u: u8) -> Verdict
 }
 
 // 17, of the steps that want nothing held.
-fn rest_fault(held: Held, t: u8, k: usize) -> Verdict
-    requires { ⌜ held .depth ≤ objectLimit ⌝ }
-    ensures { λ r. ⌜ r ≡ cond (something (listOf held)) (WhileHeld t k) Passed ⌝ }
+fn rest_fault(held: &[u8], t: u8, k: usize) -> Verdict
+    ensures { λ r. ⌜ r ≡ cond (something (now (held .entry))) (WhileHeld t k) Passed ⌝ }
 {
-    if held.some() {
+    if 0 < held.len() {
         return Verdict::WhileHeld(t, k);
     }
     Verdict::Passed
 }
 
 // 17 to 20, of the step x at position k of task t.
-fn step_fault(roster: &[u8], held: Held, top: Priority, t: u8, k: usize, x: Step) -> Verdict
-    requires { ⌜ held .depth ≤ objectLimit ⌝ }
-    ensures { λ r. ⌜ r ≡ faultOf (rosterOf (now (roster .entry)) .ceilings) (top .0) (listOf held) t k x ⌝ }
+fn step_fault(ceilings: &[u8], held: &[u8], top: Priority, t: u8, k: usize, x: Step) -> Verdict
+    requires { ⌜ rising (now ceilings) (top .0) (now held) ≡ true ⌝ }
+    ensures { λ r. ⌜ r ≡ faultOf (now (ceilings .entry)) (top .0) (now (held .entry)) t k x ⌝ }
 {
     match x {
-        Step::Enter(o) => enter_fault(roster, held, top, t, k, o),
+        Step::Enter(o) => enter_fault(ceilings, held, top, t, k, o),
         Step::Leave(o) => leave_fault(held, t, k, o),
         Step::Delay(_) => rest_fault(held, t, k),
         Step::Work => Verdict::Passed,
@@ -149,52 +130,80 @@ fn step_fault(roster: &[u8], held: Held, top: Priority, t: u8, k: usize, x: Step
 }
 
 // 17 to 20, of one script: the first fault, the script's end counting as a step.
-fn steps_fault(roster: &[u8], part: &[u8], top: Priority, t: u8) -> Verdict
-    requires { ⌜ objectCount (now roster) ≤ objectLimit ⌝ }
-    requires { ⌜ AllListed (taskCount (now roster)) (objectCount (now roster)) (stepsOf (now part)) ⌝ }
-    ensures { λ r. ⌜ r ≡ stepsFault (rosterOf (now (roster .entry)) .ceilings) (top .0) t (stepsOf (now (part .entry))) ⌝ }
+fn steps_fault(ceilings: &[u8], part: &[u8], top: Priority, t: u8) -> Verdict
+    requires { ⌜ length (now ceilings) ≤ objectLimit ⌝ }
+    requires { ⌜ AllListed (length (now ceilings)) (stepsOf (now part)) ⌝ }
+    ensures { λ r. ⌜ r ≡ stepsFault (now (ceilings .entry)) (top .0) t (stepsOf (now (part .entry))) ⌝ }
 {
     let n = part.len() / Limits::STEP;
-    let mut held = Held::none();
+    let mut held = [0u8; Limits::OBJECTS];
+    let mut depth: usize = 0;
     let mut k: usize = 0;
     while k < n {
         let x = steps::step_at(part, k);
-        let v = step_fault(roster, held, top, t, k, x);
+        let v = step_fault(ceilings, &held[..depth], top, t, k, x);
         if !v.passed() {
             return v;
         }
-        held = held.after(x);
+        depth = held::after(&mut held, depth, x);
         k += 1;
     }
-    step_fault(roster, held, top, t, n, Step::Finish)
+    step_fault(ceilings, &held[..depth], top, t, n, Step::Finish)
 }
 
-fn script_fault(roster: &[u8], t: u8) -> Verdict
+fn script_fault(roster: &[u8], ceilings: &[u8], t: u8) -> Verdict
     requires { ⌜ formOf (now roster) ≡ Passed ⌝ }
+    requires { ⌜ now ceilings ≡ rosterOf (now roster) .ceilings ⌝ }
     requires { ⌜ t < taskCount (now roster) ⌝ }
     ensures { λ r. ⌜ r ≡ scriptFault (rosterOf (now (roster .entry))) t ⌝ }
 {
     let part = script_part(roster, t);
     let base = fields::base_at(roster, t);
     let top = top_of(part, t, base);
-    steps_fault(roster, part, top, t)
+    steps_fault(ceilings, part, top, t)
+}
+
+// The ceilings, read once for all scripts: how many, at the start of the cells.
+fn read_ceilings(roster: &[u8], cells: &mut [u8]) -> usize
+    requires { ⌜ objectCount (now roster) ≤ length (now cells) ⌝ }
+    ensures { λ r. ⌜ r ≤ length (now (cells .exit)) ⌝ }
+    ensures { λ r. ⌜ take r (now (cells .exit)) ≡ rosterOf (now (roster .entry)) .ceilings ⌝ }
+{
+    let n = fields::object_count(roster);
+    let mut o: u8 = 0;
+    while o < n {
+        let ceiling = fields::ceiling_of(roster, o);
+        cells[o as usize] = ceiling.0;
+        o += 1;
+    }
+    n as usize
 }
 
 // 17 to 20, in task and step order.
-fn roster_fault(roster: &[u8]) -> Verdict
+fn scripts_fault(roster: &[u8], ceilings: &[u8]) -> Verdict
     requires { ⌜ formOf (now roster) ≡ Passed ⌝ }
+    requires { ⌜ now ceilings ≡ rosterOf (now roster) .ceilings ⌝ }
     ensures { λ r. ⌜ r ≡ rosterFault (rosterOf (now (roster .entry))) ⌝ }
 {
     let n = fields::task_count(roster);
     let mut t: u8 = 0;
     while t < n {
-        let v = script_fault(roster, t);
+        let v = script_fault(roster, ceilings, t);
         if !v.passed() {
             return v;
         }
         t += 1;
     }
     Verdict::Passed
+}
+
+fn roster_fault(roster: &[u8]) -> Verdict
+    requires { ⌜ formOf (now roster) ≡ Passed ⌝ }
+    ensures { λ r. ⌜ r ≡ rosterFault (rosterOf (now (roster .entry))) ⌝ }
+{
+    let mut cells = [0u8; Limits::OBJECTS];
+    let n = read_ceilings(roster, &mut cells);
+    scripts_fault(roster, &cells[..n])
 }
 
 // The check of a roster: 11 to 20, or Passed.

@@ -1,108 +1,80 @@
-// The objects that a script holds, kept in a stack.
+// What a script holds: a list of objects, outermost first, lent as the part of a stack that is in use.
 ghost use mathlib.Core.Path.{_≡_};
-ghost use mathlib.Core.List.{[], _∷_, _++_};
-ghost use Prim.Native.Nat.{_-_, _≤_, _<_};
+ghost use mathlib.Core.Bool.{true};
+ghost use Prim.Native.Nat.{_-_, _≤_};
 ghost use lib.ListN.{length, take};
 ghost use Rattle.rules.specs.Limits.{objectLimit};
-ghost use Rattle.format.specs.Check.{something, isHeld, isInnermost, heldAfter};
-ghost use Rattle.roster.specs.Held.{listOf, Holds};
-use format::Limits;
+ghost use Rattle.rules.specs.Model.{highestOf};
+ghost use Rattle.rules.specs.Sound.{rising};
+ghost use Rattle.format.specs.Check.{isHeld, isInnermost, heldAfter};
+ghost use Rattle.roster.specs.Held.{Stacked};
 use format::Step;
+use rules::Priority;
 
-pub struct Held {
-    pub objects: [u8; Limits::OBJECTS],
-    pub depth: usize,
+pub fn is_held(held: &[u8], o: u8) -> bool
+    ensures { λ r. ⌜ r ≡ isHeld (now (held .entry)) o ⌝ }
+{
+    let n = held.len();
+    let mut i: usize = 0;
+    while i < n {
+        if held[i] == o {
+            return true;
+        }
+        i += 1;
+    }
+    false
 }
 
-impl Held {
-    pub fn none() -> Self
-        ensures { λ r. ⌜ Holds r [] ⌝ }
-    {
-        Held {
-            objects: [0; Limits::OBJECTS],
-            depth: 0,
-        }
+pub fn is_innermost(held: &[u8], o: u8) -> bool
+    ensures { λ r. ⌜ r ≡ isInnermost (now (held .entry)) o ⌝ }
+{
+    let n = held.len();
+    if n == 0 {
+        return false;
     }
+    held[n - 1] == o
+}
 
-    pub fn some(self) -> bool
-        requires { ⌜ self .depth ≤ objectLimit ⌝ }
-        ensures { λ r. ⌜ r ≡ something (listOf self) ⌝ }
-    {
-        0 < self.depth
+// The highest of a priority and the ceilings of what is held: as they do not fall inwards, the innermost one's.
+pub fn highest(ceilings: &[u8], held: &[u8], top: Priority) -> Priority
+    requires { ⌜ rising (now ceilings) (top .0) (now held) ≡ true ⌝ }
+    ensures { λ r. ⌜ r .0 ≡ highestOf (now (ceilings .entry)) (top .0) (now (held .entry)) ⌝ }
+{
+    let n = held.len();
+    if n == 0 {
+        return top;
     }
+    let o = held[n - 1] as usize;
+    Priority(words::byte_at(ceilings, o))
+}
 
-    pub fn has(self, o: u8) -> bool
-        requires { ⌜ self .depth ≤ objectLimit ⌝ }
-        ensures { λ r. ⌜ r ≡ isHeld (listOf self) o ⌝ }
-    {
-        let objects = self.objects;
-        let n = self.depth;
-        let mut i: usize = 0;
-        while i < n {
-            if objects[i] == o {
-                return true;
-            }
-            i += 1;
-        }
-        false
+fn less_one(n: usize) -> usize
+    ensures { λ r. ⌜ r ≡ n - 1 ⌝ }
+{
+    if n == 0 {
+        return 0;
     }
+    n - 1
+}
 
-    pub fn innermost(self, o: u8) -> bool
-        requires { ⌜ self .depth ≤ objectLimit ⌝ }
-        ensures { λ r. ⌜ r ≡ isInnermost (listOf self) o ⌝ }
-    {
-        let objects = self.objects;
-        let n = self.depth;
-        if n == 0 {
-            return false;
+// What a step leaves held, in the same cells: how many of them.
+pub fn after(cells: &mut [u8], depth: usize, x: Step) -> usize
+    requires { ⌜ Stacked (now cells) depth (take depth (now cells)) ⌝ }
+    requires { ⌜ length (heldAfter (take depth (now cells)) x) ≤ objectLimit ⌝ }
+    ensures { λ r. ⌜ Stacked (now (cells .exit)) r (heldAfter (take depth (now (cells .entry))) x) ⌝ }
+{
+    match x {
+        Step::Enter(o) => {
+            cells[depth] = o;
+            depth + 1
         }
-        objects[n - 1] == o
-    }
-
-    fn pushed(self, o: u8) -> Self
-        requires { ⌜ self .depth < objectLimit ⌝ }
-        ensures { λ r. ⌜ Holds r (listOf self ++ (o ∷ [])) ⌝ }
-    {
-        let mut objects = self.objects;
-        let n = self.depth;
-        objects[n] = o;
-        Held {
-            objects,
-            depth: n + 1,
-        }
-    }
-
-    fn popped(self) -> Self
-        requires { ⌜ self .depth ≤ objectLimit ⌝ }
-        ensures { λ r. ⌜ Holds r (take (length (listOf self) - 1) (listOf self)) ⌝ }
-    {
-        let objects = self.objects;
-        let n = self.depth;
-        if n == 0 {
-            return self;
-        }
-        Held {
-            objects,
-            depth: n - 1,
-        }
-    }
-
-    // What a step leaves held.
-    pub fn after(self, x: Step) -> Self
-        requires { ⌜ self .depth ≤ objectLimit ⌝ }
-        requires { ⌜ length (heldAfter (listOf self) x) ≤ objectLimit ⌝ }
-        ensures { λ r. ⌜ Holds r (heldAfter (listOf self) x) ⌝ }
-    {
-        match x {
-            Step::Enter(o) => self.pushed(o),
-            Step::Leave(_) => self.popped(),
-            Step::Delay(_) => self,
-            Step::Work => self,
-            Step::Suspend => self,
-            Step::Release(_) => self,
-            Step::Set(_, _) => self,
-            Step::Again => self,
-            Step::Finish => self,
-        }
+        Step::Leave(_) => less_one(depth),
+        Step::Delay(_) => depth,
+        Step::Work => depth,
+        Step::Suspend => depth,
+        Step::Release(_) => depth,
+        Step::Set(_, _) => depth,
+        Step::Again => depth,
+        Step::Finish => depth,
     }
 }

@@ -21,7 +21,8 @@ enum-told c = search needs
 returns-2 : tie.Need-returns-2
 returns-2 c =
     let c4 = c .before .before .before .before in
-    own-good _ _ (checkedOf (c4 .before .args .b)) _ (c4 .if1 .left) (sym (c .before .before .before .checked .ensures) ∙ c .before .p .given .1)
+    own-good _ _ (checkedOf (c4 .before .args .b)) _ (c4 .if1 .left)
+    (sym (c .before .before .before .checked .ensures) ∙ c .before .p .given .1)
 
 returns-3 : tie.Need-returns-3
 returns-3 c =

@@ -1,12 +1,20 @@
 -- `roster::checks::script_fault` meets its contract.
-use Rattle.format.proofs.FormedLaws.{part-inside, objects-few, part-listed}
+use mathlib.Core.Path.{ap, _∙_}
+use mathlib.Core.List.{List}
+use Prim.Native.Nat.{ℕ}
+use Rattle.format.specs.Steps.{stepsOf}
+use Rattle.format.specs.Check.{stepsFault}
+use Rattle.format.proofs.FormedLaws.{part-inside}
 use Rattle.format.proofs.AnswerLaws.{script-fault}
+use Rattle.roster.proofs.LoopLaws.{walk-given}
 use borrow.Author.Needs.{needs}
 use Rattle.roster.proofs.checks.script_fault.Statement.{statement}
 use Rattle.roster.proofs.checks.script_fault.Tie as tie
 
 script-part-requires : tie.Need-script-part-requires
-script-part-requires c κs = part-inside (c .before .args .roster .now) (c .before .pre .0) _ (c .before .pre .1)
+script-part-requires c κs =
+    let s = c .before .before in
+    part-inside (s .args .roster .now) (s .pre .0) _ (s .pre .1 .1)
 
 base-at-requires : tie.Need-base-at-requires
 base-at-requires c κs = search needs
@@ -16,19 +24,17 @@ top-of-requires c κs = search needs
 
 steps-fault-requires : tie.Need-steps-fault-requires
 steps-fault-requires c κs =
-    let c2 = c .before .before in
-    let c4 = c2 .before .before in (
-      objects-few (c4 .args .roster .now) (c4 .pre .0),
-      part-listed (c4 .args .roster .now) (c4 .pre .0) _ _ (c4 .pre .1) (c2 .script-part .ensures),
-    )
+    let s = c .before .before .before .before .before in
+    walk-given (s .args .roster .now) (s .pre .0) _ _ _ (s .pre .1 .1) (c .before .before .script-part .ensures) (s .pre .1 .0)
 
 returns : tie.Need-returns
 returns c =
-    let c2 = c .before .before in
-    let c3 = c2 .before in
-    let c5 = c3 .before .before in
-    script-fault (c5 .args .roster .now) _ _ _ _ _ (c5 .pre .1) (c3 .script-part .ensures) (c2 .base-at .ensures)
-    (c .before .top-of .ensures) (c .steps-fault .ensures)
+    let s = c .before .before .before .before .before .before in
+    let steps = stepsOf (c .before .before .before .script-part .result .now) in
+    let fault = c .steps-fault .ensures ∙
+    ap (λ (cs : List ℕ). stepsFault cs (c .before .top-of .result .0) (s .args .t) steps) (s .pre .1 .0) in
+    script-fault (s .args .roster .now) _ _ _ _ _ (s .pre .1 .1) (c .before .before .before .script-part .ensures)
+    (c .before .before .base-at .ensures) (c .before .top-of .ensures) fault
 
 pub script-fault-spec : {M : Type 1} → statement M
 script-fault-spec =

@@ -1,7 +1,5 @@
 -- `roster::checks::step_fault` meets its contract.
 use mathlib.Core.Path.{refl}
-use Rattle.format.specs.Roster.{rosterOf}
-use Rattle.roster.specs.Held.{listOf}
 use Rattle.format.specs.Check.{faultOf, whileHeld, lowCeiling, notInnermost, otherTask}
 use Rattle.roster.proofs.CheckLaws.{same-fault, leave-fault, set-fault, rest-fault, no-fault}
 use borrow.Author.Needs.{needs}
@@ -58,62 +56,62 @@ rest-fault-requires-4 c κs = search needs
 
 returns : tie.Need-returns
 returns c =
-    let c5 = c .before .before .before .before .before in
-    same-fault (rosterOf (c5 .args .roster .now) .ceilings) _ (listOf (c5 .args .held)) _ _ _ _ _
+    let a = c .before .before .before .before .before .before .args in
+    same-fault (a .ceilings .now) _ (a .held .now) _ _ _ _ _
     (c .enter-fault .ensures) (c .before .before .x .given .1)
 
 returns-2 : tie.Need-returns-2
 returns-2 c =
     let c2 = c .before .before in
-    let c5 = c2 .before .before .before in
-    leave-fault (rosterOf (c5 .args .roster .now) .ceilings) _ (listOf (c5 .args .held)) _ _ _ _ _ (c .leave-fault .ensures)
+    let a = c2 .before .before .before .before .args in
+    leave-fault (a .ceilings .now) _ (a .held .now) _ _ _ _ _ (c .leave-fault .ensures)
     (c2 .x2 .given .1)
 
 returns-3 : tie.Need-returns-3
 unfolding faultOf whileHeld lowCeiling notInnermost otherTask
 returns-3 c =
-    let c4 = c .before .before .before .before in
-    rest-fault (rosterOf (c4 .args .roster .now) .ceilings) _ (listOf (c4 .args .held)) _ _ _ _ _ (c .rest-fault .ensures)
+    let a = c .before .before .before .before .before .args in
+    rest-fault (a .ceilings .now) _ (a .held .now) _ _ _ _ _ (c .rest-fault .ensures)
     (c .before .enum-told .given .1) refl
 
 returns-4 : tie.Need-returns-4
 unfolding faultOf whileHeld lowCeiling notInnermost otherTask
 returns-4 c =
-    let c3 = c .before .before .before in
-    no-fault (rosterOf (c3 .args .roster .now) .ceilings) _ (listOf (c3 .args .held)) _ _ _ _ (c .enum-told2 .given .1) refl
+    let a = c .before .before .before .before .args in
+    no-fault (a .ceilings .now) _ (a .held .now) _ _ _ _ (c .enum-told2 .given .1) refl
 
 returns-5 : tie.Need-returns-5
 unfolding faultOf whileHeld lowCeiling notInnermost otherTask
 returns-5 c =
-    let c4 = c .before .before .before .before in
-    rest-fault (rosterOf (c4 .args .roster .now) .ceilings) _ (listOf (c4 .args .held)) _ _ _ _ _ (c .rest-fault2 .ensures)
+    let a = c .before .before .before .before .before .args in
+    rest-fault (a .ceilings .now) _ (a .held .now) _ _ _ _ _ (c .rest-fault2 .ensures)
     (c .before .enum-told3 .given .1) refl
 
 returns-6 : tie.Need-returns-6
 unfolding faultOf whileHeld lowCeiling notInnermost otherTask
 returns-6 c =
-    let c3 = c .before .before .before in
-    no-fault (rosterOf (c3 .args .roster .now) .ceilings) _ (listOf (c3 .args .held)) _ _ _ _ (c .enum-told4 .given .1) refl
+    let a = c .before .before .before .before .args in
+    no-fault (a .ceilings .now) _ (a .held .now) _ _ _ _ (c .enum-told4 .given .1) refl
 
 returns-7 : tie.Need-returns-7
 returns-7 c =
     let c2 = c .before .before in
-    let c5 = c2 .before .before .before in
-    set-fault (rosterOf (c5 .args .roster .now) .ceilings) _ (listOf (c5 .args .held)) _ _ _ _ _ _ (c .set-fault .ensures)
+    let a = c2 .before .before .before .before .args in
+    set-fault (a .ceilings .now) _ (a .held .now) _ _ _ _ _ _ (c .set-fault .ensures)
     (c2 .x3 .given .1)
 
 returns-8 : tie.Need-returns-8
 unfolding faultOf whileHeld lowCeiling notInnermost otherTask
 returns-8 c =
-    let c4 = c .before .before .before .before in
-    rest-fault (rosterOf (c4 .args .roster .now) .ceilings) _ (listOf (c4 .args .held)) _ _ _ _ _ (c .rest-fault3 .ensures)
+    let a = c .before .before .before .before .before .args in
+    rest-fault (a .ceilings .now) _ (a .held .now) _ _ _ _ _ (c .rest-fault3 .ensures)
     (c .before .enum-told5 .given .1) refl
 
 returns-9 : tie.Need-returns-9
 unfolding faultOf whileHeld lowCeiling notInnermost otherTask
 returns-9 c =
-    let c4 = c .before .before .before .before in
-    rest-fault (rosterOf (c4 .args .roster .now) .ceilings) _ (listOf (c4 .args .held)) _ _ _ _ _ (c .rest-fault4 .ensures)
+    let a = c .before .before .before .before .before .args in
+    rest-fault (a .ceilings .now) _ (a .held .now) _ _ _ _ _ (c .rest-fault4 .ensures)
     (c .before .enum-told6 .given .1) refl
 
 pub step-fault-spec : {M : Type 1} → statement M

@@ -4,39 +4,47 @@ use borrow.Author.Tests.{not-true, not-false}
 use mathlib.Core.Path.{_≡_, refl, sym}
 use Prim.Native.Nat.{suc, _≤_, _<_, _-_}
 use lib.ListN.{length}
+use lib.Seq.{length-take-le}
 use borrow.Author.Needs.{needs}
 use Rattle.format.specs.Answers.{first}
 use Rattle.format.specs.Steps.{stepsOf, stepCount}
-use Rattle.format.specs.Roster.{rosterOf}
 use Rattle.format.specs.Check.{heldBefore, faultIn, stepsFault}
-use Rattle.roster.specs.Held.{Holds}
+use Rattle.roster.specs.Held.{Stacked}
 use Rattle.format.specs.declared.Verdict.the-variants.{Passed}
 use Rattle.format.proofs.TestLaws.{turn-finds, turn-passes}
 use Rattle.format.proofs.StepLaws.{steps-length, steps-past}
-use Rattle.roster.proofs.LoopLaws.{fault-here, fault-end, held-after, after-room}
+use Rattle.roster.proofs.LoopLaws.{rising-held, fault-here, fault-end, held-after, after-room}
 use Rattle.roster.proofs.checks.steps_fault.Statement.{statement}
 use Rattle.roster.proofs.checks.steps_fault.Tie as tie
 
 abbrev Inv-loop : tie.InvT-loop
-Inv-loop roster part top t n held₀ k₀ held k =
-    (k ≤ n) × (Holds held (heldBefore (stepsOf part) k)) ×
-    (first k (faultIn (rosterOf roster .ceilings) (top .0) t (stepsOf part)) ≡ Passed)
+Inv-loop ceilings part top t n held₀ depth₀ k₀ held depth k =
+    (k ≤ n) × (Stacked held depth (heldBefore (stepsOf part) k)) ×
+    (first k (faultIn ceilings (top .0) t (stepsOf part)) ≡ Passed)
 
 abbrev μ-loop : tie.MeasureT-loop
-μ-loop roster part top t n held₀ k₀ held k = n - k
-
-none-requires : tie.Need-none-requires Inv-loop μ-loop
-none-requires c κs = search needs
+μ-loop ceilings part top t n held₀ depth₀ k₀ held depth k = n - k
 
 loop-holds : tie.Need-loop-holds Inv-loop μ-loop
 unfolding heldBefore first
-loop-holds c = (omega arith, c .none .ensures, refl)
+loop-holds c = (omega arith, record { same = refl; fits = omega arith; room = refl }, refl)
 
 step-at-requires : tie.Need-step-at-requires Inv-loop μ-loop
 step-at-requires c κs = search needs
 
+array-share-prefix-held : tie.Need-array-share-prefix-held Inv-loop μ-loop
+array-share-prefix-held c = let l = c .before .before .loop in omega (arith, l .inv .1 .fits, l .inv .1 .room)
+
+slice-aggregate-step-fault : tie.Need-slice-aggregate-step-fault Inv-loop μ-loop
+slice-aggregate-step-fault c =
+    let l = c .before .before .before .loop in
+    sym (length-take-le (l .depth) (l .held) (omega (arith, l .inv .1 .fits, l .inv .1 .room)))
+
 step-fault-requires : tie.Need-step-fault-requires Inv-loop μ-loop
-step-fault-requires c κs = c .before .before .loop .inv .1 .room
+step-fault-requires c κs =
+    let c3 = c .before .before .before in
+    let a = c3 .before .before .before .args in
+    rising-held (a .ceilings .now) (a .top .0) (a .t) (stepsOf (a .part .now)) _ _ (c3 .loop .inv .1 .same) (c3 .loop .inv .2)
 
 passed-requires : tie.Need-passed-requires Inv-loop μ-loop
 passed-requires c κs = search needs
@@ -44,32 +52,35 @@ passed-requires c κs = search needs
 returns : tie.Need-returns Inv-loop μ-loop
 unfolding stepsFault
 returns c =
-    let c2 = c .before .before in
-    let c3 = c2 .before in
-    let c5 = c3 .before .before in
-    let c9 = c5 .before .before .before .before in
-    let a = c9 .args in
-    let cs = rosterOf (a .roster .now) .ceilings in
+    let c4 = c .before .before .before .before in
+    let c6 = c4 .before .before in
+    let a = c6 .before .before .before .args in
+    let cs = a .ceilings .now in
     let steps = stepsOf (a .part .now) in
-    let v = fault-here cs (a .top .0) (a .t) steps _ _ _ _ (c5 .loop .inv .1) (c3 .step-at .ensures) (c2 .step-fault .ensures) in
-    let low : c5 .loop .k < suc (length steps) = omega (arith, steps-length (a .part .now)) in
-    turn-finds (faultIn cs (a .top .0) (a .t) steps) _ _ _ _ _ refl low (c5 .loop .inv .2) v (c .before .passed .ensures)
+    let v = fault-here cs (a .top .0) (a .t) steps _ _ _ _ (c6 .loop .inv .1 .same) (c4 .step-at .ensures)
+    (c .before .before .step-fault .ensures) in
+    let low : c6 .loop .k < suc (length steps) = omega (arith, steps-length (a .part .now)) in
+    turn-finds (faultIn cs (a .top .0) (a .t) steps) _ _ _ _ _ refl low (c6 .loop .inv .2) v (c .before .passed .ensures)
     (not-true _ (c .if1 .taken))
+
+slice-aggregate-after : tie.Need-slice-aggregate-after Inv-loop μ-loop
+slice-aggregate-after c = sym (c .before .before .before .before .before .before .before .loop .inv .1 .room)
 
 after-requires : tie.Need-after-requires Inv-loop μ-loop
 after-requires c κs =
-    let c2 = c .before .before in
-    let c3 = c2 .before in
-    let c5 = c3 .before .before in
-    let c9 = c5 .before .before .before .before in
-    let a = c9 .args in
-    let cs = rosterOf (a .roster .now) .ceilings in
+    let c5 = c .before .before .before .before .before in
+    let c7 = c5 .before .before in
+    let s = c7 .before .before .before in
+    let a = s .args in
+    let cs = a .ceilings .now in
     let steps = stepsOf (a .part .now) in
-    let v = fault-here cs (a .top .0) (a .t) steps _ _ _ _ (c5 .loop .inv .1) (c3 .step-at .ensures) (c2 .step-fault .ensures) in
-    let p = turn-passes (faultIn cs (a .top .0) (a .t) steps) _ _ _ (c5 .loop .inv .2) v (c .before .passed .ensures)
-    (not-false _ (c .if1 .left)) in (
-      c5 .loop .inv .1 .room,
-      after-room _ _ cs (a .top .0) (a .t) steps (c9 .pre .1) _ _ _ (c9 .pre .0) (c5 .loop .inv .1) (c3 .step-at .ensures) p,
+    let own = c7 .loop .inv .1 in
+    let v = fault-here cs (a .top .0) (a .t) steps _ _ _ _ (own .same) (c5 .step-at .ensures)
+    (c .before .before .before .step-fault .ensures) in
+    let p = turn-passes (faultIn cs (a .top .0) (a .t) steps) _ _ _ (c7 .loop .inv .2) v (c .before .before .passed .ensures)
+    (not-false _ (c .before .if1 .left)) in (
+      record { same = refl; fits = own .fits; room = own .room },
+      after-room cs (a .top .0) (a .t) steps _ _ _ (s .pre .1) (s .pre .0) (own .same) (c5 .step-at .ensures) p,
     )
 
 add-k : tie.Need-add-k Inv-loop μ-loop
@@ -80,33 +91,43 @@ loop-less c = omega arith
 
 loop-again : tie.Need-loop-again Inv-loop μ-loop
 loop-again c =
-    let c2 = c .before .before in
-    let c3 = c2 .before in
-    let c4 = c3 .before in
-    let c6 = c4 .before .before in
-    let c10 = c6 .before .before .before .before in
-    let a = c10 .args in
-    let cs = rosterOf (a .roster .now) .ceilings in
+    let c4 = c .before .before .before .before in
+    let c7 = c4 .before .before .before in
+    let c9 = c7 .before .before in
+    let a = c9 .before .before .before .args in
+    let cs = a .ceilings .now in
     let steps = stepsOf (a .part .now) in
-    let v = fault-here cs (a .top .0) (a .t) steps _ _ _ _ (c6 .loop .inv .1) (c4 .step-at .ensures) (c3 .step-fault .ensures) in (
+    let v = fault-here cs (a .top .0) (a .t) steps _ _ _ _ (c9 .loop .inv .1 .same) (c7 .step-at .ensures)
+    (c4 .before .step-fault .ensures) in (
       omega arith,
-      held-after steps _ _ _ _ (c6 .loop .inv .1) (c4 .step-at .ensures) (c .after .ensures),
-      turn-passes (faultIn cs (a .top .0) (a .t) steps) _ _ _ (c6 .loop .inv .2) v (c2 .passed .ensures)
-          (not-false _ (c .before .if1 .left)),
+      held-after steps _ _ _ _ _ (c9 .loop .inv .1 .same) (c7 .step-at .ensures) (c .before .after .ensures),
+      turn-passes (faultIn cs (a .top .0) (a .t) steps) _ _ _ (c9 .loop .inv .2) v (c4 .passed .ensures)
+          (not-false _ (c .before .before .before .if1 .left)),
     )
 
+array-share-prefix-held-2 : tie.Need-array-share-prefix-held-2 Inv-loop μ-loop
+array-share-prefix-held-2 c = let l = c .before .loop in omega (arith, l .inv .1 .fits, l .inv .1 .room)
+
+slice-aggregate-step-fault-2 : tie.Need-slice-aggregate-step-fault-2 Inv-loop μ-loop
+slice-aggregate-step-fault-2 c =
+    let l = c .before .before .loop in
+    sym (length-take-le (l .depth) (l .held) (omega (arith, l .inv .1 .fits, l .inv .1 .room)))
+
 step-fault-requires-2 : tie.Need-step-fault-requires-2 Inv-loop μ-loop
-step-fault-requires-2 c κs = c .before .loop .inv .1 .room
+step-fault-requires-2 c κs =
+    let c2 = c .before .before in
+    let a = c2 .before .before .before .args in
+    rising-held (a .ceilings .now) (a .top .0) (a .t) (stepsOf (a .part .now)) _ _ (c2 .loop .inv .1 .same) (c2 .loop .inv .2)
 
 returns-2 : tie.Need-returns-2 Inv-loop μ-loop
 returns-2 c =
+    let l = c .before .before .before .loop in
     let a = c .before .before .before .before .before .before .args in
-    let cs = rosterOf (a .roster .now) .ceilings in
     let steps = stepsOf (a .part .now) in
     let n = stepCount (a .part .now) in
-    let end : c .before .before .loop .k ≡ n = omega arith in
-    fault-end cs (a .top .0) (a .t) steps n _ _ _ (sym (steps-length (a .part .now))) end (c .before .before .loop .inv .1)
-    (steps-past (a .part .now) n (omega arith)) (c .before .before .loop .inv .2) (c .step-fault2 .ensures)
+    let end : l .k ≡ n = omega arith in
+    fault-end (a .ceilings .now) (a .top .0) (a .t) steps n _ _ _ (sym (steps-length (a .part .now))) end (l .inv .1 .same)
+    (steps-past (a .part .now) n (omega arith)) (l .inv .2) (c .step-fault2 .ensures)
 
 pub steps-fault-spec : {M : Type 1} → statement M
 steps-fault-spec =
@@ -114,15 +135,19 @@ steps-fault-spec =
     (tie.spec
     Inv-loop
     μ-loop
-    none-requires
     loop-holds
     step-at-requires
+    array-share-prefix-held
+    slice-aggregate-step-fault
     step-fault-requires
     passed-requires
     returns
+    slice-aggregate-after
     after-requires
     add-k
     loop-less
     loop-again
+    array-share-prefix-held-2
+    slice-aggregate-step-fault-2
     step-fault-requires-2
     returns-2)
