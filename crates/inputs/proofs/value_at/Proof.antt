@@ -49,7 +49,7 @@ add-result-2 c = search needs
 
 returns : tie.Need-returns
 unfolding valueAt
-returns c = omega arith
+returns c = (omega arith, omega arith)
 
 pub value-at-spec : {M : Type 1} → statement M
 value-at-spec =
