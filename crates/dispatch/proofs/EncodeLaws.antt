@@ -1,13 +1,13 @@
 -- A Model's state means that Model, and slices that are laid out are, part by part, the state for the Model that they mean.
 use mathlib.Core.Path.{_≡_, refl, ap, _∙_, sym}
 use mathlib.Core.Bool.{true}
-use mathlib.Core.List.{List, [], _∷_, _++_, append-nil, map, map-map, map-id, map-append, flatMap}
-use Prim.Native.Nat.{ℕ, zero, suc, _+_, _-_, _*_, _≤_, _<_}
+use mathlib.Core.List.{List, [], _∷_, _++_, map, map-map, map-id, map-append, flatMap}
+use Prim.Native.Nat.{ℕ, zero, suc, _+_, _-_}
 use native.Mathlib.Omega.{arith}
-use lib.ListN.{length, take, drop, getD, replicate, length-map, length-take, List·getD-eq-default, List·getD-map}
-use lib.Seq.{take-at, length-take-le}
+use lib.ListN.{length, take, getD, replicate, length-map, List·getD-eq-default, List·getD-map}
+use lib.Seq.{take-at}
 use Rattle.rules.specs.Limits.{taskLimit, objectLimit, lastPriority}
-use Rattle.rules.specs.Model.{Model, TaskRecord, NextBase, none, waits, blank, taskAt}
+use Rattle.rules.specs.Model.{Model, TaskRecord, NextBase, none, waits, blank}
 use Rattle.rules.specs.Sound.{sound}
 use Rattle.rules.specs.declared.Priority.{Priority}
 use Rattle.rules.specs.declared.Task.{Task}
@@ -17,17 +17,16 @@ use Rattle.rules.specs.Clauses.{Numbers}
 use Rattle.rules.proofs.Choices.{compare}
 use Rattle.rules.proofs.SoundLaws.{sound-is}
 use Rattle.rules.proofs.Soundness.{ready-room, held-room-of}
-use Rattle.memory.specs.Rows.{rowFor, heldWidth, heldIn, queueWidth, queuesIn}
+use Rattle.memory.specs.Rows.{rowFor, heldWidth, heldIn, queueWidth}
 use Rattle.memory.specs.Tasks.{blankTask, tasksIn}
 use Rattle.memory.specs.Memory.{nowCell, runningCell, taskCountIn, objectCountIn, marksIn, runnerOf, waitingIn, recordOf, together}
 use Rattle.memory.specs.Memory.{allRecords, modelOf, LaidOut}
 use Rattle.memory.proofs.GridLaws.{list-count}
 use Rattle.memory.proofs.TaskLaws.{tasks-count}
 use Rattle.memory.proofs.MemoryLaws.{records-count, count-is, objects-is}
-use Rattle.dispatch.specs.declared.State.{State}
 use Rattle.dispatch.specs.State.{level, priority, view, waitingFor, taskFor, holding, padded, encode}
-use Rattle.dispatch.proofs.ListLaws.{padded-length, padded-at, padded-back, map-padded}
-use Rattle.dispatch.proofs.FlatLaws.{Short, lists-of, lists-back}
+use Rattle.dispatch.proofs.ListLaws.{padded-length, padded-at, padded-back}
+use Rattle.loading.proofs.FlatLaws.{Short, lists-of, lists-back}
 
 -- a record and what it holds, taken apart and put together
 waiting-there : (w : NextBase) → waitingIn (waitingFor w) ≡ w

@@ -16,7 +16,7 @@ use Rattle.rules.proofs.Soundness.{good-sound}
 use Rattle.rules.proofs.FreshLaws.{fresh-good, startable-by, fresh-13, fresh-15, fresh-0}
 use Rattle.memory.specs.Memory.{Means, Valid}
 use Rattle.dispatch.specs.Methods.{beside, freshOf}
-use Rattle.dispatch.proofs.TestLaws.{and-false}
+use Rattle.loading.proofs.TestLaws.{and-false}
 
 -- slices that mean a fresh Model
 pub fresh-valid : (s : Setup) {h ts hd ceilings qs : List ℕ} → Startable s → Means h ts hd ceilings qs (freshModel s) →

@@ -1,9 +1,7 @@
 pub mod ListLaws
-pub mod FlatLaws
 pub mod EncodeLaws
 pub mod LoadLaws
 pub mod Known
-pub mod TestLaws
 pub mod RunnerLaws
 pub mod ReaderLaws
 pub mod FreshLaws

@@ -1,13 +1,16 @@
 -- Laws of lists that are filled up with blanks behind their last.
-use mathlib.Core.Path.{_≡_, refl, _∙_}
-use mathlib.Core.List.{List, [], _∷_, _++_, map, map-append}
-use Prim.Native.Nat.{ℕ, zero, suc, _-_, _≤_}
+use mathlib.Core.Path.{_≡_, refl, _∙_, sym}
+use mathlib.Core.List.{List, [], _∷_, _++_, map, map-append, flatMap}
+use Prim.Native.Nat.{ℕ, zero, suc, _-_, _*_, _≤_, _<_}
+use native.Mathlib.Nat.{mul-comm, mul-sub}
 use native.Mathlib.Omega.{arith}
 use lib.ListN.{length, take, drop, getD, replicate, length-append, length-replicate, take-append-drop}
 use lib.ListN.{length-map}
 use lib.Seq.{length-take-le, take-at, drop-at}
 use Rattle.words.proofs.ListLaws.{drop-replicate, map-replicate}
 use Rattle.words.proofs.CopyLaws.{over}
+use Rattle.memory.specs.Rows.{rowFor}
+use Rattle.loading.proofs.FlatLaws.{Short, flat-append, flat-blank}
 use Rattle.dispatch.specs.State.{padded}
 
 module _ {A : Type 0} where
@@ -55,3 +58,15 @@ module _ {A B : Type 0} (f : A → B) where
   padded-back n m l x h e =
       let k : length (map f (take n l)) ≡ n = length-map (take n l) f ∙ length-take-le n l h in
       rw (k, ← map-replicate f (m - n) x, ← e, ← map-append f (take n l) (drop n l), take-append-drop n l)
+
+-- lists in rows, with empty ones behind their last
+pub short-padded : (w n : ℕ) (ls : List (List ℕ)) → Short w ls → Short w (padded n ls [])
+short-padded w n ls s i = rw (padded-at n ls [] i) (s i)
+
+pub flat-padded : (w n : ℕ) (ls : List (List ℕ)) → 0 < w → length ls ≤ n →
+    flatMap (rowFor w) ls ++ replicate (n * w - length ls * w) 0 ≡ flatMap (rowFor w) (padded n ls [])
+unfolding padded
+flat-padded w n ls h g =
+    let e : n * w - length ls * w ≡ (n - length ls) * w =
+    sym (mul-comm (n - length ls) w ∙ (mul-sub w n (length ls) ∙ rw (mul-comm w n, mul-comm w (length ls)))) in
+    rw (e, flat-append (rowFor w) ls (replicate (n - length ls) []), flat-blank w (n - length ls) h)

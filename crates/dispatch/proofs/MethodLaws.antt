@@ -1,6 +1,6 @@
 -- Laws of the methods: the test of soundness, and the three ways of an event.
-use mathlib.Core.Path.{_≡_, refl, ap, _∙_, sym}
-use mathlib.Core.Bool.{Bool, true, false, cond, _&&_}
+use mathlib.Core.Path.{_≡_, ap, _∙_, sym}
+use mathlib.Core.Bool.{Bool, true, false, _&&_}
 use mathlib.Core.List.{List}
 use Prim.Native.Nat.{ℕ}
 use borrow.Author.Tests.{eq-eqb, ne-eqb}
@@ -19,7 +19,6 @@ use Rattle.marks.specs.Marks.{marksOf}
 use Rattle.memory.specs.Rows.{queuesIn}
 use Rattle.memory.specs.Memory.{modelOf, Means, Valid, Moves}
 use Rattle.dispatch.specs.declared.State.{State}
-use Rattle.dispatch.specs.declared.Stepped.{Stepped}
 use Rattle.dispatch.specs.State.{view, encode}
 use Rattle.dispatch.specs.Sound.{sizesFit, marksGood, soundOf}
 use Rattle.dispatch.specs.Methods.{answered, unsound, appliedOf}

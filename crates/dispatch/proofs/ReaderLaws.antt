@@ -1,8 +1,8 @@
 -- Laws of the readers: lists in rows that may be cut, entries, queues, tasks and what they hold.
-use mathlib.Core.Path.{_≡_, refl, ap, _∙_, sym}
+use mathlib.Core.Path.{_≡_, ap, _∙_, sym}
 use mathlib.Core.Bool.{Bool, true, false}
 use mathlib.Core.List.{List, [], _∷_, map}
-use Prim.Native.Nat.{ℕ, zero, suc, _+_, _-_, _*_, _≤_, _<_, min, max}
+use Prim.Native.Nat.{ℕ, _+_, _-_, _*_, _≤_, _<_, min}
 use native.Mathlib.Numerals.{add-one}
 use native.Mathlib.Nat.{not-suc-le-zero}
 use native.Mathlib.Omega.{arith}
@@ -10,14 +10,14 @@ use borrow.Author.Tests.{lt-ltb, le-ltb, ltb-true, ltb-false}
 use lib.Dec.{ltb}
 use lib.ListN.{length, take, drop, getD, length-take, length-drop, length-map, List·getD-map, List·getD-eq-default}
 use lib.Seq.{getD-take, getD-drop}
-use Rattle.rules.specs.Limits.{taskLimit, objectLimit, lastPriority}
+use Rattle.rules.specs.Limits.{taskLimit, lastPriority}
 use Rattle.rules.specs.Priorities.{inRange}
-use Rattle.rules.specs.Model.{Model, TaskRecord, blank, taskAt, queue, ceilingOf, highestOf, active}
+use Rattle.rules.specs.Model.{TaskRecord, blank, taskAt, queue, ceilingOf, highestOf}
 use Rattle.rules.specs.declared.Priority.{Priority}
 use Rattle.rules.specs.declared.Task.{Task}
 use Rattle.rules.proofs.Choices.{compare}
 use Rattle.rules.proofs.PriorityLaws.{in-bounds}
-use Rattle.memory.specs.Rows.{rows, inRow, lists, heldWidth, heldIn, queueWidth, queuesIn}
+use Rattle.memory.specs.Rows.{rows, inRow, lists, heldWidth, heldIn, queueWidth}
 use Rattle.memory.specs.Tasks.{blankTask}
 use Rattle.memory.specs.Memory.{together}
 use Rattle.memory.proofs.GridLaws.{row-at, list-at, list-count}

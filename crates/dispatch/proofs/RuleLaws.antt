@@ -27,9 +27,10 @@ use Rattle.memory.proofs.GridLaws.{list-room, list-count, count-at}
 use Rattle.dispatch.specs.declared.State.{State}
 use Rattle.dispatch.specs.declared.Stepped.{Stepped}
 use Rattle.dispatch.specs.State.{view, holding, padded, encode}
-use Rattle.dispatch.specs.Sound.{lengthsGood, sizesFit, marksGood, MarksGoodClaim, soundOf}
+use Rattle.loading.specs.Loading.{lengthsGood}
+use Rattle.dispatch.specs.Sound.{sizesFit, marksGood, MarksGoodClaim, soundOf}
 use Rattle.dispatch.specs.Methods.{answered, appliedOf}
-use Rattle.dispatch.proofs.FlatLaws.{lists-good}
+use Rattle.loading.proofs.FlatLaws.{lists-good}
 use Rattle.dispatch.proofs.EncodeLaws.{held-short, queue-short, held-count, view-encode}
 
 -- rows made of lists say their lengths

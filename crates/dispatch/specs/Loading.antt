@@ -1,20 +1,13 @@
--- What stands between a State and the engine: its slices, as a State is loaded into them.
+-- What stands between a State and the engine: its task records, as a State is loaded into the engine's slices.
 use mathlib.Core.Path.{_≡_}
 use mathlib.Core.List.{List}
-use Prim.Native.Nat.{ℕ, _+_}
+use Prim.Native.Nat.{ℕ}
 use lib.ListN.{take}
 use Rattle.rules.specs.Limits.{taskLimit}
-use Rattle.rules.specs.declared.Runner.{Runner}
-use Rattle.rules.specs.declared.Runner.the-variants.{Nobody, Task as Runs}
 use Rattle.rules.specs.declared.Task.{Task}
 use Rattle.memory.specs.Tasks.{blankTask, tasksIn, Tasks}
 use Rattle.dispatch.specs.declared.State.{State}
 use Rattle.dispatch.specs.State.{padded}
-
--- who runs, as the engine's head has it
-abbrev pub codeOf : Runner → ℕ
-codeOf Nobody = 0
-codeOf (Runs t) = t + 1
 
 -- the first n of the records, and blank rows behind them
 pub record TasksLoaded (ks : List Task) (n : ℕ) (ts : List ℕ) : Type 0 where

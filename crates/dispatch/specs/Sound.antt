@@ -1,24 +1,19 @@
 -- When a State is sound: document 01's list, of the Model that it means, the clause of 2026-02, and no clause of ours.
 use mathlib.Core.Path.{_≡_}
 use mathlib.Core.Bool.{Bool, true, _&&_}
-use mathlib.Core.List.{List}
 use mathlib.Core.Logic.{_↔_}
-use Prim.Native.Nat.{ℕ, _-_, _*_, _^_, _≤_, _<_}
-use lib.Dec.{eqb, ltb}
-use lib.ListN.{length, getD}
+use Prim.Native.Nat.{ℕ, _-_, _^_, _≤_, _<_}
+use lib.Dec.{eqb}
+use lib.ListN.{length}
 use Rattle.rules.specs.Limits.{firstPriority, lastPriority}
 use Rattle.rules.specs.Model.{queue}
 use Rattle.rules.specs.Fresh.{countsGood}
 use Rattle.rules.specs.Sound.{sound}
-use Rattle.rules.specs.Lists.{below}
 use Rattle.marks.specs.Marks.{bitAt, marksOf}
 use Rattle.memory.specs.Rows.{heldWidth, queueWidth}
+use Rattle.loading.specs.Loading.{lengthsGood}
 use Rattle.dispatch.specs.declared.State.{State}
 use Rattle.dispatch.specs.State.{view}
-
--- the lengths in the first n rows of width w leave room for themselves
-abbrev pub lengthsGood : ℕ → ℕ → List ℕ → Bool
-lengthsGood w n l = below n (λ i. ltb (getD l (i * w) 0) w)
 
 -- "a count or number out of range": the counts, the lengths of the held lists of the tasks that there are, and of the ready queues
 unfoldable pub sizesFit : State → Bool

@@ -34,7 +34,7 @@ use Rattle.dispatch.specs.declared.State.{State}
 use Rattle.dispatch.specs.declared.Stepped.{Stepped}
 use Rattle.dispatch.proofs.MethodLaws.{view-sound}
 use Rattle.dispatch.proofs.ListLaws.{padded-length, padded-at}
-use Rattle.dispatch.proofs.FlatLaws.{flat-length}
+use Rattle.loading.proofs.FlatLaws.{flat-length}
 use Rattle.dispatch.proofs.EncodeLaws.{held-short, queue-short, held-count}
 use Rattle.layout.specs.Sizes.{stateSize}
 use Rattle.layout.specs.Decode.{stateOfBytes}

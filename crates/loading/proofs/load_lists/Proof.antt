@@ -1,14 +1,13 @@
--- `dispatch::load::load_lists` meets its contract.
-use mathlib.Core.Path.{_≡_, refl, ap, _∙_, sym}
-use Prim.Native.Nat.{ℕ, _-_, _*_, _≤_}
+-- `loading::load_lists` meets its contract.
+use mathlib.Core.Path.{_≡_, refl, _∙_}
+use Prim.Native.Nat.{_-_, _≤_}
 use native.Mathlib.Omega.{arith}
-use native.Mathlib.Nat.{zero-mul}
 use borrow.Author.Needs.{needs}
 use lib.ListN.{length}
 use Rattle.memory.proofs.GridLaws.{row-fits}
-use Rattle.dispatch.proofs.LoadLaws.{listsOver, lists-none, from-room, to-zeros, lists-more}
-use Rattle.dispatch.proofs.load.load_lists.Statement.{statement}
-use Rattle.dispatch.proofs.load.load_lists.Tie as tie
+use Rattle.loading.proofs.LoadLaws.{listsOver, lists-none, from-room, to-zeros, lists-more}
+use Rattle.loading.proofs.load_lists.Statement.{statement}
+use Rattle.loading.proofs.load_lists.Tie as tie
 
 abbrev Inv-loop : tie.InvT-loop
 Inv-loop from to₀ width n i₀ to i =

@@ -1,7 +1,7 @@
--- `dispatch::load::running_code` meets its contract.
+-- `loading::running_code` meets its contract.
 use borrow.Author.Needs.{needs}
-use Rattle.dispatch.proofs.load.running_code.Statement.{statement}
-use Rattle.dispatch.proofs.load.running_code.Tie as tie
+use Rattle.loading.proofs.running_code.Statement.{statement}
+use Rattle.loading.proofs.running_code.Tie as tie
 
 enum-told : tie.Need-enum-told
 enum-told c = search needs

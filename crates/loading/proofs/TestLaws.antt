@@ -1,5 +1,5 @@
--- Laws of the tests: lengths in rows, from the last row down.
-use mathlib.Core.Path.{_≡_, refl, ap, _∙_, sym}
+-- Laws of the tests: lengths in rows, from the last row down, and all sizes.
+use mathlib.Core.Path.{_≡_, refl}
 use mathlib.Core.Bool.{Bool, true, false, _&&_}
 use mathlib.Core.List.{List}
 use Prim.Native.Nat.{ℕ, zero, suc, _-_, _*_, _≤_, _<_}
@@ -12,8 +12,7 @@ use Rattle.rules.specs.Limits.{taskLimit, objectLimit, lastPriority}
 use Rattle.rules.specs.Fresh.{countsGood}
 use Rattle.rules.specs.Lists.{below}
 use Rattle.memory.specs.Rows.{heldWidth, queueWidth}
-use Rattle.dispatch.specs.declared.State.{State}
-use Rattle.dispatch.specs.Sound.{lengthsGood, sizesFit}
+use Rattle.loading.specs.Loading.{lengthsGood, partsFit}
 
 and-true : (a b : Bool) → b ≡ true → (a && b) ≡ a
 and-true true b e = e
@@ -43,31 +42,20 @@ module _ (w : ℕ) (l : List ℕ) where
   lengths-none zero h = refl
   lengths-none (suc i) h = absurd (not-suc-le-zero h)
 
--- the tests of a whole state, each where those before it hold
-module _ (s : State) where
-  abbrev n : ℕ
-  n = s .«task_count»
+-- the tests of all sizes, each where those before it hold
+module _ (n m : ℕ) (hd qs : List ℕ) where
+  pub fits-none : n < 1 → false ≡ partsFit n m hd qs
+  fits-none h = rw (lt-leb 1 n h)
 
-  pub fits-none : n < 1 → false ≡ sizesFit s
-  unfolding sizesFit
-  fits-none h = rw (lt-leb 1 (s .«task_count») h)
-
-  pub fits-many : taskLimit < n → false ≡ sizesFit s
-  unfolding sizesFit
+  pub fits-many : taskLimit < n → false ≡ partsFit n m hd qs
   fits-many h = rw (and-false (leb 1 n) (leb n taskLimit) (lt-leb n taskLimit h))
 
-  pub fits-objects : objectLimit < s .«object_count» → false ≡ sizesFit s
-  unfolding sizesFit
-  fits-objects h =
-      let o = s .«object_count» in
-      rw (and-false (leb 1 n && leb n taskLimit) (leb o objectLimit) (lt-leb o objectLimit h))
+  pub fits-objects : objectLimit < m → false ≡ partsFit n m hd qs
+  fits-objects h = rw (and-false (leb 1 n && leb n taskLimit) (leb m objectLimit) (lt-leb m objectLimit h))
 
-  pub fits-held : lengthsGood heldWidth n (s .held) ≡ false → false ≡ sizesFit s
-  unfolding sizesFit
-  fits-held e = rw (and-false (countsGood n (s .«object_count»)) (lengthsGood heldWidth n (s .held)) e)
+  pub fits-held : lengthsGood heldWidth n hd ≡ false → false ≡ partsFit n m hd qs
+  fits-held e = rw (and-false (countsGood n m) (lengthsGood heldWidth n hd) e)
 
-  pub fits-queues : 1 ≤ n → n ≤ taskLimit → s .«object_count» ≤ objectLimit → lengthsGood heldWidth n (s .held) ≡ true →
-      lengthsGood queueWidth lastPriority (s .queues) ≡ sizesFit s
-  unfolding sizesFit
-  fits-queues a b c e =
-      rw (le-leb 1 (s .«task_count») a, le-leb (s .«task_count») taskLimit b, le-leb (s .«object_count») objectLimit c, e)
+  pub fits-queues : 1 ≤ n → n ≤ taskLimit → m ≤ objectLimit → lengthsGood heldWidth n hd ≡ true →
+      lengthsGood queueWidth lastPriority qs ≡ partsFit n m hd qs
+  fits-queues a b c e = rw (le-leb 1 n a, le-leb n taskLimit b, le-leb m objectLimit c, e)

@@ -1,13 +1,13 @@
--- `dispatch::load::load_row` meets its contract.
+-- `loading::load_row` meets its contract.
 use mathlib.Core.Path.{_≡_, refl, ap, _∙_, sym}
 use Prim.Native.Nat.{ℕ, _+_, _-_, _≤_}
 use native.Mathlib.Omega.{arith}
 use borrow.Author.Needs.{needs}
 use lib.ListN.{length, getD, replicate, length-replicate}
 use Rattle.words.proofs.CopyLaws.{over, over-step}
-use Rattle.dispatch.proofs.LoadLaws.{row-loaded}
-use Rattle.dispatch.proofs.load.load_row.Statement.{statement}
-use Rattle.dispatch.proofs.load.load_row.Tie as tie
+use Rattle.loading.proofs.LoadLaws.{row-loaded}
+use Rattle.loading.proofs.load_row.Statement.{statement}
+use Rattle.loading.proofs.load_row.Tie as tie
 
 abbrev Inv-loop : tie.InvT-loop
 Inv-loop from to₀ size i₀ to i =

@@ -3,7 +3,7 @@ use mathlib.Core.Path.{_≡_, refl, ap, _∙_, sym}
 use mathlib.Core.Bool.{true}
 use mathlib.Core.List.{List, [], _∷_, _++_, append-assoc, map, map-map, flatMap, flatten}
 use Prim.Native.Nat.{ℕ, zero, suc, _+_, _-_, _*_, _≤_, _<_}
-use native.Mathlib.Nat.{zero-mul, suc-mul, mul-comm, mul-sub, not-suc-le-zero, le-of-suc-le-suc, add-zero}
+use native.Mathlib.Nat.{zero-mul, suc-mul, not-suc-le-zero, le-of-suc-le-suc, add-zero}
 use native.Mathlib.Omega.{arith}
 use borrow.Author.Tests.{ltb-true}
 use lib.Dec.{ltb}
@@ -15,10 +15,8 @@ use Rattle.rules.proofs.SoundLaws.{below-at}
 use Rattle.memory.specs.Rows.{rows, inRow, rowFor, lists, Lists}
 use Rattle.memory.proofs.RowLaws.{row-length, in-row, tidy-row}
 use Rattle.memory.proofs.GridLaws.{row-at, row-count, row-fits, cell-at, list-at, list-count}
-use Rattle.dispatch.specs.State.{padded}
-use Rattle.dispatch.specs.Sound.{lengthsGood}
+use Rattle.loading.specs.Loading.{lengthsGood}
 use Rattle.words.proofs.ListLaws.{map-at, map-take}
-use Rattle.dispatch.proofs.ListLaws.{padded-at}
 
 -- every list leaves room in a row of width w
 abbrev pub Short : ℕ → List (List ℕ) → Type 0
@@ -29,9 +27,6 @@ short-take w zero ls h s i = h
 short-take w (suc n) [] h s i = h
 short-take w (suc n) (l ∷ ls) h s zero = s 0
 short-take w (suc n) (l ∷ ls) h s (suc i) = short-take w n ls h (λ j. s (suc j)) i
-
-pub short-padded : (w n : ℕ) (ls : List (List ℕ)) → Short w ls → Short w (padded n ls [])
-short-padded w n ls s i = rw (padded-at n ls [] i) (s i)
 
 module _ {A B : Type 0} (f : A → List B) where
   pub flat-append : (l k : List A) → flatMap f (l ++ k) ≡ flatMap f l ++ flatMap f k
@@ -46,14 +41,6 @@ flat-blank w zero h = rw (zero-mul w)
 flat-blank w (suc n) h =
     let e : suc (w - 1) + n * w ≡ suc n * w = omega (arith, suc-mul n w) in
     rw (flat-blank w n h) (replicate-append-replicate (suc (w - 1)) (n * w) 0 ∙ ap (λ (k : ℕ). replicate k 0) e)
-
-pub flat-padded : (w n : ℕ) (ls : List (List ℕ)) → 0 < w → length ls ≤ n →
-    flatMap (rowFor w) ls ++ replicate (n * w - length ls * w) 0 ≡ flatMap (rowFor w) (padded n ls [])
-unfolding padded
-flat-padded w n ls h g =
-    let e : n * w - length ls * w ≡ (n - length ls) * w =
-    sym (mul-comm (n - length ls) w ∙ (mul-sub w n (length ls) ∙ rw (mul-comm w n, mul-comm w (length ls)))) in
-    rw (e, flat-append (rowFor w) ls (replicate (n - length ls) []), flat-blank w (n - length ls) h)
 
 pub flat-length : (w : ℕ) (ls : List (List ℕ)) → Short w ls → length (flatMap (rowFor w) ls) ≡ length ls * w
 unfolding flatMap

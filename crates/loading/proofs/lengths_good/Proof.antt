@@ -1,13 +1,13 @@
--- `dispatch::test::lengths_good` meets its contract.
+-- `loading::lengths_good` meets its contract.
 use mathlib.Core.Path.{_≡_, refl, _∙_, sym}
 use Prim.Native.Nat.{_-_, _*_, _≤_}
 use native.Mathlib.Omega.{arith}
 use borrow.Author.Needs.{needs}
 use Rattle.memory.proofs.GridLaws.{row-fits}
-use Rattle.dispatch.specs.Sound.{lengthsGood}
-use Rattle.dispatch.proofs.TestLaws.{lengths-next, lengths-fail, lengths-none}
-use Rattle.dispatch.proofs.test.lengths_good.Statement.{statement}
-use Rattle.dispatch.proofs.test.lengths_good.Tie as tie
+use Rattle.loading.specs.Loading.{lengthsGood}
+use Rattle.loading.proofs.TestLaws.{lengths-next, lengths-fail, lengths-none}
+use Rattle.loading.proofs.lengths_good.Statement.{statement}
+use Rattle.loading.proofs.lengths_good.Tie as tie
 
 abbrev Inv-loop : tie.InvT-loop
 Inv-loop cells width n i₀ i = (i ≤ n) × (lengthsGood width n cells ≡ lengthsGood width i cells)

@@ -1,0 +1,3 @@
+pub mod FlatLaws
+pub mod LoadLaws
+pub mod TestLaws
