@@ -71,6 +71,18 @@ pub fn number_at(s: &[u8], i: usize) -> u64
     first + 65536 * (second + 65536 * (third + 65536 * last))
 }
 
+// The eight bytes at i, which are there.
+pub fn number_in(s: &[u8], i: usize) -> u64
+    requires { ⌜ i + 7 < length (now s) ⌝ }
+    ensures { λ r. ⌜ r ≡ numberAt (now (s .entry)) i ⌝ }
+{
+    let first = word_in(s, i) as u64;
+    let second = word_in(s, i + 2) as u64;
+    let third = word_in(s, i + 4) as u64;
+    let last = word_in(s, i + 6) as u64;
+    first + 65536 * (second + 65536 * (third + 65536 * last))
+}
+
 // Bytes put into others, from `at` on.
 pub fn put(out: &mut [u8], at: usize, bytes: &[u8])
     requires { ⌜ at + length (now bytes) ≤ length (now out) ⌝ }
