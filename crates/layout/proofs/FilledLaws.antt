@@ -2,7 +2,7 @@
 use mathlib.Core.Path.{_≡_, refl, ap, sym, _∙_}
 use mathlib.Core.Bool.{Bool, true, false}
 use mathlib.Core.List.{List, _++_, append-assoc, flatMap}
-use Prim.Native.Nat.{ℕ, _*_, _≤_, _<_}
+use Prim.Native.Nat.{ℕ, _*_, _≤_}
 use native.Mathlib.Omega.{arith}
 use borrow.Author.Tests.{lt-ltb, le-ltb, ltb-false, eq-eqb, ne-eqb}
 use lib.Dec.{eqb, ltb}
@@ -27,22 +27,16 @@ use Rattle.board.proofs.StateLaws.{answer-few, answer-unsound, fill-few}
 use Rattle.board.proofs.FillLaws.{rows-length}
 use Rattle.board.proofs.SourceLaws.{tasks-cut, tasks-all}
 use Rattle.layout.specs.InRange.{readable}
-use Rattle.layout.specs.Decode.{tasksFrom, cellsFrom, stateOfBytes}
+use Rattle.layout.specs.Decode.{stateOfBytes}
 use Rattle.layout.specs.Boards.{rowSize, rowCount, rowBytes, lentOf, fillAnswer, filledBytes}
-use Rattle.words.proofs.TableLaws.{length-tabulate}
 use Rattle.words.proofs.CopyLaws.{sets-over}
+use Rattle.layout.proofs.ReadLaws.{decoded-shaped}
 use Rattle.layout.proofs.EventLaws.{unread-answer, read-answer}
 use Rattle.layout.proofs.BoardLaws.{rows-size}
 
 -- the rows that are lent
 abbrev pub blankRows : List Row
 blankRows = replicate rowLimit (record { kind = Ended; priority = priority 0; position = 0 })
-
--- a state that was read has arrays of the right lengths
-decoded-shaped : (b : List ℕ) → Shaped (stateOfBytes b)
-unfolding stateOfBytes tasksFrom cellsFrom
-decoded-shaped b =
-    record { tasks = length-tabulate _ _; held = length-tabulate _ _; ceilings = length-tabulate _ _; queues = length-tabulate _ _ }
 
 lent-few : (n : ℕ) → lentOf n ≤ rowLimit
 lent-few n = both-ways (λ x. x ≤ rowLimit) (ltb rowLimit n) rowLimit n (λ e. omega arith) (λ e. ltb-false rowLimit n e)

@@ -58,7 +58,7 @@ module _ (m : Model) (s : sound m ≡ true) where
   sizes : Numbers m
   sizes = sound-is m s .numbers
 
-  shaped : Shaped (encode m)
+  pub shaped : Shaped (encode m)
   unfolding encode
   shaped =
       record {

@@ -5,6 +5,7 @@ pub mod BackLaws
 pub mod RangeLaws
 pub mod EventLaws
 pub mod HistoryLaws
+pub mod CellLaws
 pub mod BoardLaws
 pub mod FilledLaws
 pub mod RowLaws

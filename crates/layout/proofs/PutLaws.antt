@@ -9,8 +9,7 @@ use Rattle.words.proofs.CopyLaws.{sets-append}
 use Rattle.rules.specs.declared.Task.{Task}
 use Rattle.layout.specs.Sizes.{marksSize, taskSize, tasksStart}
 use Rattle.memory.specs.Tasks.{dueOf, bit}
-use Rattle.dispatch.specs.declared.State.{State}
-use Rattle.layout.specs.Encode.{lowBytes, runnerCode, kindByte, waitsByte, waitingByte, taskTail, taskBytes, headTail, headBytes}
+use Rattle.layout.specs.Encode.{lowBytes, kindByte, waitsByte, waitingByte, taskTail, taskBytes}
 
 pub put-behind : (l l' l'' xs ys : List ℕ) (i j : ℕ) → l' ≡ sets l i xs → l'' ≡ sets l' j ys → j ≡ i + length xs → l'' ≡ sets l i (xs ++ ys)
 put-behind l l' l'' xs ys i j e f g =
@@ -80,7 +79,7 @@ module _ (whole : List ℕ) (ks : List Task) (out out' : List ℕ) (t : ℕ) whe
       (sets-append out j (taskBytes k) rest ∙
       (ap (λ (l : List ℕ). sets l (j + length (taskBytes k)) rest) (sym f) ∙ ap (λ (n : ℕ). sets out' n rest) next)))
 
--- a task row and the head: the number, and the bytes behind it
+-- a number, and the bytes behind it: the head, and a task row
 module _ (l l' l'' : List ℕ) (at j : ℕ) (next : j ≡ at + 8) where
   behind-number : (n : ℕ) (tail : List ℕ) → l' ≡ sets l at (lowBytes 8 n) → l'' ≡ sets l' j tail → l'' ≡ sets l at (lowBytes 8 n ++ tail)
   behind-number n tail e f = put-behind l l' l'' (lowBytes 8 n) tail at j e f (omega (arith, low-length 8 n))
@@ -92,9 +91,7 @@ module _ (l l' l'' : List ℕ) (at j : ℕ) (next : j ≡ at + 8) where
   task-put k due kind waits waiting on e1 e2 e3 e4 e5 f g =
       behind-number due (kind ∷ (k .base .0 ∷ (waits ∷ (waiting ∷ (on ∷ (0 ∷ (0 ∷ (0 ∷ [])))))))) f g ∙ rw (e1, e2, e3, e4, e5)
 
-  pub head-put : (s : State) (running : ℕ) → running ≡ runnerCode (s .running) → l' ≡ sets l at (lowBytes 8 (s .now)) →
-      l'' ≡ sets l' j (running ∷ (s .«task_count» ∷ (s .«object_count» ∷ (0 ∷ lowBytes marksSize (s .marks))))) →
-      l'' ≡ sets l at (headBytes s)
-  unfolding headBytes headTail
-  head-put s running e f g =
-      behind-number (s .now) (running ∷ (s .«task_count» ∷ (s .«object_count» ∷ (0 ∷ lowBytes marksSize (s .marks))))) f g ∙ rw e
+  pub head-put : (now running n m marks : ℕ) → l' ≡ sets l at (lowBytes 8 now) →
+      l'' ≡ sets l' j (running ∷ (n ∷ (m ∷ (0 ∷ lowBytes marksSize marks)))) →
+      l'' ≡ sets l at (lowBytes 8 now ++ (running ∷ (n ∷ (m ∷ (0 ∷ lowBytes marksSize marks)))))
+  head-put now running n m marks e f = behind-number now (running ∷ (n ∷ (m ∷ (0 ∷ lowBytes marksSize marks)))) e f

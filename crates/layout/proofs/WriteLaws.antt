@@ -1,6 +1,6 @@
 -- Laws of a whole state, written part by part.
 use mathlib.Core.Path.{_≡_, ap, sym, _∙_}
-use mathlib.Core.List.{List, _++_, append-assoc, map, flatMap}
+use mathlib.Core.List.{List, _∷_, _++_, append-assoc, map, flatMap}
 use Prim.Native.Nat.{ℕ, _*_, _≤_, _<_}
 use native.Mathlib.Omega.{arith}
 use borrow.Author.Tests.{lt-ltb, le-ltb}
@@ -12,8 +12,8 @@ use Rattle.rules.specs.Limits.{taskLimit, objectLimit}
 use Rattle.dispatch.specs.State.{level}
 use Rattle.dispatch.proofs.Known.{Shaped}
 use Rattle.dispatch.specs.declared.State.{State}
-use Rattle.layout.specs.Sizes.{marksSize, taskSize, tasksStart, ceilingsStart, heldStart, queuesStart, stateSize}
-use Rattle.layout.specs.Encode.{lowBytes, headTail, headBytes, taskBytes, bytesOfState, withState}
+use Rattle.layout.specs.Sizes.{numberSize, marksSize, taskSize, tasksStart, ceilingsStart, heldStart, queuesStart, stateSize}
+use Rattle.layout.specs.Encode.{lowBytes, runnerCode, headTail, headBytes, taskBytes, bytesOfState, withState}
 use Rattle.words.proofs.CopyLaws.{sets-over}
 use Rattle.layout.proofs.PutLaws.{put-behind, low-length, tasks-length}
 
@@ -21,6 +21,13 @@ pub head-length : (s : State) → length (headBytes s) ≡ tasksStart
 unfolding headBytes headTail
 head-length s =
     length-append (lowBytes 8 (s .now)) (headTail s) ∙ omega (arith, low-length 8 (s .now), low-length marksSize (s .marks))
+
+-- the head, from its parts
+pub head-is : (s : State) (b b' : List ℕ) (now w n m marks : ℕ) → now ≡ s .now → w ≡ runnerCode (s .running) → n ≡ s .«task_count» →
+    m ≡ s .«object_count» → marks ≡ s .marks → b' ≡ sets b 0 (lowBytes numberSize now ++ (w ∷ (n ∷ (m ∷ (0 ∷ lowBytes marksSize marks))))) →
+    b' ≡ sets b 0 (headBytes s)
+unfolding headBytes headTail
+head-is s b b' now w n m marks e f g h i put = put ∙ rw (e, f, g, h, i)
 
 -- what stands in front of the ceilings, of the held lists, of the queues
 abbrev pub upToCeilings : State → List ℕ

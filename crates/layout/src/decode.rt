@@ -1,6 +1,8 @@
 // From bytes to a state.
 ghost use mathlib.Core.Path.{_≡_};
+ghost use mathlib.Core.Bool.{not};
 ghost use Prim.Native.Nat.{_+_, _≤_, _<_};
+ghost use lib.Dec.{eqb};
 ghost use lib.ListN.{length};
 ghost use Rattle.dispatch.specs.State.{priority};
 ghost use Rattle.layout.specs.Sizes.{permitOffset, ceilingsStart, stateSize};
@@ -40,8 +42,9 @@ use rules::WaitingBase;
 use words::byte_at;
 use words::long_at;
 use words::number_at;
+use words::number_in;
 
-fn runner_from(b: u8) -> Runner
+pub fn runner_from(b: u8) -> Runner
     ensures { λ r. ⌜ r ≡ runnerFrom b ⌝ }
 {
     if b == NOBODY {
@@ -71,22 +74,48 @@ fn waiting_from(waits: u8, p: u8) -> WaitingBase
     WaitingBase::Base(Priority(p))
 }
 
+// The record that the parts of a task row stand for.
+fn task_of(due: u64, kind: u8, base: u8, waits: u8, waiting: u8, permit: u8) -> Task
+    ensures { λ r.
+        ⌜ r ≡
+        record { place = placeFrom kind due; base = priority base; waiting = waitingFrom waits waiting; permit = not (eqb permit 0) } ⌝ }
+{
+    Task {
+        place: place_from(kind, due),
+        base: Priority(base),
+        waiting: waiting_from(waits, waiting),
+        permit: permit != 0,
+    }
+}
+
 // The task row that starts at i.
 fn task_from(s: &[u8], i: usize) -> Task
     requires { ⌜ i + permitOffset < stateSize ⌝ }
     ensures { λ r. ⌜ r ≡ taskFrom (now (s .entry)) i ⌝ }
 {
-    let due = number_at(s, i);
-    let place = place_from(byte_at(s, i + KIND), due);
-    let base = Priority(byte_at(s, i + BASE));
-    let waiting = waiting_from(byte_at(s, i + WAITS), byte_at(s, i + WAITING));
-    let permit = byte_at(s, i + PERMIT) != 0;
-    Task {
-        place: place,
-        base: base,
-        waiting: waiting,
-        permit: permit,
-    }
+    task_of(
+        number_at(s, i),
+        byte_at(s, i + KIND),
+        byte_at(s, i + BASE),
+        byte_at(s, i + WAITS),
+        byte_at(s, i + WAITING),
+        byte_at(s, i + PERMIT),
+    )
+}
+
+// The same, where all its bytes are there.
+pub fn task_in(s: &[u8], i: usize) -> Task
+    requires { ⌜ i + permitOffset < length (now s) ⌝ }
+    ensures { λ r. ⌜ r ≡ taskFrom (now (s .entry)) i ⌝ }
+{
+    task_of(
+        number_in(s, i),
+        s[i + KIND],
+        s[i + BASE],
+        s[i + WAITS],
+        s[i + WAITING],
+        s[i + PERMIT],
+    )
 }
 
 fn tasks_from(s: &[u8]) -> [Task; TASK_LIMIT]

@@ -1,13 +1,13 @@
 // From a state to bytes.
 ghost use mathlib.Core.Path.{_≡_};
-ghost use mathlib.Core.List.{map, flatMap};
+ghost use mathlib.Core.List.{_∷_, _++_, map, flatMap};
 ghost use Prim.Native.Nat.{_+_, _≤_};
 ghost use lib.ListN.{length};
 ghost use lib.Seq.{sets};
 ghost use Rattle.memory.specs.Tasks.{dueOf, bit};
 ghost use Rattle.dispatch.specs.State.{level};
-ghost use Rattle.layout.specs.Sizes.{numberSize, taskSize, tasksStart, stateSize};
-ghost use Rattle.layout.specs.Encode.{lowBytes, runnerCode, kindByte, waitsByte, waitingByte, taskBytes, headBytes, withState};
+ghost use Rattle.layout.specs.Sizes.{numberSize, marksSize, taskSize, tasksStart, stateSize};
+ghost use Rattle.layout.specs.Encode.{lowBytes, runnerCode, kindByte, waitsByte, waitingByte, taskBytes, withState};
 use crate::sizes::CEILINGS_START;
 use crate::sizes::DELAYED;
 use crate::sizes::ENDED;
@@ -105,7 +105,7 @@ fn bit(permit: bool) -> u8
 }
 
 // A task row.
-fn put_task(out: &mut [u8], at: usize, task: Task)
+pub fn put_task(out: &mut [u8], at: usize, task: Task)
     requires { ⌜ at + taskSize ≤ length (now out) ⌝ }
     ensures { λ u. ⌜ now (out .exit) ≡ sets (now (out .entry)) at (taskBytes task) ⌝ }
 {
@@ -152,22 +152,24 @@ fn levels(ceilings: [Priority; OBJECT_LIMIT]) -> [u8; OBJECT_LIMIT]
     levels
 }
 
-fn put_head(out: &mut [u8], state: State)
+// The head: now, the byte of who runs, the counts and the marks.
+pub fn put_head(out: &mut [u8], reading: u64, running: u8, tasks: u8, objects: u8, marks: u32)
     requires { ⌜ stateSize ≤ length (now out) ⌝ }
-    ensures { λ u. ⌜ now (out .exit) ≡ sets (now (out .entry)) 0 (headBytes state) ⌝ }
+    ensures { λ u.
+        ⌜ now (out .exit) ≡
+        sets (now (out .entry)) 0
+        (lowBytes numberSize reading ++ (running ∷ (tasks ∷ (objects ∷ (0 ∷ lowBytes marksSize marks))))) ⌝ }
 {
-    let running = state.running;
-    put_number(out, 0, state.now);
-    let first = state.marks;
-    let second = first / 256;
+    put_number(out, 0, reading);
+    let second = marks / 256;
     let third = second / 256;
     let last = third / 256;
     let rest = [
-        runner_code(running),
-        state.task_count,
-        state.object_count,
+        running,
+        tasks,
+        objects,
         0,
-        (first % 256) as u8,
+        (marks % 256) as u8,
         (second % 256) as u8,
         (third % 256) as u8,
         (last % 256) as u8,
@@ -182,7 +184,15 @@ pub fn write(state: State, bytes: &mut [u8])
     if bytes.len() < STATE_SIZE {
         return;
     }
-    put_head(bytes, state);
+    let running = state.running;
+    put_head(
+        bytes,
+        state.now,
+        runner_code(running),
+        state.task_count,
+        state.object_count,
+        state.marks,
+    );
     let tasks = state.tasks;
     put_tasks(bytes, tasks);
     let ceilings = state.ceilings;

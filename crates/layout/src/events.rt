@@ -2,16 +2,27 @@
 ghost use mathlib.Core.Path.{_≡_};
 ghost use Rattle.layout.specs.Events.{eventNumber, eventBytes, eventReport, freshNumber, freshBytes, soundNumber, listedCode};
 ghost use Rattle.layout.specs.Events.{runningNumber};
-use crate::decode::read;
+use crate::cells::load;
+use crate::cells::loadable;
+use crate::cells::store;
+use crate::decode::runner_from;
 use crate::encode::write;
 use crate::ranges::readable;
+use crate::sizes::MARKS_AT;
 use crate::sizes::NOBODY;
+use crate::sizes::RUNNING_AT;
 use crate::sizes::STATE_SIZE;
+use crate::sizes::TASK_COUNT_AT;
 use dispatch::State;
+use memory::sizes::HELD_CELLS;
+use memory::sizes::OBJECT_LIMIT;
+use memory::sizes::QUEUE_CELLS;
+use memory::sizes::TASK_CELLS;
 use rules::Answer;
 use rules::Event;
 use rules::Report;
 use rules::Runner;
+use words::long_at;
 
 // The state goes on by an event: its bytes are written anew, unless the event is refused. The report is written each time.
 pub fn apply(bytes: &mut [u8], event: Event, report: &mut u8) -> u8
@@ -19,21 +30,40 @@ pub fn apply(bytes: &mut [u8], event: Event, report: &mut u8) -> u8
     ensures { λ r. ⌜ now (bytes .exit) ≡ eventBytes (now (bytes .entry)) event ⌝ }
     ensures { λ r. ⌜ now (report .exit) ≡ eventReport (now (bytes .entry)) event ⌝ }
 {
-    if !readable(bytes) {
+    if !loadable(bytes) {
         *report = Report::Unchanged.number();
         return Answer::Unsound.number();
     }
-    let state = read(bytes);
-    let next = state.applied(event);
-    let change = next.report;
-    *report = change.number();
-    let answer = next.answer;
-    let number = answer.number();
+    let mut tasks = [0u64; TASK_CELLS];
+    let mut held = [0u8; HELD_CELLS];
+    let mut ceilings = [0u8; OBJECT_LIMIT];
+    let mut queues = [0u8; QUEUE_CELLS];
+    let mut head = load(bytes, &mut tasks, &mut held, &mut ceilings, &mut queues);
+    if !soundness::sound(
+        &head,
+        &tasks,
+        &held,
+        &ceilings,
+        &queues,
+        long_at(bytes, MARKS_AT),
+    ) {
+        *report = Report::Unchanged.number();
+        return Answer::Unsound.number();
+    }
+    let ruling = engine::apply(
+        &mut head,
+        &mut tasks,
+        &mut held,
+        &ceilings,
+        &mut queues,
+        event,
+    );
+    *report = ruling.report().number();
+    let number = ruling.number();
     if number != 0 {
         return number;
     }
-    let after = next.state;
-    write(after, bytes);
+    store(bytes, &head, &tasks, &held, &ceilings, &queues);
     0
 }
 
@@ -58,11 +88,22 @@ pub fn fresh(bases: &[u8], ceilings: &[u8], bytes: &mut [u8]) -> u8
 pub fn sound(bytes: &[u8]) -> u8
     ensures { λ r. ⌜ r ≡ soundNumber (now (bytes .entry)) ⌝ }
 {
-    if !readable(bytes) {
+    if !loadable(bytes) {
         return Answer::Unsound.number();
     }
-    let state = read(bytes);
-    if state.sound() {
+    let mut tasks = [0u64; TASK_CELLS];
+    let mut held = [0u8; HELD_CELLS];
+    let mut ceilings = [0u8; OBJECT_LIMIT];
+    let mut queues = [0u8; QUEUE_CELLS];
+    let head = load(bytes, &mut tasks, &mut held, &mut ceilings, &mut queues);
+    if soundness::sound(
+        &head,
+        &tasks,
+        &held,
+        &ceilings,
+        &queues,
+        long_at(bytes, MARKS_AT),
+    ) {
         return 0;
     }
     Answer::Unsound.number()
@@ -85,7 +126,6 @@ pub fn running(bytes: &[u8]) -> u8
     if !readable(bytes) {
         return NOBODY;
     }
-    let state = read(bytes);
-    let runner = state.running;
-    listed_code(state.task_count, runner)
+    let runner = runner_from(bytes[RUNNING_AT]);
+    listed_code(bytes[TASK_COUNT_AT], runner)
 }

@@ -2,6 +2,7 @@
 // moved there by a fresh start and by events; and a board as bytes.
 
 mod boards;
+mod cells;
 mod decode;
 mod encode;
 mod events;

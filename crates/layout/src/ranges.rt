@@ -1,6 +1,7 @@
 // Whether bytes can be a state's: enough of them, and no number that a state cannot hold.
 ghost use mathlib.Core.Path.{_≡_};
-ghost use Prim.Native.Nat.{_+_, _<_};
+ghost use Prim.Native.Nat.{_+_, _≤_, _<_};
+ghost use lib.ListN.{length};
 ghost use Rattle.layout.specs.Sizes.{permitOffset, stateSize};
 ghost use Rattle.layout.specs.InRange.{rowInRange, rowsInRange, readable};
 use crate::sizes::ENDED;
@@ -12,26 +13,26 @@ use crate::sizes::TASK_SIZE;
 use crate::sizes::TASKS_START;
 use crate::sizes::WAITS;
 use memory::sizes::TASK_LIMIT;
-use words::byte_at;
 
 // The task row that starts at i.
 fn row_in_range(s: &[u8], i: usize) -> bool
-    requires { ⌜ i + permitOffset < stateSize ⌝ }
+    requires { ⌜ i + permitOffset < length (now s) ⌝ }
     ensures { λ r. ⌜ r ≡ rowInRange (now (s .entry)) i ⌝ }
 {
-    if ENDED < byte_at(s, i + KIND) {
+    if ENDED < s[i + KIND] {
         return false;
     }
-    if 1 < byte_at(s, i + WAITS) {
+    if 1 < s[i + WAITS] {
         return false;
     }
-    byte_at(s, i + PERMIT) <= 1
+    s[i + PERMIT] <= 1
 }
 
 fn rows_in_range(s: &[u8]) -> bool
+    requires { ⌜ stateSize ≤ length (now s) ⌝ }
     ensures { λ r. ⌜ r ≡ rowsInRange (now (s .entry)) ⌝ }
 {
-    let n = byte_at(s, TASK_COUNT_AT) as usize;
+    let n = s[TASK_COUNT_AT] as usize;
     if TASK_LIMIT < n {
         return false;
     }

@@ -13,9 +13,6 @@ add-byte-at c = search needs
 byte-at-requires : tie.Need-byte-at-requires
 byte-at-requires c κs = search needs
 
-place-from-requires : tie.Need-place-from-requires
-place-from-requires c κs = search needs
-
 add-byte-at-2 : tie.Need-add-byte-at-2
 add-byte-at-2 c = search needs
 
@@ -34,14 +31,14 @@ add-byte-at-4 c = search needs
 byte-at-requires-4 : tie.Need-byte-at-requires-4
 byte-at-requires-4 c κs = search needs
 
-waiting-from-requires : tie.Need-waiting-from-requires
-waiting-from-requires c κs = search needs
-
 add-byte-at-5 : tie.Need-add-byte-at-5
 add-byte-at-5 c = search needs
 
 byte-at-requires-5 : tie.Need-byte-at-requires-5
 byte-at-requires-5 c κs = search needs
+
+task-of-requires : tie.Need-task-of-requires
+task-of-requires c κs = search needs
 
 returns : tie.Need-returns
 unfolding taskFrom
@@ -54,14 +51,13 @@ task-from-spec =
     number-at-requires
     add-byte-at
     byte-at-requires
-    place-from-requires
     add-byte-at-2
     byte-at-requires-2
     add-byte-at-3
     byte-at-requires-3
     add-byte-at-4
     byte-at-requires-4
-    waiting-from-requires
     add-byte-at-5
     byte-at-requires-5
+    task-of-requires
     returns)

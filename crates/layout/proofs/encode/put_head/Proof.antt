@@ -9,20 +9,17 @@ use Rattle.layout.proofs.encode.put_head.Tie as tie
 put-number-requires : tie.Need-put-number-requires
 put-number-requires c κs = search needs
 
-runner-code-requires : tie.Need-runner-code-requires
-runner-code-requires c κs = search needs
+cast-t15 : tie.Need-cast-t15
+cast-t15 c = search needs
 
-cast-t14 : tie.Need-cast-t14
-cast-t14 c = search needs
+cast-t17 : tie.Need-cast-t17
+cast-t17 c = search needs
 
-cast-t16 : tie.Need-cast-t16
-cast-t16 c = search needs
+cast-t19 : tie.Need-cast-t19
+cast-t19 c = search needs
 
-cast-t18 : tie.Need-cast-t18
-cast-t18 c = search needs
-
-cast-t20 : tie.Need-cast-t20
-cast-t20 c = search needs
+cast-t21 : tie.Need-cast-t21
+cast-t21 c = search needs
 
 slice-aggregate-put : tie.Need-slice-aggregate-put
 slice-aggregate-put c = search needs
@@ -37,21 +34,21 @@ returns : tie.Need-returns
 unfolding lowBytes
 returns c =
     let p = c .before .before in
-    let b2 = p .before .before .before in
-    let b1 = b2 .before .before .before in
-    let a = b1 .before .before .before .args in
-    head-put (a .out .now) _ _ 0 _ (omega arith) (a .state) _ (b2 .runner-code .ensures) (b1 .put-number .ensures) (p .put .ensures)
+    let b1 = p .before .before .before .before .before in
+    let a = b1 .before .before .before in
+    let s = a .args in
+    head-put (s .out .now) _ _ 0 8 (omega arith) (s .reading) (s .running) (s .tasks) (s .objects) (s .marks) (b1 .put-number .ensures)
+    (p .put .ensures)
 
 pub put-head-spec : {M : Type 1} → statement M
 put-head-spec =
     tie.close
     (tie.spec
     put-number-requires
-    runner-code-requires
-    cast-t14
-    cast-t16
-    cast-t18
-    cast-t20
+    cast-t15
+    cast-t17
+    cast-t19
+    cast-t21
     slice-aggregate-put
     put-requires
     same-length

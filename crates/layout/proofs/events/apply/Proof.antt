@@ -1,16 +1,16 @@
 -- `layout::events::apply` meets its contract.
+use mathlib.Core.Path.{refl, ap, sym, _∙_}
 use native.Mathlib.Omega.{arith}
 use borrow.Author.Tests.{not-true, not-false}
-use mathlib.Core.Path.{_∙_, ap, sym}
-use Rattle.dispatch.specs.Methods.{appliedOf}
-use Rattle.dispatch.specs.declared.State.{State}
-use Rattle.layout.proofs.EventLaws.{event-unread, event-refused, event-done}
+use Rattle.rules.specs.Answers.{reportNumber}
+use Rattle.layout.proofs.EventLaws.{unloadable, untested, event-unsound, loaded-tested, loaded-valid, moved-refused, moved-done}
+use Rattle.layout.proofs.CellLaws.{loadable-long}
 use borrow.Author.Needs.{needs}
 use Rattle.layout.proofs.events.apply.Statement.{statement}
 use Rattle.layout.proofs.events.apply.Tie as tie
 
-readable-requires : tie.Need-readable-requires
-readable-requires c κs = search needs
+loadable-requires : tie.Need-loadable-requires
+loadable-requires c κs = search needs
 
 number-requires : tie.Need-number-requires
 number-requires c κs = search needs
@@ -23,17 +23,50 @@ same-length c = search needs
 
 returns : tie.Need-returns
 returns c =
-    let i = c .before .before in
-    let t = i .before in
-    let a = t .before .before .before .args in
-    let no = sym (t .readable .ensures) ∙ not-true _ (i .if1 .taken) in
-    event-unread (a .bytes .now) (a .event) _ (c .number2 .ensures) no _ (c .before .number .ensures)
+    let j = c .before .before in
+    let t = j .before in
+    let a = t .before .before .before in
+    let bad = unloadable (a .args .bytes .now) (sym (t .loadable .ensures) ∙ not-true _ (j .if1 .taken)) in
+    event-unsound (a .args .bytes .now) (a .args .event) _ (c .number2 .ensures) _ (c .before .number .ensures) bad
 
-read-requires : tie.Need-read-requires
-read-requires c κs = search needs
+slice-aggregate-load : tie.Need-slice-aggregate-load
+slice-aggregate-load c = search needs
 
-applied-requires : tie.Need-applied-requires
-applied-requires c κs = search needs
+slice-aggregate-load-2 : tie.Need-slice-aggregate-load-2
+slice-aggregate-load-2 c = search needs
+
+slice-aggregate-load-3 : tie.Need-slice-aggregate-load-3
+slice-aggregate-load-3 c = search needs
+
+slice-aggregate-load-4 : tie.Need-slice-aggregate-load-4
+slice-aggregate-load-4 c = search needs
+
+load-requires : tie.Need-load-requires
+load-requires c κs =
+    let j = c .before .before .before .before .before in
+    let t = j .before in
+    let ok = sym (t .loadable .ensures) ∙ not-false _ (j .if1 .left) in
+    (ok, (refl, (refl, (refl, refl))))
+
+slice-aggregate-sound : tie.Need-slice-aggregate-sound
+slice-aggregate-sound c = search needs
+
+slice-aggregate-sound-2 : tie.Need-slice-aggregate-sound-2
+slice-aggregate-sound-2 c = search needs
+
+slice-aggregate-sound-3 : tie.Need-slice-aggregate-sound-3
+slice-aggregate-sound-3 c = search needs
+
+slice-aggregate-sound-4 : tie.Need-slice-aggregate-sound-4
+slice-aggregate-sound-4 c = search needs
+
+long-at-requires : tie.Need-long-at-requires
+long-at-requires c κs = search needs
+
+sound-requires : tie.Need-sound-requires
+sound-requires c κs =
+    let at-load = c .before .before .before .before .before .before .before .before .before .before .before in
+    at-load .load .ensures .laid
 
 number-requires-3 : tie.Need-number-requires-3
 number-requires-3 c κs = search needs
@@ -46,53 +79,158 @@ same-length-2 c = search needs
 
 returns-2 : tie.Need-returns-2
 returns-2 c =
-    let n = c .before in
-    let w = n .before in
-    let s = w .before in
-    let r = s .before in
-    let j = r .before .before in
+    let i = c .before .before in
+    let at-sound = i .before in
+    let at-marks = at-sound .before in
+    let at-load = at-marks .before .before .before .before .before .before .before .before .before .before .before in
+    let j = at-load .before .before .before .before .before .before in
     let t = j .before in
-    let a = t .before .before .before .args in
-    let ok = sym (t .readable .ensures) ∙ not-false _ (j .if1 .left) in
-    let step = s .applied .ensures ∙ ap (λ (x : State). appliedOf x (a .event)) (r .read .ensures) in
-    event-refused (a .bytes .now) (a .event) _ step _ (n .number4 .ensures) _ (w .number3 .ensures) ok (λ z. c .if2 .taken (omega arith))
+    let a = t .before .before .before in
+    let ok = sym (t .loadable .ensures) ∙ not-false _ (j .if1 .left) in
+    let b = a .args .bytes .now in
+    let bad = sym (loaded-tested b ok (at-load .load .ensures) _ (at-marks .long-at .ensures) _ (at-sound .sound .ensures)) ∙
+    not-true _ (i .if2 .taken) in
+    event-unsound b (a .args .event) _ (c .number4 .ensures) _ (c .before .number3 .ensures) (untested b bad)
 
-write-requires : tie.Need-write-requires
-write-requires c κs = search needs
+slice-aggregate-apply : tie.Need-slice-aggregate-apply
+slice-aggregate-apply c = search needs
+
+slice-aggregate-apply-2 : tie.Need-slice-aggregate-apply-2
+slice-aggregate-apply-2 c = search needs
+
+slice-aggregate-apply-3 : tie.Need-slice-aggregate-apply-3
+slice-aggregate-apply-3 c = search needs
+
+slice-aggregate-apply-4 : tie.Need-slice-aggregate-apply-4
+slice-aggregate-apply-4 c = search needs
+
+apply-requires : tie.Need-apply-requires
+apply-requires c κs =
+    let i = c .before .before .before .before .before in
+    let at-sound = i .before in
+    let at-marks = at-sound .before in
+    let at-load = at-marks .before .before .before .before .before .before .before .before .before .before .before in
+    let j = at-load .before .before .before .before .before .before in
+    let t = j .before in
+    let a = t .before .before .before in
+    let ok = sym (t .loadable .ensures) ∙ not-false _ (j .if1 .left) in
+    loaded-valid (a .args .bytes .now) ok (at-load .load .ensures) _ (at-marks .long-at .ensures) _ (at-sound .sound .ensures)
+    (not-false _ (i .if2 .left))
+
+report-requires : tie.Need-report-requires
+report-requires c κs = search needs
+
+number-requires-5 : tie.Need-number-requires-5
+number-requires-5 c κs = search needs
+
+number-requires-6 : tie.Need-number-requires-6
+number-requires-6 c κs = search needs
 
 same-length-3 : tie.Need-same-length-3
 same-length-3 c = search needs
 
 returns-3 : tie.Need-returns-3
 returns-3 c =
-    let v = c .before .before in
-    let i = v .before .before .before in
-    let n = i .before in
-    let w = n .before in
-    let s = w .before in
-    let r = s .before in
-    let j = r .before .before in
+    let n = c .before in
+    let at-number = n .before in
+    let at-report = at-number .before in
+    let at-apply = at-report .before .before .before .before in
+    let i = at-apply .before .before .before .before .before .before in
+    let at-sound = i .before in
+    let at-marks = at-sound .before in
+    let at-load = at-marks .before .before .before .before .before .before .before .before .before .before .before in
+    let j = at-load .before .before .before .before .before .before in
     let t = j .before in
-    let a = t .before .before .before .args in
-    let ok = sym (t .readable .ensures) ∙ not-false _ (j .if1 .left) in
-    let step = s .applied .ensures ∙ ap (λ (x : State). appliedOf x (a .event)) (r .read .ensures) in
-    event-done (a .bytes .now) (a .event) _ step _ (n .number4 .ensures) _ (w .number3 .ensures) ok _ (omega arith) (v .write .ensures)
+    let a = t .before .before .before in
+    let ok = sym (t .loadable .ensures) ∙ not-false _ (j .if1 .left) in
+    let report = at-number .number5 .ensures ∙ ap reportNumber (at-report .report .ensures) in
+    moved-refused (a .args .bytes .now) ok (at-load .load .ensures) _ (at-marks .long-at .ensures) _ (at-sound .sound .ensures) (a .args .event)
+    (not-false _ (i .if2 .left)) _ (at-apply .apply .ensures) _ (n .number6 .ensures) _ report (λ z. c .if3 .taken (omega arith))
+
+slice-aggregate-store : tie.Need-slice-aggregate-store
+slice-aggregate-store c = search needs
+
+slice-aggregate-store-2 : tie.Need-slice-aggregate-store-2
+slice-aggregate-store-2 c = search needs
+
+slice-aggregate-store-3 : tie.Need-slice-aggregate-store-3
+slice-aggregate-store-3 c = search needs
+
+slice-aggregate-store-4 : tie.Need-slice-aggregate-store-4
+slice-aggregate-store-4 c = search needs
+
+store-requires : tie.Need-store-requires
+store-requires c κs =
+    let at-apply = c .before .before .before .before .before .before .before .before .before .before .before .before .before in
+    let at-load = at-apply .before .before .before .before .before .before .before .before .before .before .before .before .before .before .before .before .before .before .before in
+    let j = at-load .before .before .before .before .before .before in
+    let t = j .before in
+    let a = t .before .before .before in
+    let ok = sym (t .loadable .ensures) ∙ not-false _ (j .if1 .left) in
+    (loadable-long (a .args .bytes .now) ok, at-apply .apply .ensures .valid)
+
+same-length-4 : tie.Need-same-length-4
+same-length-4 c = search needs
+
+returns-4 : tie.Need-returns-4
+returns-4 c =
+    let w = c .before .before in
+    let k = w .before .before .before .before .before .before .before in
+    let n = k .before in
+    let at-number = n .before in
+    let at-report = at-number .before in
+    let at-apply = at-report .before .before .before .before in
+    let i = at-apply .before .before .before .before .before .before in
+    let at-sound = i .before in
+    let at-marks = at-sound .before in
+    let at-load = at-marks .before .before .before .before .before .before .before .before .before .before .before in
+    let j = at-load .before .before .before .before .before .before in
+    let t = j .before in
+    let a = t .before .before .before in
+    let ok = sym (t .loadable .ensures) ∙ not-false _ (j .if1 .left) in
+    let report = at-number .number5 .ensures ∙ ap reportNumber (at-report .report .ensures) in
+    moved-done (a .args .bytes .now) ok (at-load .load .ensures) _ (at-marks .long-at .ensures) _ (at-sound .sound .ensures) (a .args .event)
+    (not-false _ (i .if2 .left)) _ (at-apply .apply .ensures) _ (n .number6 .ensures) _ report (omega (arith, k .if3 .left)) _
+    (w .store .ensures)
 
 pub apply-spec : {M : Type 1} → statement M
 apply-spec =
     tie.close
     (tie.spec
-    readable-requires
+    loadable-requires
     number-requires
     number-requires-2
     same-length
     returns
-    read-requires
-    applied-requires
+    slice-aggregate-load
+    slice-aggregate-load-2
+    slice-aggregate-load-3
+    slice-aggregate-load-4
+    load-requires
+    slice-aggregate-sound
+    slice-aggregate-sound-2
+    slice-aggregate-sound-3
+    slice-aggregate-sound-4
+    long-at-requires
+    sound-requires
     number-requires-3
     number-requires-4
     same-length-2
     returns-2
-    write-requires
+    slice-aggregate-apply
+    slice-aggregate-apply-2
+    slice-aggregate-apply-3
+    slice-aggregate-apply-4
+    apply-requires
+    report-requires
+    number-requires-5
+    number-requires-6
     same-length-3
-    returns-3)
+    returns-3
+    slice-aggregate-store
+    slice-aggregate-store-2
+    slice-aggregate-store-3
+    slice-aggregate-store-4
+    store-requires
+    same-length-4
+    returns-4)

@@ -1,58 +1,56 @@
 -- `layout::ranges::row_in_range` meets its contract.
 use mathlib.Core.Path.{refl}
-use native.Mathlib.Omega.{arith}
 use Rattle.layout.proofs.RangeLaws.{row-kind, row-waits, row-permit}
 use borrow.Author.Needs.{needs}
 use Rattle.layout.proofs.ranges.row_in_range.Statement.{statement}
 use Rattle.layout.proofs.ranges.row_in_range.Tie as tie
 
-add-byte-at : tie.Need-add-byte-at
-add-byte-at c = search needs
+add-if1 : tie.Need-add-if1
+add-if1 c = search needs
 
-byte-at-requires : tie.Need-byte-at-requires
-byte-at-requires c κs = search needs
+shared-slice-read-if1 : tie.Need-shared-slice-read-if1
+shared-slice-read-if1 c = search needs
 
 returns : tie.Need-returns
 returns c =
-    let a = c .before .before .before .args in
-    row-kind (a .s .now) (a .i) _ _ _ (c .before .byte-at .ensures) refl refl (c .if1 .taken)
+    let a = c .before .before .args in
+    row-kind (a .s .now) (a .i) _ _ _ refl refl refl (c .if1 .taken)
 
-add-byte-at-2 : tie.Need-add-byte-at-2
-add-byte-at-2 c = search needs
+add-if2 : tie.Need-add-if2
+add-if2 c = search needs
 
-byte-at-requires-2 : tie.Need-byte-at-requires-2
-byte-at-requires-2 c κs = search needs
+shared-slice-read-if2 : tie.Need-shared-slice-read-if2
+shared-slice-read-if2 c = search needs
 
 returns-2 : tie.Need-returns-2
 returns-2 c =
     let i = c .before .before in
-    let a = i .before .before .before .args in
-    row-waits (a .s .now) (a .i) _ _ _ (i .before .byte-at .ensures) (c .before .byte-at2 .ensures) refl (i .if1 .left) (c .if2 .taken)
+    let a = i .before .before .args in
+    row-waits (a .s .now) (a .i) _ _ _ refl refl refl (i .if1 .left) (c .if2 .taken)
 
-add-byte-at-3 : tie.Need-add-byte-at-3
-add-byte-at-3 c = search needs
+add-result : tie.Need-add-result
+add-result c = search needs
 
-byte-at-requires-3 : tie.Need-byte-at-requires-3
-byte-at-requires-3 c κs = search needs
+shared-slice-read-result : tie.Need-shared-slice-read-result
+shared-slice-read-result c = search needs
 
 returns-3 : tie.Need-returns-3
 returns-3 c =
     let j = c .before in
     let i = j .before .before in
-    let a = i .before .before .before .args in
-    row-permit (a .s .now) (a .i) _ _ _ (i .before .byte-at .ensures) (j .before .byte-at2 .ensures) (c .byte-at3 .ensures) (i .if1 .left)
-    (j .if2 .left)
+    let a = i .before .before .args in
+    row-permit (a .s .now) (a .i) _ _ _ refl refl refl (i .if1 .left) (j .if2 .left)
 
 pub row-in-range-spec : {M : Type 1} → statement M
 row-in-range-spec =
     tie.close
     (tie.spec
-    add-byte-at
-    byte-at-requires
+    add-if1
+    shared-slice-read-if1
     returns
-    add-byte-at-2
-    byte-at-requires-2
+    add-if2
+    shared-slice-read-if2
     returns-2
-    add-byte-at-3
-    byte-at-requires-3
+    add-result
+    shared-slice-read-result
     returns-3)

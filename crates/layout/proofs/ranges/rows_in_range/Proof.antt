@@ -17,14 +17,14 @@ Inv-loop s n t₀ t = (t ≤ n) × (n ≤ taskLimit) × (below t (rowAt s) ≡ t
 abbrev μ-loop : tie.MeasureT-loop
 μ-loop s n t₀ t = n - t
 
-byte-at-requires : tie.Need-byte-at-requires Inv-loop μ-loop
-byte-at-requires c κs = search needs
+shared-slice-read-n : tie.Need-shared-slice-read-n Inv-loop μ-loop
+shared-slice-read-n c = search needs
 
 cast-n : tie.Need-cast-n Inv-loop μ-loop
-cast-n c = search needs
+cast-n c = omega (arith, c .shared-slice-known2 .given 9)
 
 returns : tie.Need-returns Inv-loop μ-loop
-returns c = rows-many (c .before .before .before .args .s .now) _ (c .before .byte-at .ensures) (c .if1 .taken)
+returns c = rows-many (c .before .before .before .args .s .now) _ refl (c .if1 .taken)
 
 loop-holds : tie.Need-loop-holds Inv-loop μ-loop
 unfolding below
@@ -42,8 +42,8 @@ row-in-range-requires c κs = search needs
 returns-2 : tie.Need-returns-2 Inv-loop μ-loop
 returns-2 c =
     let l = c .before .before .before in
-    let b = l .before .before in
-    rows-fail (b .before .before .args .s .now) _ (b .byte-at .ensures) (l .loop .t) _ (l .loop .inv .1)
+    let a = l .before .before .before .before in
+    rows-fail (a .args .s .now) _ refl (l .loop .t) _ (l .loop .inv .1)
     (c .before .before .loop-test .taken) (c .before .row-in-range .ensures) (not-true _ (c .if2 .taken))
 
 add-t : tie.Need-add-t Inv-loop μ-loop
@@ -62,8 +62,8 @@ loop-again c =
 returns-3 : tie.Need-returns-3 Inv-loop μ-loop
 returns-3 c =
     let l = c .before in
-    let b = l .before .before in
-    rows-all (b .before .before .args .s .now) _ (b .byte-at .ensures) (l .loop .t) (l .loop .inv .1) (l .loop .inv .0) (c .loop-test .left)
+    let a = l .before .before .before .before in
+    rows-all (a .args .s .now) _ refl (l .loop .t) (l .loop .inv .1) (l .loop .inv .0) (c .loop-test .left)
     (l .loop .inv .2)
 
 pub rows-in-range-spec : {M : Type 1} → statement M
@@ -72,7 +72,7 @@ rows-in-range-spec =
     (tie.spec
     Inv-loop
     μ-loop
-    byte-at-requires
+    shared-slice-read-n
     cast-n
     returns
     loop-holds
