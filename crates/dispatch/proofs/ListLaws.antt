@@ -47,10 +47,6 @@ module _ {A : Type 0} where
       behind (y ∷ l) k (suc i) = behind l k i
 
 module _ {A B : Type 0} (f : A → B) where
-  pub map-padded : (n : ℕ) (l : List A) (x : A) → map f (padded n l x) ≡ padded n (map f l) (f x)
-  unfolding padded
-  map-padded n l x = map-append f l (replicate (n - length l) x) ∙ rw (map-replicate f (n - length l) x, length-map l f)
-
   -- a list with blanks behind its first n, cut there and padded again
   pub padded-back : (n m : ℕ) (l : List A) (x : A) → n ≤ length l → drop n l ≡ replicate (m - n) x →
       padded m (map f (take n l)) (f x) ≡ map f l

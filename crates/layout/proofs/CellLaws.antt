@@ -55,7 +55,7 @@ over-zeros w n m l l' from held e f g =
     let size : length l ≡ m = ap length e ∙ length-replicate {A = ℕ} m 0 in
     g ∙ (ap (λ (k : ℕ). listsOver w from n k) size ∙ ap (λ (v : List ℕ). listsOver w v n m) f)
 
-pub zeros-again : (l : List ℕ) (m : ℕ) → l ≡ replicate m 0 → l ≡ replicate (length l) 0
+zeros-again : (l : List ℕ) (m : ℕ) → l ≡ replicate m 0 → l ≡ replicate (length l) 0
 zeros-again l m e = e ∙ ap (λ (k : ℕ). replicate k 0) (sym (ap length e ∙ length-replicate {A = ℕ} m 0))
 
 -- a record that is read
@@ -90,8 +90,9 @@ module _ (b : List ℕ) (room : stateSize ≤ length b) where
   sizes-lent r hd qs e f g = g ∙ rw (e, f)
 
   -- the first n ceilings, put over zeros
-  pub ceilings-put : (n : ℕ) (cs cs' : List ℕ) → n ≤ objectLimit → cs ≡ replicate objectLimit 0 →
-      cs' ≡ sets cs 0 (take (ceilingsStart + n - ceilingsStart) (drop ceilingsStart b)) → cs' ≡ padded objectLimit (take n (map level (stateOfBytes b .ceilings))) 0
+  ceilings-put : (n : ℕ) (cs cs' : List ℕ) → n ≤ objectLimit → cs ≡ replicate objectLimit 0 →
+      cs' ≡ sets cs 0 (take (ceilingsStart + n - ceilingsStart) (drop ceilingsStart b)) →
+      cs' ≡ padded objectLimit (take n (map level (stateOfBytes b .ceilings))) 0
   unfolding stateOfBytes padded cellsFrom
   ceilings-put n cs cs' h e f =
       let given : ℕ → ℕ = λ o. byteAt b (ceilingsStart + o) in
@@ -101,8 +102,8 @@ module _ (b : List ℕ) (room : stateSize ≤ length b) where
       cells-are b ceilingsStart n (omega arith) ∙ (sym (tabulate-take n objectLimit given h) ∙
       ap (take n) (sym (map-tabulate level objectLimit (λ o. priority (given o))))) in
       let most : ceilingsStart + n - ceilingsStart ≡ n = omega arith in
-      f ∙ (ap (λ (k : ℕ). sets cs 0 (take k (drop ceilingsStart b))) most ∙ (ap (λ (l : List ℕ). sets l 0 text) e ∙ (sets-over (replicate objectLimit 0) text n size (omega arith) ∙
-      rw (drop-replicate {A = ℕ} n objectLimit 0, ← same, size))))
+      let put = f ∙ (ap (λ (k : ℕ). sets cs 0 (take k (drop ceilingsStart b))) most ∙ ap (λ (l : List ℕ). sets l 0 text) e) in
+      put ∙ (sets-over (replicate objectLimit 0) text n size (omega arith) ∙ rw (drop-replicate {A = ℕ} n objectLimit 0, ← same, size))
 
   pub ceilings-room : (n : ℕ) (cs : List ℕ) → n ≤ objectLimit → cs ≡ replicate objectLimit 0 →
       0 + length (take (ceilingsStart + n - ceilingsStart) (drop ceilingsStart b)) ≤ length cs
@@ -115,7 +116,7 @@ module _ (b : List ℕ) (ok : (readable b && sizesFit (stateOfBytes b)) ≡ true
   pub loadable-long : stateSize ≤ length b
   loadable-long = read-long b (and-left (readable b) (sizesFit (stateOfBytes b)) ok)
 
-  pub loadable-fits : Fitting (stateOfBytes b)
+  loadable-fits : Fitting (stateOfBytes b)
   loadable-fits = fitting (stateOfBytes b) (and-right (readable b) (sizesFit (stateOfBytes b)) ok)
 
   pub count-fits : byteAt b taskCountAt ≤ taskLimit
@@ -162,12 +163,14 @@ module _ (b : List ℕ) (ok : (readable b && sizesFit (stateOfBytes b)) ≡ true
     pub queues-laid : Queues qs'
     queues-laid = queues-loaded (stateOfBytes b) loadable-fits (decoded-shaped b) qs' queues-over
 
-    pub bytes-loaded : (now : ℕ) (w : Runner) (h ts hd hd' held cs cs' : List ℕ) → now ≡ numberAt b 0 → w ≡ runnerFrom (byteAt b runningAt) →
+    pub bytes-loaded : (now : ℕ) (w : Runner) (h ts hd hd' held cs cs' : List ℕ) → now ≡ numberAt b 0 →
+        w ≡ runnerFrom (byteAt b runningAt) →
         h ≡ headFor now w (byteAt b taskCountAt) (byteAt b objectCountAt) qs' →
         TasksLoaded (tasksFrom b) (byteAt b taskCountAt) ts →
         hd ≡ replicate (taskLimit * heldWidth) 0 → held ≡ stateOfBytes b .held →
         hd' ≡ listsOver heldWidth held (byteAt b taskCountAt) (length hd) →
-        cs ≡ replicate objectLimit 0 → cs' ≡ sets cs 0 (take (ceilingsStart + byteAt b objectCountAt - ceilingsStart) (drop ceilingsStart b)) →
+        cs ≡ replicate objectLimit 0 →
+        cs' ≡ sets cs 0 (take (ceilingsStart + byteAt b objectCountAt - ceilingsStart) (drop ceilingsStart b)) →
         Means h ts hd' cs' qs' (view (stateOfBytes b))
     unfolding stateOfBytes
     bytes-loaded now w h ts hd hd' held cs cs' e f head tasks clear lists over blanks put =
@@ -180,7 +183,8 @@ module _ {h ts hd cs qs : List ℕ} (v : Valid h ts hd cs qs) where
   same-levels : cs ≡ map level (encode (modelOf h ts hd cs qs) .ceilings)
   same-levels = sym (ap (map level) (ceilings-back (v .laid)) ∙ (map-map level priority cs ∙ map-id cs))
 
-  pub slices-stored : (b b1 b2 b3 b4 b5 : List ℕ) (running : ℕ) → stateSize ≤ length b → running ≡ runnerCode (runnerOf (getD h runningCell 0)) →
+  pub slices-stored : (b b1 b2 b3 b4 b5 : List ℕ) (running : ℕ) → stateSize ≤ length b →
+      running ≡ runnerCode (runnerOf (getD h runningCell 0)) →
       b1 ≡ sets b 0
       (lowBytes numberSize (getD h nowCell 0) ++
       (running ∷ (taskCountIn h ∷ (objectCountIn h ∷ (0 ∷ lowBytes marksSize (marksIn h)))))) →

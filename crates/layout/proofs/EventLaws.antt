@@ -122,13 +122,14 @@ module _ (b : List ℕ) where
   pub untested : soundOf (stateOfBytes b) ≡ false → (readable b && soundOf (stateOfBytes b)) ≡ false
   untested e = and-false (readable b) (soundOf (stateOfBytes b)) e
 
+-- bytes that can be loaded are readable
+pub loaded-readable : (b : List ℕ) → (readable b && sizesFit (stateOfBytes b)) ≡ true → readable b ≡ true
+loaded-readable b ok = and-left (readable b) (sizesFit (stateOfBytes b)) ok
+
 -- bytes that were loaded: the test of the slices, and an event on them
 module _ (b : List ℕ) (ok : (readable b && sizesFit (stateOfBytes b)) ≡ true) {h ts hd cs qs : List ℕ}
     (m : Means h ts hd cs qs (view (stateOfBytes b))) (marks : ℕ) (w : marks ≡ longAt b marksAt) (r : Bool)
     (t : r ≡ (eqb marks (marksOf (queuesIn qs)) && sound (modelOf h ts hd cs qs))) where
-  pub loaded-readable : readable b ≡ true
-  loaded-readable = and-left (readable b) (sizesFit (stateOfBytes b)) ok
-
   fit : sizesFit (stateOfBytes b) ≡ true
   fit = and-right (readable b) (sizesFit (stateOfBytes b)) ok
 
@@ -152,14 +153,14 @@ module _ (b : List ℕ) (ok : (readable b && sizesFit (stateOfBytes b)) ≡ true
     moved-refused z =
         let s = stateOfBytes b in
         let step = refused-by s fit m e (sym loaded-tested ∙ good) x d n i (answerIn x) refl (reportIn x) refl z in
-        event-refused b e (stepped s) step n i p q loaded-readable z
+        event-refused b e (stepped s) step n i p q (loaded-readable b ok) z
 
     pub moved-done : n ≡ 0 → (b' : List ℕ) → b' ≡ withState (encode (modelOf h' ts' hd' cs' qs')) b →
         (0 ≡ eventNumber b e) × ((b' ≡ eventBytes b e) × (p ≡ eventReport b e))
     moved-done z b' f =
         let s = encode (modelOf h' ts' hd' cs' qs') in
         let step = accepted-by (stateOfBytes b) fit m e (sym loaded-tested ∙ good) x d n i (answerIn x) refl (reportIn x) refl z s refl in
-        event-done b e (stepped s) step n i p q loaded-readable b' z f
+        event-done b e (stepped s) step n i p q (loaded-readable b ok) b' z f
 
 -- a fresh start
 module _ (s : Setup) (b : List ℕ) (n : ℕ) where

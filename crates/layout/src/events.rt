@@ -30,8 +30,8 @@ pub fn apply(bytes: &mut [u8], event: Event, report: &mut u8) -> u8
     ensures { λ r. ⌜ now (bytes .exit) ≡ eventBytes (now (bytes .entry)) event ⌝ }
     ensures { λ r. ⌜ now (report .exit) ≡ eventReport (now (bytes .entry)) event ⌝ }
 {
+    *report = Report::Unchanged.number();
     if !loadable(bytes) {
-        *report = Report::Unchanged.number();
         return Answer::Unsound.number();
     }
     let mut tasks = [0u64; TASK_CELLS];
@@ -39,15 +39,8 @@ pub fn apply(bytes: &mut [u8], event: Event, report: &mut u8) -> u8
     let mut ceilings = [0u8; OBJECT_LIMIT];
     let mut queues = [0u8; QUEUE_CELLS];
     let mut head = load(bytes, &mut tasks, &mut held, &mut ceilings, &mut queues);
-    if !soundness::sound(
-        &head,
-        &tasks,
-        &held,
-        &ceilings,
-        &queues,
-        long_at(bytes, MARKS_AT),
-    ) {
-        *report = Report::Unchanged.number();
+    let marks = long_at(bytes, MARKS_AT);
+    if !soundness::sound(&head, &tasks, &held, &ceilings, &queues, marks) {
         return Answer::Unsound.number();
     }
     let ruling = engine::apply(
@@ -96,14 +89,8 @@ pub fn sound(bytes: &[u8]) -> u8
     let mut ceilings = [0u8; OBJECT_LIMIT];
     let mut queues = [0u8; QUEUE_CELLS];
     let head = load(bytes, &mut tasks, &mut held, &mut ceilings, &mut queues);
-    if soundness::sound(
-        &head,
-        &tasks,
-        &held,
-        &ceilings,
-        &queues,
-        long_at(bytes, MARKS_AT),
-    ) {
+    let marks = long_at(bytes, MARKS_AT);
+    if soundness::sound(&head, &tasks, &held, &ceilings, &queues, marks) {
         return 0;
     }
     Answer::Unsound.number()

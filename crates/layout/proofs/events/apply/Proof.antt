@@ -9,11 +9,11 @@ use borrow.Author.Needs.{needs}
 use Rattle.layout.proofs.events.apply.Statement.{statement}
 use Rattle.layout.proofs.events.apply.Tie as tie
 
-loadable-requires : tie.Need-loadable-requires
-loadable-requires c κs = search needs
-
 number-requires : tie.Need-number-requires
 number-requires c κs = search needs
+
+loadable-requires : tie.Need-loadable-requires
+loadable-requires c κs = search needs
 
 number-requires-2 : tie.Need-number-requires-2
 number-requires-2 c κs = search needs
@@ -23,11 +23,12 @@ same-length c = search needs
 
 returns : tie.Need-returns
 returns c =
-    let j = c .before .before in
+    let j = c .before in
     let t = j .before in
-    let a = t .before .before .before in
+    let w = t .before .before in
+    let a = w .before .before in
     let bad = unloadable (a .args .bytes .now) (sym (t .loadable .ensures) ∙ not-true _ (j .if1 .taken)) in
-    event-unsound (a .args .bytes .now) (a .args .event) _ (c .number2 .ensures) _ (c .before .number .ensures) bad
+    event-unsound (a .args .bytes .now) (a .args .event) _ (c .number2 .ensures) _ (w .number .ensures) bad
 
 slice-aggregate-load : tie.Need-slice-aggregate-load
 slice-aggregate-load c = search needs
@@ -48,6 +49,9 @@ load-requires c κs =
     let ok = sym (t .loadable .ensures) ∙ not-false _ (j .if1 .left) in
     (ok, (refl, (refl, (refl, refl))))
 
+long-at-requires : tie.Need-long-at-requires
+long-at-requires c κs = search needs
+
 slice-aggregate-sound : tie.Need-slice-aggregate-sound
 slice-aggregate-sound c = search needs
 
@@ -60,9 +64,6 @@ slice-aggregate-sound-3 c = search needs
 slice-aggregate-sound-4 : tie.Need-slice-aggregate-sound-4
 slice-aggregate-sound-4 c = search needs
 
-long-at-requires : tie.Need-long-at-requires
-long-at-requires c κs = search needs
-
 sound-requires : tie.Need-sound-requires
 sound-requires c κs =
     let at-load = c .before .before .before .before .before .before .before .before .before .before .before in
@@ -71,26 +72,23 @@ sound-requires c κs =
 number-requires-3 : tie.Need-number-requires-3
 number-requires-3 c κs = search needs
 
-number-requires-4 : tie.Need-number-requires-4
-number-requires-4 c κs = search needs
-
 same-length-2 : tie.Need-same-length-2
 same-length-2 c = search needs
 
 returns-2 : tie.Need-returns-2
 returns-2 c =
-    let i = c .before .before in
+    let i = c .before in
     let at-sound = i .before in
-    let at-marks = at-sound .before in
-    let at-load = at-marks .before .before .before .before .before .before .before .before .before .before .before in
+    let at-marks = at-sound .before .before .before .before .before .before in
+    let at-load = at-marks .before .before .before .before .before .before in
     let j = at-load .before .before .before .before .before .before in
     let t = j .before in
-    let a = t .before .before .before in
+    let w = t .before .before in
+    let a = w .before .before in
     let ok = sym (t .loadable .ensures) ∙ not-false _ (j .if1 .left) in
     let b = a .args .bytes .now in
-    let bad = sym (loaded-tested b ok (at-load .load .ensures) _ (at-marks .long-at .ensures) _ (at-sound .sound .ensures)) ∙
-    not-true _ (i .if2 .taken) in
-    event-unsound b (a .args .event) _ (c .number4 .ensures) _ (c .before .number3 .ensures) (untested b bad)
+    let test = loaded-tested b ok (at-load .load .ensures) _ (at-marks .long-at .ensures) _ (at-sound .sound .ensures) in
+    event-unsound b (a .args .event) _ (c .number3 .ensures) _ (w .number .ensures) (untested b (sym test ∙ not-true _ (i .if2 .taken)))
 
 slice-aggregate-apply : tie.Need-slice-aggregate-apply
 slice-aggregate-apply c = search needs
@@ -108,11 +106,11 @@ apply-requires : tie.Need-apply-requires
 apply-requires c κs =
     let i = c .before .before .before .before .before in
     let at-sound = i .before in
-    let at-marks = at-sound .before in
-    let at-load = at-marks .before .before .before .before .before .before .before .before .before .before .before in
+    let at-marks = at-sound .before .before .before .before .before .before in
+    let at-load = at-marks .before .before .before .before .before .before in
     let j = at-load .before .before .before .before .before .before in
     let t = j .before in
-    let a = t .before .before .before in
+    let a = t .before .before .before .before in
     let ok = sym (t .loadable .ensures) ∙ not-false _ (j .if1 .left) in
     loaded-valid (a .args .bytes .now) ok (at-load .load .ensures) _ (at-marks .long-at .ensures) _ (at-sound .sound .ensures)
     (not-false _ (i .if2 .left))
@@ -120,11 +118,11 @@ apply-requires c κs =
 report-requires : tie.Need-report-requires
 report-requires c κs = search needs
 
+number-requires-4 : tie.Need-number-requires-4
+number-requires-4 c κs = search needs
+
 number-requires-5 : tie.Need-number-requires-5
 number-requires-5 c κs = search needs
-
-number-requires-6 : tie.Need-number-requires-6
-number-requires-6 c κs = search needs
 
 same-length-3 : tie.Need-same-length-3
 same-length-3 c = search needs
@@ -137,15 +135,16 @@ returns-3 c =
     let at-apply = at-report .before .before .before .before in
     let i = at-apply .before .before .before .before .before .before in
     let at-sound = i .before in
-    let at-marks = at-sound .before in
-    let at-load = at-marks .before .before .before .before .before .before .before .before .before .before .before in
+    let at-marks = at-sound .before .before .before .before .before .before in
+    let at-load = at-marks .before .before .before .before .before .before in
     let j = at-load .before .before .before .before .before .before in
     let t = j .before in
-    let a = t .before .before .before in
+    let a = t .before .before .before .before in
     let ok = sym (t .loadable .ensures) ∙ not-false _ (j .if1 .left) in
-    let report = at-number .number5 .ensures ∙ ap reportNumber (at-report .report .ensures) in
-    moved-refused (a .args .bytes .now) ok (at-load .load .ensures) _ (at-marks .long-at .ensures) _ (at-sound .sound .ensures) (a .args .event)
-    (not-false _ (i .if2 .left)) _ (at-apply .apply .ensures) _ (n .number6 .ensures) _ report (λ z. c .if3 .taken (omega arith))
+    let report = at-number .number4 .ensures ∙ ap reportNumber (at-report .report .ensures) in
+    moved-refused (a .args .bytes .now) ok (at-load .load .ensures) _ (at-marks .long-at .ensures) _ (at-sound .sound .ensures)
+    (a .args .event) (not-false _ (i .if2 .left)) _ (at-apply .apply .ensures) _ (n .number5 .ensures) _ report
+    (λ z. c .if3 .taken (omega arith))
 
 slice-aggregate-store : tie.Need-slice-aggregate-store
 slice-aggregate-store c = search needs
@@ -162,10 +161,11 @@ slice-aggregate-store-4 c = search needs
 store-requires : tie.Need-store-requires
 store-requires c κs =
     let at-apply = c .before .before .before .before .before .before .before .before .before .before .before .before .before in
-    let at-load = at-apply .before .before .before .before .before .before .before .before .before .before .before .before .before .before .before .before .before .before .before in
+    let at-sound = at-apply .before .before .before .before .before .before .before in
+    let at-load = at-sound .before .before .before .before .before .before .before .before .before .before .before .before in
     let j = at-load .before .before .before .before .before .before in
     let t = j .before in
-    let a = t .before .before .before in
+    let a = t .before .before .before .before in
     let ok = sym (t .loadable .ensures) ∙ not-false _ (j .if1 .left) in
     (loadable-long (a .args .bytes .now) ok, at-apply .apply .ensures .valid)
 
@@ -182,23 +182,23 @@ returns-4 c =
     let at-apply = at-report .before .before .before .before in
     let i = at-apply .before .before .before .before .before .before in
     let at-sound = i .before in
-    let at-marks = at-sound .before in
-    let at-load = at-marks .before .before .before .before .before .before .before .before .before .before .before in
+    let at-marks = at-sound .before .before .before .before .before .before in
+    let at-load = at-marks .before .before .before .before .before .before in
     let j = at-load .before .before .before .before .before .before in
     let t = j .before in
-    let a = t .before .before .before in
+    let a = t .before .before .before .before in
     let ok = sym (t .loadable .ensures) ∙ not-false _ (j .if1 .left) in
-    let report = at-number .number5 .ensures ∙ ap reportNumber (at-report .report .ensures) in
-    moved-done (a .args .bytes .now) ok (at-load .load .ensures) _ (at-marks .long-at .ensures) _ (at-sound .sound .ensures) (a .args .event)
-    (not-false _ (i .if2 .left)) _ (at-apply .apply .ensures) _ (n .number6 .ensures) _ report (omega (arith, k .if3 .left)) _
-    (w .store .ensures)
+    let report = at-number .number4 .ensures ∙ ap reportNumber (at-report .report .ensures) in
+    moved-done (a .args .bytes .now) ok (at-load .load .ensures) _ (at-marks .long-at .ensures) _ (at-sound .sound .ensures)
+    (a .args .event) (not-false _ (i .if2 .left)) _ (at-apply .apply .ensures) _ (n .number5 .ensures) _ report
+    (omega (arith, k .if3 .left)) _ (w .store .ensures)
 
 pub apply-spec : {M : Type 1} → statement M
 apply-spec =
     tie.close
     (tie.spec
-    loadable-requires
     number-requires
+    loadable-requires
     number-requires-2
     same-length
     returns
@@ -207,14 +207,13 @@ apply-spec =
     slice-aggregate-load-3
     slice-aggregate-load-4
     load-requires
+    long-at-requires
     slice-aggregate-sound
     slice-aggregate-sound-2
     slice-aggregate-sound-3
     slice-aggregate-sound-4
-    long-at-requires
     sound-requires
     number-requires-3
-    number-requires-4
     same-length-2
     returns-2
     slice-aggregate-apply
@@ -223,8 +222,8 @@ apply-spec =
     slice-aggregate-apply-4
     apply-requires
     report-requires
+    number-requires-4
     number-requires-5
-    number-requires-6
     same-length-3
     returns-3
     slice-aggregate-store

@@ -39,6 +39,9 @@ load-requires c κs =
     let ok = sym (t .loadable .ensures) ∙ not-false _ (j .if1 .left) in
     (ok, (refl, (refl, (refl, refl))))
 
+long-at-requires : tie.Need-long-at-requires
+long-at-requires c κs = search needs
+
 slice-aggregate-sound : tie.Need-slice-aggregate-sound
 slice-aggregate-sound c = search needs
 
@@ -51,9 +54,6 @@ slice-aggregate-sound-3 c = search needs
 slice-aggregate-sound-4 : tie.Need-slice-aggregate-sound-4
 slice-aggregate-sound-4 c = search needs
 
-long-at-requires : tie.Need-long-at-requires
-long-at-requires c κs = search needs
-
 sound-requires : tie.Need-sound-requires
 sound-requires c κs =
     let at-load = c .before .before .before .before .before .before .before .before .before .before in
@@ -62,15 +62,15 @@ sound-requires c κs =
 returns-2 : tie.Need-returns-2
 returns-2 c =
     let at-sound = c .before in
-    let at-marks = at-sound .before in
-    let at-load = at-marks .before .before .before .before .before .before .before .before .before .before in
+    let at-marks = at-sound .before .before .before .before .before .before in
+    let at-load = at-marks .before .before .before .before .before in
     let j = at-load .before .before .before .before .before in
     let t = j .before in
     let a = t .before .before in
     let ok = sym (t .loadable .ensures) ∙ not-false _ (j .if1 .left) in
     let b = a .args .bytes .now in
     let test = loaded-tested b ok (at-load .load .ensures) _ (at-marks .long-at .ensures) _ (at-sound .sound .ensures) in
-    sound-yes b (loaded-readable b ok (at-load .load .ensures) _ (at-marks .long-at .ensures) _ (at-sound .sound .ensures)) (sym test ∙ c .if2 .taken)
+    sound-yes b (loaded-readable b ok) (sym test ∙ c .if2 .taken)
 
 number-requires-2 : tie.Need-number-requires-2
 number-requires-2 c κs = search needs
@@ -79,8 +79,8 @@ returns-3 : tie.Need-returns-3
 returns-3 c =
     let i = c .before in
     let at-sound = i .before in
-    let at-marks = at-sound .before in
-    let at-load = at-marks .before .before .before .before .before .before .before .before .before .before in
+    let at-marks = at-sound .before .before .before .before .before .before in
+    let at-load = at-marks .before .before .before .before .before in
     let j = at-load .before .before .before .before .before in
     let t = j .before in
     let a = t .before .before in
@@ -101,11 +101,11 @@ sound-spec =
     slice-aggregate-load-3
     slice-aggregate-load-4
     load-requires
+    long-at-requires
     slice-aggregate-sound
     slice-aggregate-sound-2
     slice-aggregate-sound-3
     slice-aggregate-sound-4
-    long-at-requires
     sound-requires
     returns-2
     number-requires-2
