@@ -15,7 +15,7 @@ use Rattle.board.specs.declared.Row.{Row}
 use Rattle.board.specs.declared.NextAnswer.{NextAnswer}
 use Rattle.board.proofs.NextLaws.{next-is}
 use Rattle.board.proofs.ScanLaws.{first-many, first-few, finish-many}
-use Rattle.layout.specs.Sizes.{nobodyCode, readyCode, delayedCode, suspendedCode, endedCode}
+use Rattle.cells.specs.Sizes.{nobodyCode, readyCode, delayedCode, suspendedCode, endedCode}
 use Rattle.words.specs.Words.{tabulate}
 use Rattle.layout.specs.Boards.{rowSize, kindFrom, kindNumber, rowFrom, rowsFrom, rowCount, rowBytes}
 use Rattle.layout.specs.Boards.{rowByte, packedTold, nextNumber}

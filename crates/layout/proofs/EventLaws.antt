@@ -31,11 +31,11 @@ use Rattle.dispatch.specs.Methods.{unsound, appliedOf, freshOf}
 use Rattle.dispatch.specs.declared.State.{State}
 use Rattle.dispatch.specs.declared.Started.{Started}
 use Rattle.dispatch.specs.declared.Stepped.{Stepped}
-use Rattle.layout.specs.Sizes.{runningAt, taskCountAt, marksAt, nobodyCode, stateSize}
-use Rattle.layout.specs.Decode.{runnerFrom, stateOfBytes}
-use Rattle.layout.specs.InRange.{readable}
-use Rattle.layout.specs.Encode.{withState}
-use Rattle.layout.proofs.WriteLaws.{state-kept}
+use Rattle.cells.specs.Sizes.{runningAt, taskCountAt, marksAt, nobodyCode, stateSize}
+use Rattle.cells.specs.Decode.{runnerFrom, stateOfBytes}
+use Rattle.cells.specs.InRange.{readable}
+use Rattle.cells.specs.Encode.{withState}
+use Rattle.cells.proofs.WriteLaws.{state-kept}
 use Rattle.layout.specs.Events.{unlessShort, unlessUnreadable, eventNumber, eventBytes, eventReport, freshNumber}
 use Rattle.layout.specs.Events.{freshBytes, soundNumber, listedCode, runningNumber}
 

@@ -26,11 +26,11 @@ use Rattle.board.specs.declared.FillAnswer.{FillAnswer}
 use Rattle.board.proofs.StateLaws.{answer-few, answer-unsound, fill-few}
 use Rattle.board.proofs.FillLaws.{rows-length}
 use Rattle.board.proofs.SourceLaws.{tasks-cut, tasks-all}
-use Rattle.layout.specs.InRange.{readable}
-use Rattle.layout.specs.Decode.{stateOfBytes}
+use Rattle.cells.specs.InRange.{readable}
+use Rattle.cells.specs.Decode.{stateOfBytes}
 use Rattle.layout.specs.Boards.{rowSize, rowCount, rowBytes, lentOf, fillAnswer, filledBytes}
 use Rattle.words.proofs.CopyLaws.{sets-over}
-use Rattle.layout.proofs.ReadLaws.{decoded-shaped}
+use Rattle.cells.proofs.ReadLaws.{decoded-shaped}
 use Rattle.layout.proofs.EventLaws.{unread-answer, read-answer}
 use Rattle.layout.proofs.BoardLaws.{rows-size}
 

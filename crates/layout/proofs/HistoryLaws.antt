@@ -2,13 +2,13 @@
 -- holds the state by value is.
 use mathlib.Core.Path.{_≡_, refl, ap, _∙_}
 use mathlib.Core.Bool.{Bool, true, false, cond}
-use mathlib.Core.List.{List, [], _++_, map}
-use Prim.Native.Nat.{ℕ, _*_, _≤_, _<_}
+use mathlib.Core.List.{List, _++_, map}
+use Prim.Native.Nat.{ℕ, _≤_, _<_}
 use native.Mathlib.Omega.{arith}
 use borrow.Author.Tests.{le-ltb}
 use lib.Dec.{eqb, ltb}
-use lib.ListN.{length, getD, drop, length-map, List·getD-eq-default, List·getD-map}
-use Rattle.rules.specs.Limits.{taskLimit, objectLimit}
+use lib.ListN.{length, getD, drop, List·getD-eq-default, List·getD-map}
+use Rattle.rules.specs.Limits.{taskLimit}
 use Rattle.rules.specs.Answers.{numberOf}
 use Rattle.rules.specs.Model.{Model, blank, taskAt}
 use Rattle.rules.specs.Sound.{sound}
@@ -24,26 +24,23 @@ use Rattle.rules.proofs.SoundLaws.{sound-is}
 use Rattle.rules.proofs.Soundness.{sound-kept}
 use Rattle.rules.proofs.FreshLaws.{fresh-sound}
 use Rattle.marks.proofs.MarkLaws.{marks-fit}
-use Rattle.memory.specs.Rows.{heldWidth, queueWidth}
 use Rattle.memory.specs.Tasks.{dueOf, blankTask}
-use Rattle.dispatch.specs.State.{priority, view, waitingFor, taskFor, holding, padded, encode}
+use Rattle.dispatch.specs.State.{view, waitingFor, taskFor, padded, encode}
 use Rattle.dispatch.specs.Sound.{soundOf}
-use Rattle.dispatch.proofs.Known.{Shaped}
 use Rattle.dispatch.specs.Methods.{answered, unsound, appliedOf, freshOf}
 use Rattle.dispatch.specs.declared.State.{State}
 use Rattle.dispatch.specs.declared.Stepped.{Stepped}
 use Rattle.dispatch.proofs.MethodLaws.{view-sound}
-use Rattle.dispatch.proofs.ListLaws.{padded-length, padded-at}
-use Rattle.loading.proofs.FlatLaws.{flat-length}
-use Rattle.dispatch.proofs.EncodeLaws.{held-short, queue-short, held-count}
-use Rattle.layout.specs.Sizes.{stateSize}
-use Rattle.layout.specs.Decode.{stateOfBytes}
-use Rattle.layout.specs.InRange.{readable}
-use Rattle.layout.specs.Encode.{bytesOfState, withState, numberValues, Fits}
+use Rattle.dispatch.proofs.ListLaws.{padded-at}
+use Rattle.cells.specs.Sizes.{stateSize}
+use Rattle.cells.specs.Decode.{stateOfBytes}
+use Rattle.cells.specs.InRange.{readable}
+use Rattle.cells.specs.Encode.{bytesOfState, withState, numberValues, Fits}
 use Rattle.layout.specs.Events.{eventNumber, eventBytes, freshBytes}
-use Rattle.layout.proofs.BackLaws.{state-back}
+use Rattle.cells.proofs.BackLaws.{state-back}
 use Rattle.layout.proofs.EventLaws.{read-answer}
-use Rattle.layout.proofs.RangeLaws.{read-long, written-readable}
+use Rattle.cells.proofs.CellLaws.{shaped}
+use Rattle.cells.proofs.RangeLaws.{read-long, written-readable}
 
 -- the due time of a place that is not delayed is 0
 due-small : (x : Place) → ((d : ℕ) → x ≡ Delayed d → d < numberValues) → dueOf x < numberValues
@@ -57,20 +54,6 @@ due-small Ended f = omega arith
 module _ (m : Model) (s : sound m ≡ true) where
   sizes : Numbers m
   sizes = sound-is m s .numbers
-
-  pub shaped : Shaped (encode m)
-  unfolding encode
-  shaped =
-      record {
-        tasks = padded-length taskLimit (map taskFor (m .tasks)) blankTask (omega (arith, length-map (m .tasks) taskFor, sizes .count));
-        held =
-            flat-length heldWidth (padded taskLimit (map holding (m .tasks)) []) (held-short m s) ∙
-            ap (λ (n : ℕ). n * heldWidth) (held-count m s);
-        ceilings =
-            padded-length objectLimit (map priority (m .ceilings)) (priority 0)
-            (omega (arith, length-map (m .ceilings) priority, sizes .objects));
-        queues = flat-length queueWidth (m .ready) (queue-short m s) ∙ ap (λ (n : ℕ). n * queueWidth) (sizes .queues);
-      }
 
   record-at : (t : ℕ) → getD (padded taskLimit (map taskFor (m .tasks)) blankTask) t blankTask ≡ taskFor (taskAt m t)
   unfolding waitingFor
@@ -98,7 +81,7 @@ module _ (m : Model) (s : sound m ≡ true) where
   written-back b h =
       let after = bytesOfState (encode m) ++ drop stateSize b in
       ap stateOfBytes (cond-false (ltb (length b) stateSize) b after (le-ltb (length b) stateSize h)) ∙
-      state-back (encode m) (drop stateSize b) shaped fits
+      state-back (encode m) (drop stateSize b) (shaped m s) fits
 
   few : encode m .«task_count» ≤ taskLimit
   unfolding encode
@@ -109,7 +92,7 @@ module _ (m : Model) (s : sound m ≡ true) where
   written-read b h =
       let after = bytesOfState (encode m) ++ drop stateSize b in
       ap readable (cond-false (ltb (length b) stateSize) b after (le-ltb (length b) stateSize h)) ∙
-      written-readable (encode m) (drop stateSize b) shaped fits few
+      written-readable (encode m) (drop stateSize b) (shaped m s) fits few
 
 -- after a fresh start
 pub fresh-readable : (s : Setup) (b : List ℕ) → stateSize ≤ length b → readable (freshBytes s b) ≡ true

@@ -1,11 +1,5 @@
-pub mod ReadLaws
-pub mod PutLaws
-pub mod WriteLaws
-pub mod BackLaws
-pub mod RangeLaws
 pub mod EventLaws
 pub mod HistoryLaws
-pub mod CellLaws
 pub mod BoardLaws
 pub mod FilledLaws
 pub mod RowLaws

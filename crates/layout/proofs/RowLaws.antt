@@ -16,11 +16,11 @@ use Rattle.board.specs.declared.PlaceKind.{PlaceKind}
 use Rattle.board.specs.declared.PlaceKind.the-variants.{Running, Ready, Delayed, Suspended, Ended}
 use Rattle.board.specs.declared.Row.{Row}
 use Rattle.board.proofs.FillLaws.{rows-length}
-use Rattle.layout.specs.Decode.{stateOfBytes}
+use Rattle.cells.specs.Decode.{stateOfBytes}
 use Rattle.layout.specs.Boards.{rowSize, kindFrom, kindNumber, rowFrom, rowsFrom, rowCount, rowBytes, fillAnswer, filledBytes}
 use Rattle.layout.specs.Boards.{packedTold, nextNumber}
 use Rattle.words.proofs.TableLaws.{tabulate-of}
-use Rattle.layout.proofs.BackLaws.{byte-behind}
+use Rattle.cells.proofs.BackLaws.{byte-behind}
 use Rattle.layout.proofs.BoardLaws.{row-length, rows-size}
 
 kind-back : (k : PlaceKind) → kindFrom (kindNumber k) ≡ k

@@ -11,9 +11,9 @@ use Rattle.board.specs.Fill.{rowsOf, fillAnswerOf}
 use Rattle.board.specs.declared.PlaceKind.{PlaceKind}
 use Rattle.board.specs.declared.PlaceKind.the-variants.{Running, Ready, Delayed, Suspended, Ended}
 use Rattle.board.specs.declared.Row.{Row}
-use Rattle.layout.specs.Sizes.{nobodyCode, runningCode, readyCode, delayedCode, suspendedCode, endedCode}
+use Rattle.cells.specs.Sizes.{nobodyCode, runningCode, readyCode, delayedCode, suspendedCode, endedCode}
 use Rattle.words.specs.Words.{tabulate, byteAt}
-use Rattle.layout.specs.Decode.{stateOfBytes}
+use Rattle.cells.specs.Decode.{stateOfBytes}
 use Rattle.layout.specs.Events.{unlessUnreadable}
 
 abbrev pub rowSize : ℕ

@@ -14,10 +14,10 @@ use Rattle.dispatch.specs.Sound.{soundOf}
 use Rattle.rules.specs.Fresh.{Setup}
 use Rattle.dispatch.specs.Methods.{appliedOf, freshOf}
 use Rattle.dispatch.specs.declared.State.{State}
-use Rattle.layout.specs.Sizes.{nobodyCode, stateSize}
-use Rattle.layout.specs.Decode.{stateOfBytes}
-use Rattle.layout.specs.InRange.{readable}
-use Rattle.layout.specs.Encode.{withState}
+use Rattle.cells.specs.Sizes.{nobodyCode, stateSize}
+use Rattle.cells.specs.Decode.{stateOfBytes}
+use Rattle.cells.specs.InRange.{readable}
+use Rattle.cells.specs.Encode.{withState}
 
 -- too few bytes for a state answer 10
 abbrev pub unlessShort : List ℕ → ℕ → ℕ

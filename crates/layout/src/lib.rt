@@ -2,11 +2,9 @@
 // moved there by a fresh start and by events; and a board as bytes.
 
 mod boards;
-mod cells;
 mod decode;
 mod encode;
 mod events;
-mod ranges;
 mod sizes;
 
 pub use boards::fill;

@@ -8,7 +8,7 @@ use Rattle.rules.specs.Limits.{objectLimit}
 use Rattle.rules.specs.declared.Priority.{Priority}
 use Rattle.dispatch.specs.State.{priority}
 use Rattle.words.proofs.CopyLaws.{fill-more, fill-end}
-use Rattle.layout.specs.Sizes.{ceilingsStart}
+use Rattle.cells.specs.Sizes.{ceilingsStart}
 use Rattle.words.specs.Words.{byteAt, tabulate}
 use Rattle.words.proofs.TableLaws.{length-tabulate, tabulate-at}
 use borrow.Author.Needs.{needs}

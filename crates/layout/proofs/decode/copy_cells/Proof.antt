@@ -6,7 +6,7 @@ use native.Mathlib.Omega.{arith}
 use lib.ListN.{length}
 use Rattle.words.proofs.CopyLaws.{over, over-step, over-all}
 use Rattle.words.specs.Words.{byteAt, tabulate}
-use Rattle.layout.specs.Decode.{cellsFrom}
+use Rattle.cells.specs.Decode.{cellsFrom}
 use Rattle.words.proofs.TableLaws.{length-tabulate, tabulate-at}
 use borrow.Author.Needs.{needs}
 use Rattle.layout.proofs.decode.copy_cells.Statement.{statement}

@@ -1,5 +1,5 @@
 -- `layout::decode::read` meets its contract.
-use Rattle.layout.specs.Decode.{stateOfBytes}
+use Rattle.cells.specs.Decode.{stateOfBytes}
 use borrow.Author.Needs.{needs}
 use Rattle.layout.proofs.decode.read.Statement.{statement}
 use Rattle.layout.proofs.decode.read.Tie as tie

@@ -1,5 +1,5 @@
 -- `layout::decode::task_from` meets its contract.
-use Rattle.layout.specs.Decode.{taskFrom}
+use Rattle.cells.specs.Decode.{taskFrom}
 use borrow.Author.Needs.{needs}
 use Rattle.layout.proofs.decode.task_from.Statement.{statement}
 use Rattle.layout.proofs.decode.task_from.Tie as tie

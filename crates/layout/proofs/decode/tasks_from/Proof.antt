@@ -8,8 +8,8 @@ use mathlib.Core.List.{List}
 use Rattle.rules.specs.declared.Task.{Task}
 use Rattle.memory.specs.Tasks.{blankTask}
 use Rattle.words.proofs.CopyLaws.{fill-more, fill-end}
-use Rattle.layout.specs.Sizes.{tasksStart, taskSize}
-use Rattle.layout.specs.Decode.{taskFrom, tasksFrom}
+use Rattle.cells.specs.Sizes.{tasksStart, taskSize}
+use Rattle.cells.specs.Decode.{taskFrom, tasksFrom}
 use Rattle.words.proofs.TableLaws.{length-tabulate, tabulate-at}
 use borrow.Author.Needs.{needs}
 use Rattle.layout.proofs.decode.tasks_from.Statement.{statement}

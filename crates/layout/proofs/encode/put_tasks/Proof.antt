@@ -8,9 +8,9 @@ use lib.Seq.{sets}
 use Rattle.rules.specs.Limits.{taskLimit}
 use Rattle.memory.specs.Tasks.{blankTask}
 use Rattle.words.proofs.ListLaws.{getD-any}
-use Rattle.layout.specs.Sizes.{tasksStart, taskSize}
-use Rattle.layout.specs.Encode.{taskBytes}
-use Rattle.layout.proofs.PutLaws.{task-turn, tasks-end}
+use Rattle.cells.specs.Sizes.{tasksStart, taskSize}
+use Rattle.cells.specs.Encode.{taskBytes}
+use Rattle.cells.proofs.PutLaws.{task-turn, tasks-end}
 use borrow.Author.Needs.{needs}
 use Rattle.layout.proofs.encode.put_tasks.Statement.{statement}
 use Rattle.layout.proofs.encode.put_tasks.Tie as tie

@@ -2,7 +2,7 @@
 use mathlib.Core.Path.{refl}
 use native.Mathlib.Omega.{arith}
 use Rattle.dispatch.proofs.Known.{known}
-use Rattle.layout.proofs.WriteLaws.{head-is, state-put, state-kept}
+use Rattle.cells.proofs.WriteLaws.{head-is, state-put, state-kept}
 use borrow.Author.Needs.{needs}
 use Rattle.layout.proofs.encode.write.Statement.{statement}
 use Rattle.layout.proofs.encode.write.Tie as tie

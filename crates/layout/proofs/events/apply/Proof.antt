@@ -4,7 +4,7 @@ use native.Mathlib.Omega.{arith}
 use borrow.Author.Tests.{not-true, not-false}
 use Rattle.rules.specs.Answers.{reportNumber}
 use Rattle.layout.proofs.EventLaws.{unloadable, untested, event-unsound, loaded-tested, loaded-valid, moved-refused, moved-done}
-use Rattle.layout.proofs.CellLaws.{loadable-long}
+use Rattle.cells.proofs.CellLaws.{loadable-long}
 use borrow.Author.Needs.{needs}
 use Rattle.layout.proofs.events.apply.Statement.{statement}
 use Rattle.layout.proofs.events.apply.Tie as tie

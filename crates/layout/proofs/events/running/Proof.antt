@@ -2,7 +2,7 @@
 use mathlib.Core.Path.{_∙_, sym}
 use native.Mathlib.Omega.{arith}
 use borrow.Author.Tests.{not-true, not-false}
-use Rattle.layout.proofs.RangeLaws.{read-long}
+use Rattle.cells.proofs.RangeLaws.{read-long}
 use Rattle.layout.proofs.EventLaws.{running-unread, running-told}
 use borrow.Author.Needs.{needs}
 use Rattle.layout.proofs.events.running.Statement.{statement}

@@ -1,0 +1,6 @@
+pub mod ReadLaws
+pub mod PutLaws
+pub mod WriteLaws
+pub mod BackLaws
+pub mod RangeLaws
+pub mod CellLaws

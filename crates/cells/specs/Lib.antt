@@ -1,0 +1,4 @@
+pub mod Sizes
+pub mod Decode
+pub mod InRange
+pub mod Encode
