@@ -14,7 +14,7 @@ run:
 test:
 	.ci/run
 
-# Times the proved run against a plain Rust run of the same job.
+# Times and counts the proved code beside tuned plain Rust of the same job; instructions are counted where valgrind is installed.
 bench:
 	@rt staticlib exports >&2
 	cargo run --release --offline --manifest-path bench/Cargo.toml

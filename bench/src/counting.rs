@@ -1,0 +1,165 @@
+//! Instructions by callgrind: the bench runs itself under valgrind, and each count is of one call, without what is around it.
+//!
+//! callgrind sets its counts to 0 at each call of `bench_counted` and writes them to a file of its own at each return. The counts of
+//! an empty call are deducted from all others.
+
+use std::fs;
+use std::hint::black_box;
+use std::path::Path;
+use std::process::{Command, Stdio};
+
+use crate::cases::{case_of, REALISTIC, STEP_HEAVY};
+use crate::jobs::Job;
+
+const SEEDS: u64 = 8;
+const MANY: usize = 4096;
+const ON_BYTES: usize = 256;
+
+/// The argument that asks for the counted calls alone.
+pub const COUNTED: &str = "--counted";
+
+/// Instructions of the proved and of the plain code.
+#[derive(Clone, Copy)]
+pub struct Counts {
+    pub proved: u64,
+    pub plain: u64,
+}
+
+/// A call that callgrind knows by its name.
+#[no_mangle]
+#[inline(never)]
+pub fn bench_counted(call: &mut dyn FnMut()) {
+    call();
+}
+
+/// Calls each job twice by either code, once to have all in place and once counted; the parent reads the counts in this order.
+pub fn call_all(jobs: &[Job]) {
+    bench_counted(&mut || {});
+    for job in jobs {
+        let mut room = job.room();
+        job.proved(&mut room);
+        job.renew(&mut room);
+        bench_counted(&mut || {
+            black_box(job.proved(black_box(&mut room)));
+        });
+        job.renew(&mut room);
+        job.plain(&mut room);
+        job.renew(&mut room);
+        bench_counted(&mut || {
+            black_box(job.plain(black_box(&mut room)));
+        });
+    }
+}
+
+/// The instructions that a file of callgrind's names.
+fn total_in(file: &Path) -> Option<u64> {
+    let text = fs::read_to_string(file).ok()?;
+    let line = text.lines().find_map(|line| line.strip_prefix("totals: "));
+    line?.trim().parse().ok()
+}
+
+/// The counts of all jobs, or why there are none.
+pub fn counts_of(jobs: &[Job], argument: &str) -> Result<Vec<Counts>, String> {
+    let folder = std::env::temp_dir().join(format!("bench-counts-{}", std::process::id()));
+    fs::create_dir_all(&folder).map_err(|error| error.to_string())?;
+    let counted = counted_in(&folder, jobs.len(), argument);
+    fs::remove_dir_all(&folder).map_err(|error| error.to_string())?;
+    counted
+}
+
+fn counted_in(folder: &Path, jobs: usize, argument: &str) -> Result<Vec<Counts>, String> {
+    let own = std::env::current_exe().map_err(|error| error.to_string())?;
+    let status = Command::new("valgrind")
+        .args(["--tool=callgrind", "--quiet"])
+        .args(["--zero-before=bench_counted", "--dump-after=bench_counted"])
+        .arg(format!(
+            "--callgrind-out-file={}",
+            folder.join("out").display()
+        ))
+        .arg(own)
+        .args([COUNTED, argument])
+        .stderr(Stdio::null())
+        .status();
+    match status {
+        Err(error) => {
+            return Err(format!(
+                "valgrind is not installed or does not start: {error}"
+            ))
+        }
+        Ok(status) if !status.success() => return Err(format!("valgrind ended with {status}")),
+        Ok(_) => {}
+    }
+    let total = |i: usize| {
+        let file = folder.join(format!("out.{i}"));
+        total_in(&file).ok_or(format!("no counts in {}", file.display()))
+    };
+    let empty = total(1)?;
+    let calls = (0..jobs).map(|job| {
+        Ok(Counts {
+            proved: total(2 * job + 2)? - empty,
+            plain: total(2 * job + 3)? - empty,
+        })
+    });
+    calls.collect()
+}
+
+/// Jobs whose counts are added up.
+struct Group {
+    label: String,
+    jobs: Vec<Job>,
+}
+
+fn group(label: String, job_of: impl Fn(u64) -> Job) -> Group {
+    let jobs = (0..SEEDS).map(job_of).collect();
+    Group { label, jobs }
+}
+
+fn groups() -> Vec<Group> {
+    let mut all = Vec::new();
+    for tasks in [32, 8] {
+        for mix in [REALISTIC, STEP_HEAVY] {
+            let label = format!("a run, {}, {tasks} tasks, per event", mix.name);
+            all.push(group(label, |seed| {
+                Job::Run(case_of(seed, mix, tasks, MANY))
+            }));
+        }
+    }
+    all.push(group("the check, 32 tasks, per roster".into(), |seed| {
+        Job::Check(case_of(seed, REALISTIC, 32, 0).roster)
+    }));
+    for tasks in [32, 8] {
+        for mix in [REALISTIC, STEP_HEAVY] {
+            let label = format!("on bytes, {}, {tasks} tasks, per event", mix.name);
+            all.push(group(label, |seed| {
+                Job::history(&case_of(seed, mix, tasks, ON_BYTES))
+            }));
+        }
+    }
+    all
+}
+
+/// The jobs to be counted, in their order.
+pub fn jobs() -> Vec<Job> {
+    groups().into_iter().flat_map(|group| group.jobs).collect()
+}
+
+pub fn print() {
+    println!(
+        "\n{:<50} {:>9} {:>9} {:>6}",
+        "instructions, the mean of 8 seeds", "proved", "plain", "ratio"
+    );
+    let counts = match counts_of(&jobs(), "counts") {
+        Ok(counts) => counts,
+        Err(why) => return println!("not counted: {why}"),
+    };
+    for (group, counts) in groups().iter().zip(counts.chunks(SEEDS as usize)) {
+        let size: usize = group.jobs.iter().map(Job::size).sum();
+        let each = |of: fn(&Counts) -> u64| counts.iter().map(of).sum::<u64>() as f64 / size as f64;
+        let (proved, plain) = (each(|c| c.proved), each(|c| c.plain));
+        println!(
+            "{:<50} {proved:9.1} {plain:9.1} {:6.2}",
+            group.label,
+            proved / plain
+        );
+    }
+}

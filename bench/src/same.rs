@@ -1,0 +1,101 @@
+//! That the plain code does the same job as the proved code: on made rosters, events and states, good and bad ones.
+
+use dispatch::raw;
+use harness::calls;
+use harness::events::{self, room_for};
+use harness::layout::{bytes_of, STATE_SIZE};
+use harness::random::Random;
+use harness::report::{hex, save};
+use harness::rosters::{passing, plant};
+use harness::states::{self, event_of, sound_state};
+use second::machine::apply_to;
+
+use crate::{plain, plain_state};
+
+const RUNS: u64 = 3_000;
+const STATES: u64 = 3_000;
+
+/// A made roster, in one of three with a planted fault or a changed byte.
+fn roster_of(random: &mut Random) -> Vec<u8> {
+    let mut plan = passing(random);
+    match random.below(6) {
+        0 => {
+            let number = random.within(15, 20) as u8;
+            plant(random, &mut plan, number);
+        }
+        1 => {
+            let mut bytes = plan.bytes();
+            let at = random.below(bytes.len());
+            bytes[at] = random.byte();
+            return bytes;
+        }
+        _ => {}
+    }
+    plan.bytes()
+}
+
+fn assert_run(seed: u64) {
+    let mut random = Random::new(seed);
+    let roster = roster_of(&mut random);
+    let events = events::events_of(&mut random);
+    let room = room_for(&events) + 2 - random.below(4).min(room_for(&events) + 2);
+    let (mut proved, mut other) = (vec![0xA5; room], vec![0xA5; room]);
+    let answers = (
+        raw::run(&roster, &events, &mut proved),
+        plain::run(&roster, &events, &mut other),
+    );
+    let input = || format!("seed {seed}, {}", save("bench-run", seed, &roster, &events));
+    assert_eq!(answers.0, answers.1, "answer of the run, {}", input());
+    assert!(proved == other, "replies, {}", input());
+    assert_eq!(
+        raw::check(&roster),
+        plain::check(&roster),
+        "check, {}",
+        input()
+    );
+}
+
+/// Bytes that may be anything: in unread places of a sound state, or anywhere.
+fn spoil(random: &mut Random, bytes: &mut [u8]) {
+    for _ in 0..random.within(1, 40) {
+        let at = random.below(STATE_SIZE);
+        bytes[at] = random.byte();
+    }
+}
+
+/// A history of events on bytes, some of them from a spoilt state, which may be sound all the same.
+fn assert_history(seed: u64) {
+    let mut random = Random::new(seed);
+    let mut state = sound_state(&mut random);
+    if random.once_in(4) {
+        states::plant(&mut random, &mut state);
+    }
+    let mut bytes = bytes_of(&state);
+    if random.once_in(2) {
+        spoil(&mut random, &mut bytes);
+    }
+    for _ in 0..random.within(1, 40) {
+        let event = event_of(&mut random, &state);
+        let (mut proved, mut other) = (bytes.clone(), bytes.clone());
+        let outcome = calls::event(&mut proved, event);
+        let found = plain_state::event(&mut other, event);
+        let input = || format!("seed {seed}, {event:?}, state {}", hex(&bytes));
+        assert_eq!((outcome.answer, outcome.report), found, "{}", input());
+        assert!(proved == other, "bytes after, {}", input());
+        if outcome.answer == 10 {
+            return;
+        }
+        apply_to(&mut state, event);
+        bytes = proved;
+    }
+}
+
+pub fn assert_all() {
+    (0..RUNS).for_each(assert_run);
+    (0..STATES).for_each(assert_history);
+    let short = &mut [0; STATE_SIZE - 1];
+    assert_eq!(
+        plain_state::event(short, second::machine::Event::Work),
+        (10, 0)
+    );
+}
