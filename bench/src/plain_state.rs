@@ -49,10 +49,9 @@ fn good(priority: u8) -> bool {
     priority.wrapping_sub(1) < 32
 }
 
-/// What the test of the tasks finds: who is running or ready, a bit for each, and the active priorities.
+/// What the test of the tasks finds: who is in each kind of place, a bit for each task, and the active priorities.
 struct Found {
-    running: u32,
-    ready: u32,
+    places: [u32; 8],
     active: [u8; MOST_TASKS],
 }
 
@@ -71,68 +70,74 @@ fn raised(held: &[u8], base: u8, ceilings: &[u8]) -> u8 {
     level
 }
 
-/// The task rows and held lists; a fault is or-ed in, so that the common way has few jumps.
+/// A task row's last 8 bytes as one number: kind, base, whether a base waits, which, permit.
+const ONE_BASE: u64 = 0x0100;
+const WAITS: u64 = 0x01_0000;
+/// What is added to them, the base less one, so that a byte's highest bit is on where it is more than 4, 31, 1 and 1.
+const TO_TOO_MUCH: u64 = 0x007E_007E_607B;
+const TOO_MUCH: u64 = 0x0080_0080_8080;
+
+/// The task rows and held lists. Faults are or-ed together, so that the common way has few jumps.
 fn test_tasks(bytes: &Bytes, tasks: usize, ceilings: &[u8]) -> Option<Found> {
     let now = long(bytes, 0);
     let mut found = Found {
-        running: 0,
-        ready: 0,
+        places: [0; 8],
         active: [0; MOST_TASKS],
     };
-    let mut bad = false;
+    let (mut faults, mut bad, mut bit) = (0, false, 1);
     let rows = bytes[TASKS..CEILINGS].chunks_exact(TASK_ROW);
     let lists = bytes[HELD..READY].chunks_exact(HELD_ROW);
-    for (t, (row, list)) in rows.zip(lists).enumerate().take(tasks) {
-        let (kind, base, waits, permit) = (row[8], row[9], row[10], row[12]);
-        let depth = list[0] as usize;
-        bad |= (kind > IS_ENDED) | !good(base) | (waits > 1) | (permit > 1);
-        bad |= (waits == 1) & (!good(row[11]) | (depth == 0));
+    let actives = found.active.iter_mut();
+    for ((row, list), active) in rows.zip(lists).zip(actives).take(tasks) {
+        let word = u64::from_le_bytes(row[8..].try_into().unwrap());
+        let less = word.wrapping_sub(ONE_BASE);
+        faults |= less | less.wrapping_add(TO_TOO_MUCH);
+        let (kind, base, depth) = (word as u8, row[9], list[0] as usize);
         if kind == IS_DELAYED {
             let due = u64::from_le_bytes(row[..8].try_into().unwrap());
             bad |= due.wrapping_sub(now).wrapping_sub(1) >= LONGEST_DELAY;
         }
-        let mut active = base;
-        if depth > 0 {
-            bad |= kind > IS_READY;
-            active = raised(list.get(1..=depth)?, base, ceilings);
-            bad |= active == 0;
+        if word & WAITS != 0 {
+            bad |= !good(row[11]) | (depth == 0);
         }
-        found.active[t] = active;
-        found.running |= ((kind == IS_RUNNING) as u32) << t;
-        found.ready |= ((kind == IS_READY) as u32) << t;
+        *active = base;
+        if depth > 0 {
+            *active = raised(list.get(1..=depth)?, base, ceilings);
+            bad |= (kind > IS_READY) | (*active == 0);
+        }
+        found.places[kind as usize % 8] |= bit;
+        bit <<= 1;
     }
-    (!bad).then_some(found)
+    (!bad && faults & TOO_MUCH == 0).then_some(found)
 }
 
 /// Whether the ready queues hold exactly the ready tasks, each in the queue for its active priority, and the marks say which are not
-/// empty.
+/// empty. As many are queued as are ready, so none twice.
 fn test_queues(bytes: &Bytes, found: &Found) -> bool {
     let marks = marks_in(bytes);
     let mut filled = 0;
     for (q, row) in bytes[READY..].chunks_exact(READY_ROW).enumerate() {
         filled |= ((row[0] != 0) as u32) << q;
     }
-    if filled != marks {
-        return false;
-    }
-    let (mut queued, mut bad, mut left) = (0, 0, marks);
+    let ready = found.places[IS_READY as usize];
+    let (mut queued, mut count, mut bad, mut left) = (0u32, 0, filled ^ marks, filled);
     while left != 0 {
-        let q = left.trailing_zeros() as usize;
+        let q = left.trailing_zeros();
         left &= left - 1;
-        let row = &bytes[READY + READY_ROW * q..][..READY_ROW];
+        let row = &bytes[READY + READY_ROW * q as usize..][..READY_ROW];
         let Some(list) = row.get(1..=row[0] as usize) else {
             return false;
         };
+        count += list.len() as u32;
         for &t in list {
             let Some(&active) = found.active.get(t as usize) else {
                 return false;
             };
-            let bit = 1 << t;
-            bad |= queued & bit | (active as usize ^ (q + 1)) as u32;
-            queued |= bit;
+            bad |= active as u32 ^ (q + 1);
+            queued |= 1 << t;
         }
     }
-    bad == 0 && queued == found.ready
+    bad == 0 && queued == ready && count == ready.count_ones()
 }
 
 /// The active priorities of a sound state's tasks.
@@ -150,44 +155,57 @@ fn sound(bytes: &Bytes) -> Option<[u8; MOST_TASKS]> {
         return None;
     }
     let highest = 32 - marks_in(bytes).leading_zeros();
+    let running = found.places[IS_RUNNING as usize];
     let fits = match bytes[RUNNING] {
-        NOBODY => found.running == 0 && highest == 0,
+        NOBODY => running == 0 && highest == 0,
         t => {
             let active = *found.active.get(t as usize)? as u32;
-            found.running == 1 << t && active >= highest
+            running == 1 << t && active >= highest
         }
     };
     fits.then_some(found.active)
 }
 
+/// For each length of a list, which of its row's cells it fills.
+const FILLED: [[u8; MOST_TASKS]; MOST_TASKS + 1] = {
+    let mut masks = [[0; MOST_TASKS]; MOST_TASKS + 1];
+    let mut cell = 0;
+    while cell < MOST_TASKS * MOST_TASKS {
+        let (length, place) = (cell / MOST_TASKS + 1, cell % MOST_TASKS);
+        masks[length][place] = if place < length { 0xFF } else { 0 };
+        cell += 1;
+    }
+    masks
+};
+
 /// Writes 0 over the cells behind each row's list.
 fn tidy_lists<const CELLS: usize>(lists: &mut [u8]) {
     for row in lists.chunks_exact_mut(CELLS + 1) {
-        let length = row[0];
+        let filled = &FILLED[row[0] as usize];
         let cells: &mut [u8; CELLS] = row.last_chunk_mut().unwrap();
-        for (place, cell) in (0u8..).zip(cells) {
-            *cell = if place < length { *cell } else { 0 };
+        for (cell, mask) in cells.iter_mut().zip(filled) {
+            *cell &= mask;
         }
     }
 }
+
+/// A task row's last 8 bytes that are read, without and with a base that waits.
+const READ: [u64; 2] = [0x00FF_00FF_FFFF, 0x00FF_FFFF_FFFF];
 
 /// Writes 0 over all that is not read, and an ended task in every row behind the count.
 fn tidy(bytes: &mut Bytes) {
     let (tasks, objects) = (bytes[TASK_COUNT] as usize, bytes[OBJECT_COUNT] as usize);
     bytes[11] = 0;
-    for (t, row) in bytes[TASKS..CEILINGS]
-        .chunks_exact_mut(TASK_ROW)
-        .enumerate()
-    {
-        if t >= tasks {
-            row.fill(0);
-            row[8] = IS_ENDED;
-        }
-        if row[8] != IS_DELAYED {
-            row[..8].fill(0);
-        }
-        row[11] *= row[10];
-        row[13..].fill(0);
+    let (rows, _) = bytes[TASKS..CEILINGS].as_chunks_mut::<8>();
+    let (listed, others) = rows.split_at_mut(2 * tasks);
+    for row in listed.chunks_exact_mut(2) {
+        let word = u64::from_le_bytes(row[1]);
+        let keep = (word as u8 == IS_DELAYED) as u64;
+        row[0] = (u64::from_le_bytes(row[0]) * keep).to_le_bytes();
+        row[1] = (word & READ[(word & WAITS != 0) as usize]).to_le_bytes();
+    }
+    for row in others.chunks_exact_mut(2) {
+        row.copy_from_slice(&[[0; 8], (IS_ENDED as u64).to_le_bytes()]);
     }
     bytes[CEILINGS + objects..HELD].fill(0);
     bytes[HELD + HELD_ROW * tasks..READY].fill(0);
