@@ -13,6 +13,9 @@ const REPLY: usize = 3;
 /// A delayed task's due time is multiplied by this, its number added: the order in which they wake.
 const KEY: u64 = MOST_TASKS as u64;
 
+/// The most frequent step, which is tested before the others.
+const WORK: u32 = 4;
+
 /// The record of a Step, which has no unused field but 0.
 const STEP: u64 = 3;
 
@@ -156,7 +159,8 @@ fn script_is_good(
     let mut outer = [NONE; MOST_OBJECTS];
     let (mut innermost, mut held) = (NONE, 0u32);
     let (mut highest, mut lowest) = (base as u32, 32);
-    for (k, step) in script.iter().enumerate() {
+    let mut steps = script.iter();
+    while let Some(step) = steps.next() {
         let s = u32::from_le_bytes(*step);
         // a wrong code is moved into the highest bits, where no operand is
         let operands = |code: u32| (s ^ code).rotate_right(8);
@@ -192,7 +196,7 @@ fn script_is_good(
                 highest = highest.max(s >> 16);
                 s & 0xFFFF == own_set && s >> 16 != 0
             }
-            _ => s == 8 && innermost.leave == 0 && k + 1 == script.len(),
+            _ => s == 8 && innermost.leave == 0 && steps.as_slice().is_empty(),
         };
         if !good {
             return false;
@@ -281,8 +285,10 @@ enum Place {
     Ended,
 }
 
-/// A ready queue as a ring: the cells from `first` to before `end`, both counted on and on and taken modulo the size.
+/// A ready queue as a ring: the cells from `first` to before `end`, both counted on and on and taken modulo the size. Each has a
+/// cache line of its own.
 #[derive(Clone, Copy)]
+#[repr(align(64))]
 struct Queue {
     first: u8,
     end: u8,
@@ -579,6 +585,9 @@ impl Machine {
         }
         let s = u32::from_le_bytes(steps[at as usize]);
         self.at[t] = at + 1;
+        if s == WORK {
+            return 0;
+        }
         let object = || s as usize / 256 % MOST_OBJECTS;
         let value = || s as u64 / 65536;
         match s % 8 {

@@ -146,8 +146,10 @@ fn sound(bytes: &Bytes) -> Option<[u8; MOST_TASKS]> {
     if long(bytes, 0) > LARGEST_READING || tasks.wrapping_sub(1) >= MOST_TASKS {
         return None;
     }
-    let ceilings = bytes[CEILINGS..HELD].get(..objects)?;
-    if ceilings.iter().any(|ceiling| !good(*ceiling)) {
+    let all: &[u8; MOST_OBJECTS] = bytes[CEILINGS..HELD].try_into().unwrap();
+    let wrong = |(o, ceiling): (usize, &u8)| (o < objects) & !good(*ceiling);
+    let ceilings = all.get(..objects)?;
+    if all.iter().enumerate().fold(false, |bad, c| bad | wrong(c)) {
         return None;
     }
     let found = test_tasks(bytes, tasks, ceilings)?;
