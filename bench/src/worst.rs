@@ -6,7 +6,8 @@
 
 use harness::layout::bytes_of;
 use harness::rosters::{
-    step, Plan, Step, DELAY, ENTER, LEAVE, MOST_OBJECTS, MOST_TASKS, RELEASE, SET, SUSPEND, WORK,
+    step, Plan, Step, AGAIN, DELAY, ENTER, LEAVE, MOST_OBJECTS, MOST_TASKS, RELEASE, SET, SUSPEND,
+    WORK,
 };
 use second::machine::Event;
 use second::roster;
@@ -90,17 +91,49 @@ type Bases = fn(usize) -> u8;
 
 const SPLITS: [usize; 5] = [0, 8, 16, 24, 31];
 
+/// Where the other tasks are put before the last event.
+struct Placing {
+    name: String,
+    commands: Vec<Command>,
+}
+
+/// The others in two queues, so many of them in the first.
+fn split(count: usize, first: u8, rest: u8) -> Placing {
+    Placing {
+        name: format!(
+            "{count} in queue {first}, {} in {rest}",
+            OTHERS.len() - count
+        ),
+        commands: placed(count, first as u64, rest as u64),
+    }
+}
+
+/// The others in all queues up to a highest one.
+fn spread(highest: u8) -> Placing {
+    let priority = |t: usize| t.min(highest as usize) as u64;
+    Placing {
+        name: format!("spread over the queues up to {highest}"),
+        commands: OTHERS.map(|t| Command::Set(t, priority(t))).collect(),
+    }
+}
+
+/// In one queue or two, none above the base of task 0; and, where that task is inside, in all queues.
+fn placings(inside: bool) -> Vec<Placing> {
+    let mut all: Vec<Placing> = SPLITS.map(|count| split(count, BASE, BASE - 1)).into();
+    all.extend(inside.then(|| spread(32)));
+    all
+}
+
 fn enters() -> Vec<Scenario> {
     let mut all = Vec::new();
     for (ceilings, how) in [(highest_ceilings(), "equal"), (rising_ceilings(), "rising")] {
         for depth in [0, 1, 8, 15] {
-            for count in SPLITS {
-                let plan = plan_with(nested(MOST_OBJECTS, &[]), ceilings.clone());
+            for placing in placings(depth > 0 && how == "equal") {
                 let mut before = steps(depth);
-                before.extend(placed(count, BASE as u64, BASE as u64 - 1));
+                before.extend(placing.commands);
                 all.push(Scenario {
-                    name: format!("depth {depth}, {how} ceilings, {count} in one queue"),
-                    plan,
+                    name: format!("depth {depth}, {how} ceilings, {}", placing.name),
+                    plan: plan_with(nested(MOST_OBJECTS, &[]), ceilings.clone()),
                     before,
                     last: Command::Step,
                 });
@@ -116,7 +149,7 @@ fn enters() -> Vec<Scenario> {
     all
 }
 
-/// The active priority falls to `low`; `count` others stand there and the rest just above. A base may wait.
+/// The active priority falls to `low`: others stand there and just above, or one in each queue. A base may wait.
 fn leaves() -> Vec<Scenario> {
     let mut all = Vec::new();
     for (ceilings, how) in [(highest_ceilings(), "equal"), (rising_ceilings(), "rising")] {
@@ -126,23 +159,28 @@ fn leaves() -> Vec<Scenario> {
                 _ => ceilings[depth - 2],
             };
             let high = ceilings[depth - 1].min(low + 1);
-            for count in SPLITS {
-                for waiting in [None, Some(low), Some(1)] {
-                    let plan = plan_with(nested(depth, &[]), ceilings.clone());
-                    let mut before = steps(depth);
-                    before.extend(placed(count, low as u64, high as u64));
-                    before.extend(waiting.map(|p| Command::Set(0, p as u64)));
-                    all.push(Scenario {
-                        name: format!("depth {depth}, {how} ceilings, {count} and {} in two queues, waiting {waiting:?}", 31 - count),
-                        plan,
-                        before,
-                        last: Command::Step,
-                    });
-                }
+            let mut placings: Vec<Placing> = SPLITS.map(|count| split(count, low, high)).into();
+            placings.push(spread(high));
+            for (placing, waiting) in pairs(&placings, [None, Some(low), Some(1)]) {
+                let mut before = steps(depth);
+                before.extend(&placing.commands);
+                before.extend(waiting.map(|p| Command::Set(0, p as u64)));
+                let place = &placing.name;
+                all.push(Scenario {
+                    name: format!("depth {depth}, {how} ceilings, {place}, waiting {waiting:?}"),
+                    plan: plan_with(nested(depth, &[]), ceilings.clone()),
+                    before,
+                    last: Command::Step,
+                });
             }
         }
     }
     all
+}
+
+fn pairs<A, B: Copy, const N: usize>(all: &[A], with: [B; N]) -> Vec<(&A, B)> {
+    let each = |one| with.map(|other| (one, other));
+    all.iter().flat_map(each).collect()
 }
 
 /// Tasks delay one after the other, each by its own time; the one after `away` of them is the last event.
@@ -270,6 +308,27 @@ fn clocks() -> Vec<Scenario> {
     all
 }
 
+/// Task 0 runs and the last of the others stand in its queue; the first ones, of a higher base, are due at one reading.
+fn preempting_clocks() -> Vec<Scenario> {
+    let mut all = Vec::new();
+    for count in [1, 8, 16, 24, 30] {
+        for base in [BASE + 1, 32] {
+            let mut plan = plan_with(vec![step(WORK, 0, 0)], Vec::new());
+            for t in 1..=count {
+                plan.bases[t] = base;
+                plan.scripts[t] = vec![step(DELAY, 0, 200 - t as u16)];
+            }
+            all.push(Scenario {
+                name: format!("{count} of base {base} due, the others in the queue"),
+                plan,
+                before: steps(count),
+                last: Command::Clock(200),
+            });
+        }
+    }
+    all
+}
+
 /// Task 0 runs, perhaps inside; the others stand in two queues. One task is set from outside, or task 0 sets itself.
 fn sets() -> Vec<Scenario> {
     let mut all = Vec::new();
@@ -303,18 +362,77 @@ fn sets() -> Vec<Scenario> {
     all
 }
 
+/// Work, at several depths and with the others in one queue, two or many; and Again, which has no effect on the state either.
 fn works() -> Vec<Scenario> {
     let mut all = Vec::new();
     for depth in [0, 1, 16] {
-        for count in SPLITS {
+        for placing in placings(depth > 0) {
             let plan = plan_with(nested(depth, &[step(WORK, 0, 0)]), highest_ceilings());
             let mut before = steps(depth);
-            before.extend(placed(count, BASE as u64, BASE as u64 - 1));
+            before.extend(placing.commands);
             all.push(Scenario {
-                name: format!("depth {depth}, {count} in one queue"),
+                name: format!("depth {depth}, {}", placing.name),
                 plan,
                 before,
                 last: Command::Step,
+            });
+        }
+    }
+    all.push(Scenario {
+        name: "again".into(),
+        plan: plan_with(vec![step(AGAIN, 0, 0)], Vec::new()),
+        before: Vec::new(),
+        last: Command::Step,
+    });
+    all
+}
+
+/// How the last event of a crowded state is given: a step of task 0, behind as many others of its own, or an event from outside.
+fn crowded_ends() -> Vec<(Vec<Step>, Command)> {
+    let own = |last: Step| (vec![last], Command::Step);
+    let from_outside = |event| (Vec::new(), event);
+    let mut all = vec![
+        (Vec::new(), Command::Step),
+        (vec![step(ENTER, 15, 0), step(LEAVE, 15, 0)], Command::Step),
+    ];
+    all.extend([0, 1, 150, 65_535].map(|d| own(step(DELAY, 0, d))));
+    all.extend([2, 31].map(|t| own(step(RELEASE, t, 0))));
+    all.extend([1, 31, 32].map(|p| own(step(SET, 0, p))));
+    all.extend([own(step(SUSPEND, 0, 0)), own(step(WORK, 0, 0))]);
+    all.extend([50, 100, 65_000].map(|r| from_outside(Command::Clock(r))));
+    all.extend([2, 31].map(|t| from_outside(Command::Release(t))));
+    for p in [1, 31, 32] {
+        all.extend([0, 1, 31].map(|t| from_outside(Command::Set(t, p))));
+    }
+    all
+}
+
+/// Task 1 is inside all objects but one, and task 0, above all, has taken the processor from it; `away` tasks are delayed or suspended,
+/// and the rest are spread over the queues.
+fn crowded() -> Vec<Scenario> {
+    let aways = [step(DELAY, 0, 100), step(SUSPEND, 0, 0)];
+    let mut all = Vec::new();
+    for (&away, rest) in pairs(&[0, 1, 15, 29], aways) {
+        for (own, last) in crowded_ends() {
+            let mut ceilings = vec![31; MOST_OBJECTS];
+            ceilings[15] = 32;
+            let mut plan = plan_with([vec![step(SUSPEND, 0, 0)], own.clone()].concat(), ceilings);
+            plan.bases = vec![1; MOST_TASKS];
+            plan.bases[0] = 32;
+            plan.scripts[1] = nested(15, &[]);
+            for t in 2..2 + away {
+                plan.bases[t] = 30;
+                plan.scripts[t] = vec![rest];
+            }
+            let mut before = steps(1 + away + 15);
+            before.extend((2 + away..MOST_TASKS).map(|t| Command::Set(t, t as u64)));
+            before.push(Command::Release(0));
+            before.extend(steps(own.len().saturating_sub(1)));
+            all.push(Scenario {
+                name: format!("15 objects held, {away} away by {rest:?}, {own:?}, {last:?}"),
+                plan,
+                before,
+                last,
             });
         }
     }
@@ -399,8 +517,10 @@ fn all() -> Vec<Counted> {
         suspends_and_finishes,
         releases,
         clocks,
+        preempting_clocks,
         sets,
         works,
+        crowded,
     ];
     families
         .iter()
