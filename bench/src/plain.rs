@@ -132,77 +132,74 @@ fn script_fault(script: &[u8], t: usize, base: u8, ceilings: &[u8]) -> Option<(u
     (depth > 0).then_some((17, script.len() / 4))
 }
 
-/// The innermost object held: the step that leaves it, 0 for none, and its ceiling.
-#[derive(Clone, Copy)]
-struct Innermost {
-    leave: u32,
-    ceiling: u8,
+/// What a script holds while it is walked through. The innermost object is kept as the step that leaves it, with its ceiling above
+/// that, and 0 for none; an object that is held keeps what was innermost before it.
+struct Holding<'a> {
+    ceilings: &'a [[u8; 2]],
+    innermost: u64,
+    outer: [u64; MOST_OBJECTS],
+    lowest: u8,
 }
 
-const NONE: Innermost = Innermost {
-    leave: 0,
-    ceiling: 0,
-};
+/// For an object that is not held.
+const FREE: u64 = u64::MAX;
 
-/// Whether the script of task `t` breaks no rule of 16 to 20, in one pass; where it does, `first_fault` finds the place.
-///
-/// Each step is compared as one word, operands and all. An Enter keeps what was innermost in the object's place. No ceiling entered
-/// may be below the base and own Set values, wherever these come, so the lowest one and the highest one are compared at the end.
-fn script_is_good(
-    script: &[[u8; 4]],
-    t: usize,
-    base: u8,
-    tasks: u32,
-    ceilings: &[[u8; 2]],
-) -> bool {
-    let own_set = 7 | (t as u32) << 8;
-    let mut outer = [NONE; MOST_OBJECTS];
-    let (mut innermost, mut held) = (NONE, 0u32);
-    let (mut highest, mut lowest) = (base as u32, 32);
-    let mut steps = script.iter();
-    while let Some(step) = steps.next() {
-        let s = u32::from_le_bytes(*step);
-        // a wrong code is moved into the highest bits, where no operand is
-        let operands = |code: u32| (s ^ code).rotate_right(8);
-        let good = match s % 8 {
-            1 => {
-                let o = operands(1) as usize;
-                let Some(&[ceiling, _]) = ceilings.get(o) else {
-                    return false;
-                };
-                let new = held & 1 << (o % MOST_OBJECTS) == 0;
-                held |= 1 << (o % MOST_OBJECTS);
-                lowest = lowest.min(ceiling);
-                outer[o % MOST_OBJECTS] = innermost;
-                let rises = ceiling >= innermost.ceiling;
-                innermost = Innermost {
-                    leave: s ^ 3,
-                    ceiling,
-                };
-                new & rises
-            }
-            2 => {
-                let o = (s >> 8) as usize % MOST_OBJECTS;
-                let same = s == innermost.leave;
-                held &= !(1 << o);
-                innermost = outer[o];
-                same
-            }
-            3 => s as u16 == 3 && innermost.leave == 0,
-            4 => s == 4,
-            5 => s == 5 && innermost.leave == 0,
-            6 => operands(6) < tasks,
-            7 => {
-                highest = highest.max(s >> 16);
-                s & 0xFFFF == own_set && s >> 16 != 0
-            }
-            _ => s == 8 && innermost.leave == 0 && steps.as_slice().is_empty(),
-        };
-        if !good {
+/// The operands of a step that should have this code: a wrong code is moved into the highest bits, where no operand is.
+fn operands(s: u32, code: u32) -> u32 {
+    (s ^ code).rotate_right(8)
+}
+
+impl Holding<'_> {
+    fn enter(&mut self, s: u32) -> bool {
+        let o = operands(s, 1) as usize;
+        let Some(&[ceiling, _]) = self.ceilings.get(o) else {
             return false;
-        }
+        };
+        let outer = &mut self.outer[o % MOST_OBJECTS];
+        let good = *outer == FREE && ceiling as u64 >= self.innermost >> 32;
+        *outer = self.innermost;
+        self.innermost = (ceiling as u64) << 32 | (s ^ 3) as u64;
+        self.lowest = self.lowest.min(ceiling);
+        good
     }
-    innermost.leave == 0 && highest <= lowest as u32
+
+    fn leave(&mut self, s: u32) -> bool {
+        let good = s == self.innermost as u32;
+        let outer = &mut self.outer[(s >> 8) as usize % MOST_OBJECTS];
+        self.innermost = *outer;
+        *outer = FREE;
+        good
+    }
+
+    /// Whether a script breaks no rule of 16 to 20, in one pass; where it does, `first_fault` finds the place.
+    ///
+    /// Each step is compared as one word, operands and all. No ceiling entered may be below the base and the own Set values, wherever
+    /// these come, so the highest of these and the lowest ceiling are compared at the end.
+    fn walks(&mut self, script: &[[u8; 4]], own_set: u32, base: u8, tasks: u32) -> bool {
+        self.lowest = 32;
+        let mut highest = base as u32;
+        let mut steps = script.iter();
+        while let Some(step) = steps.next() {
+            let s = u32::from_le_bytes(*step);
+            let good = match s % 8 {
+                1 => self.enter(s),
+                2 => self.leave(s),
+                3 => s as u16 == 3 && self.innermost == 0,
+                4 => s == 4,
+                5 => s == 5 && self.innermost == 0,
+                6 => operands(s, 6) < tasks,
+                7 => {
+                    highest = highest.max(s >> 16);
+                    s & 0xFFFF == own_set && s >> 16 != 0
+                }
+                _ => s == 8 && self.innermost == 0 && steps.as_slice().is_empty(),
+            };
+            if !good {
+                return false;
+            }
+        }
+        self.innermost == 0 && highest <= self.lowest as u32
+    }
 }
 
 /// The refusal of a roster with a script that is not good.
@@ -234,13 +231,18 @@ fn checked(roster: &[u8]) -> Result<Shape, Answer> {
     let shape = shape_of(roster).map_err(|number| (number, 0, 0))?;
     let (steps, _) = roster[..shape.task_table].as_chunks();
     let (ceilings, _) = roster[shape.object_table..roster.len() - TRAILER].as_chunks();
+    let mut holding = Holding {
+        ceilings,
+        innermost: 0,
+        outer: [FREE; MOST_OBJECTS],
+        lowest: 32,
+    };
     let mut start = 0;
-    for (t, row) in roster[shape.task_table..shape.object_table]
-        .chunks_exact(6)
-        .enumerate()
-    {
+    let rows = roster[shape.task_table..shape.object_table].chunks_exact(6);
+    for (t, row) in rows.enumerate() {
         let end = start + word(row, 4) / 4;
-        if !script_is_good(&steps[start..end], t, row[0], shape.tasks as u32, ceilings) {
+        let own_set = 7 | (t as u32) << 8;
+        if !holding.walks(&steps[start..end], own_set, row[0], shape.tasks as u32) {
             return Err(first_fault(roster, &shape));
         }
         start = end;
