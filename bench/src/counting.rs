@@ -144,15 +144,24 @@ pub fn jobs() -> Vec<Job> {
 }
 
 pub fn print() {
+    let groups = groups();
+    for group in &groups {
+        for (seed, job) in group.jobs.iter().enumerate() {
+            job.same(&format!("{}, seed {seed}", group.label));
+        }
+    }
     println!(
         "\n{:<50} {:>9} {:>9} {:>6}",
-        "instructions, the mean of 8 seeds", "proved", "plain", "ratio"
+        format!("instructions, the mean of {SEEDS} seeds"),
+        "proved",
+        "plain",
+        "ratio"
     );
     let counts = match counts_of(&jobs(), "counts") {
         Ok(counts) => counts,
         Err(why) => return println!("not counted: {why}"),
     };
-    for (group, counts) in groups().iter().zip(counts.chunks(SEEDS as usize)) {
+    for (group, counts) in groups.iter().zip(counts.chunks(SEEDS as usize)) {
         let size: usize = group.jobs.iter().map(Job::size).sum();
         let each = |of: fn(&Counts) -> u64| counts.iter().map(of).sum::<u64>() as f64 / size as f64;
         let (proved, plain) = (each(|c| c.proved), each(|c| c.plain));

@@ -57,7 +57,7 @@ fn assert_run(seed: u64) {
 
 /// Bytes that may be anything: in unread places of a sound state, or anywhere.
 fn spoil(random: &mut Random, bytes: &mut [u8]) {
-    for _ in 0..random.within(1, 40) {
+    for _ in 0..random.pick(&[1, 2, 4, 40]) {
         let at = random.below(STATE_SIZE);
         bytes[at] = random.byte();
     }

@@ -410,9 +410,12 @@ fn crowded_ends() -> Vec<(Vec<Step>, Command)> {
 /// Task 1 is inside all objects but one, and task 0, above all, has taken the processor from it; `away` tasks are delayed or suspended,
 /// and the rest are spread over the queues.
 fn crowded() -> Vec<Scenario> {
-    let aways = [step(DELAY, 0, 100), step(SUSPEND, 0, 0)];
+    let aways = [
+        ("delayed", step(DELAY, 0, 100)),
+        ("suspended", step(SUSPEND, 0, 0)),
+    ];
     let mut all = Vec::new();
-    for (&away, rest) in pairs(&[0, 1, 15, 29], aways) {
+    for (&away, (how, rest)) in pairs(&[0, 1, 15, 29], aways) {
         for (own, last) in crowded_ends() {
             let mut ceilings = vec![31; MOST_OBJECTS];
             ceilings[15] = 32;
@@ -429,7 +432,7 @@ fn crowded() -> Vec<Scenario> {
             before.push(Command::Release(0));
             before.extend(steps(own.len().saturating_sub(1)));
             all.push(Scenario {
-                name: format!("15 objects held, {away} away by {rest:?}, {own:?}, {last:?}"),
+                name: format!("another holds 15 objects, {away} {how}, the rest in all queues"),
                 plan,
                 before,
                 last,
@@ -504,7 +507,7 @@ fn counted(scenario: &Scenario) -> Counted {
     jobs.extend(loaded_jobs(&state, event));
     Counted {
         kind: kind_of(event),
-        name: scenario.name.clone(),
+        name: format!("{event:?}, {}", scenario.name),
         jobs,
     }
 }
