@@ -14,8 +14,9 @@ const MANY: usize = 4096;
 /// Fewer events on bytes fill a batch, since each tests the whole state.
 const ON_BYTES: usize = 256;
 const SEEDS: u64 = 8;
-const BATCHES: usize = 15;
-const BATCH_NS: u128 = 3_000_000;
+/// Many short batches: the least of them is more likely free of what else the machine does.
+const BATCHES: usize = 45;
+const BATCH_NS: u128 = 1_000_000;
 
 /// ns per event, or per roster.
 #[derive(Clone, Copy)]

@@ -19,9 +19,11 @@ use crate::cases::{event_of, Case};
 use crate::counting::{counts_of, Counts};
 use crate::jobs::Job;
 
-const KINDS: [&str; 9] = [
-    "enter", "leave", "delay", "suspend", "release", "clock", "set", "work", "finish",
+/// The kinds of events, and Again, which is a step of a run and no event on a state.
+const KINDS: [&str; 10] = [
+    "enter", "leave", "delay", "suspend", "release", "clock", "set", "work", "finish", "again",
 ];
+const AGAIN_KIND: usize = 9;
 
 fn kind_of(event: Event) -> usize {
     match event {
@@ -362,7 +364,9 @@ fn sets() -> Vec<Scenario> {
     all
 }
 
-/// Work, at several depths and with the others in one queue, two or many; and Again, which has no effect on the state either.
+const AGAIN_NAME: &str = "again";
+
+/// Work and Again have no effect on the state.
 fn works() -> Vec<Scenario> {
     let mut all = Vec::new();
     for depth in [0, 1, 16] {
@@ -379,7 +383,7 @@ fn works() -> Vec<Scenario> {
         }
     }
     all.push(Scenario {
-        name: "again".into(),
+        name: AGAIN_NAME.into(),
         plan: plan_with(vec![step(AGAIN, 0, 0)], Vec::new()),
         before: Vec::new(),
         last: Command::Step,
@@ -503,13 +507,22 @@ struct Counted {
 fn counted(scenario: &Scenario) -> Counted {
     let (state, event) = state_before(scenario);
     let mut jobs: Vec<Job> = runs_of(scenario).into();
-    jobs.push(Job::History(bytes_of(&state), vec![event]));
-    jobs.extend(loaded_jobs(&state, event));
+    let again = scenario.name == AGAIN_NAME;
+    if !again {
+        jobs.push(Job::History(bytes_of(&state), vec![event]));
+        jobs.extend(loaded_jobs(&state, event));
+    }
     Counted {
-        kind: kind_of(event),
+        kind: if again { AGAIN_KIND } else { kind_of(event) },
         name: format!("{event:?}, {}", scenario.name),
         jobs,
     }
+}
+
+/// Some readings without effect come first, so that the start of a run is in no difference.
+fn begun(mut scenario: Scenario) -> Scenario {
+    scenario.before.splice(0..0, [Command::Clock(0); 4]);
+    scenario
 }
 
 fn all() -> Vec<Counted> {
@@ -525,11 +538,8 @@ fn all() -> Vec<Counted> {
         works,
         crowded,
     ];
-    families
-        .iter()
-        .flat_map(|family| family())
-        .map(|scenario| counted(&scenario))
-        .collect()
+    let scenarios = families.iter().flat_map(|family| family());
+    scenarios.map(|s| counted(&begun(s))).collect()
 }
 
 /// The jobs to be counted, in their order.
@@ -560,10 +570,9 @@ impl Worst {
             plain: counts[1].plain.saturating_sub(counts[0].plain),
         };
         self.take(0, in_run, name);
-        self.take(1, counts[2], name);
-        for any in &counts[2..] {
-            self.take(2, *any, name);
-        }
+        let on_bytes = &counts[2..];
+        on_bytes.iter().take(1).for_each(|c| self.take(1, *c, name));
+        on_bytes.iter().for_each(|c| self.take(2, *c, name));
     }
 }
 
@@ -580,7 +589,7 @@ pub fn print() {
         Ok(counts) => counts,
         Err(why) => return println!("not counted: {why}"),
     };
-    let mut worst: [Worst; 9] = Default::default();
+    let mut worst: [Worst; KINDS.len()] = Default::default();
     let mut left = &counts[..];
     for counted in &all {
         let (own, rest) = left.split_at(counted.jobs.len());
@@ -590,7 +599,7 @@ pub fn print() {
     print_table(&worst);
 }
 
-fn print_table(worst: &[Worst; 9]) {
+fn print_table(worst: &[Worst; KINDS.len()]) {
     let titles = ["in a run", "on bytes, of a run", "on bytes, any sound"];
     println!(
         "{:<10} {:>21} {:>21} {:>21}",
@@ -601,12 +610,16 @@ fn print_table(worst: &[Worst; 9]) {
         "", "proved  plain", "proved  plain", "proved  plain"
     );
     for (kind, worst) in KINDS.iter().zip(worst) {
-        let cell = |place: usize| format!("{} {:>6}", worst.proved[place], worst.plain[place]);
+        let cell = |place: usize| match worst.proved[place] {
+            0 => "-      -".to_string(),
+            proved => format!("{proved} {:>6}", worst.plain[place]),
+        };
         println!("{kind:<10} {:>21} {:>21} {:>21}", cell(0), cell(1), cell(2));
     }
     println!("the states that are worst for the proved code:");
     for (kind, worst) in KINDS.iter().zip(worst) {
-        for (title, name) in titles.iter().zip(&worst.names) {
+        let found = titles.iter().zip(&worst.names);
+        for (title, name) in found.filter(|(_, name)| !name.is_empty()) {
             println!("  {kind} {title}: {name}");
         }
     }
