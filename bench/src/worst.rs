@@ -91,7 +91,8 @@ fn placed(count: usize, first: u64, rest: u64) -> Vec<Command> {
 type Ticks = fn(usize) -> u16;
 type Bases = fn(usize) -> u8;
 
-const SPLITS: [usize; 5] = [0, 8, 16, 24, 31];
+/// How many tasks stand in a queue or are away: about whole and half rows, where loops over a row change their pace.
+const SPLITS: [usize; 9] = [0, 1, 8, 14, 15, 16, 24, 30, 31];
 
 /// Where the other tasks are put before the last event.
 struct Placing {
@@ -194,7 +195,7 @@ fn delays() -> Vec<Scenario> {
     ];
     let mut all = Vec::new();
     for (how, ticks) in orders {
-        for away in [0, 1, 15, 30, 31] {
+        for away in SPLITS {
             for last in [0, 1, 150, 65_535] {
                 let mut plan = plan_with(Vec::new(), Vec::new());
                 plan.scripts = (0..MOST_TASKS)
@@ -218,7 +219,7 @@ fn suspends_and_finishes() -> Vec<Scenario> {
         (vec![step(SUSPEND, 0, 0)], "suspended"),
         (Vec::new(), "ended"),
     ] {
-        for away in [0, 1, 15, 30, 31] {
+        for away in SPLITS {
             for permit in [false, true] {
                 let mut plan = plan_with(Vec::new(), Vec::new());
                 plan.scripts = vec![script.clone(); MOST_TASKS];
@@ -241,7 +242,7 @@ fn releases() -> Vec<Scenario> {
     let mut all = Vec::new();
     for base in [BASE, BASE + 1, 32] {
         for t in [1, 31] {
-            for count in [0, 15, 29, 30] {
+            for count in [0, 14, 15, 16, 29, 30] {
                 for from_outside in [true, false] {
                     let mut plan = plan_with(vec![step(RELEASE, t as u8, 0)], Vec::new());
                     plan.bases[t] = 32;
@@ -313,7 +314,7 @@ fn clocks() -> Vec<Scenario> {
 /// Task 0 runs and the last of the others stand in its queue; the first ones, of a higher base, are due at one reading.
 fn preempting_clocks() -> Vec<Scenario> {
     let mut all = Vec::new();
-    for count in [1, 8, 16, 24, 30] {
+    for count in [1, 8, 14, 15, 16, 24, 30] {
         for base in [BASE + 1, 32] {
             let mut plan = plan_with(vec![step(WORK, 0, 0)], Vec::new());
             for t in 1..=count {
