@@ -9,7 +9,8 @@ use std::path::Path;
 use std::process::{Command, Stdio};
 
 use crate::cases::{case_of, REALISTIC, STEP_HEAVY};
-use crate::jobs::Job;
+use crate::jobs::{Call, Job};
+use crate::table::{self, Figures};
 
 const SEEDS: u64 = 8;
 const MANY: usize = 4096;
@@ -18,11 +19,16 @@ const ON_BYTES: usize = 256;
 /// The argument that asks for the counted calls alone.
 pub const COUNTED: &str = "--counted";
 
-/// Instructions of the proved and of the plain code.
-#[derive(Clone, Copy)]
-pub struct Counts {
-    pub proved: u64,
-    pub plain: u64,
+/// Instructions by each of a job's codes, in their order.
+pub type Counts = Vec<u64>;
+
+/// How many of each job's codes are counted: all, or the first two.
+pub const ALL_CODES: usize = 3;
+pub const WITHOUT_LEAN: usize = 2;
+
+fn codes_of(job: &Job, most: usize) -> &'static [Call] {
+    let codes = job.codes();
+    &codes[..codes.len().min(most)]
 }
 
 /// A call that callgrind knows by its name.
@@ -32,22 +38,19 @@ pub fn bench_counted(call: &mut dyn FnMut()) {
     call();
 }
 
-/// Calls each job twice by either code, once to have all in place and once counted; the parent reads the counts in this order.
-pub fn call_all(jobs: &[Job]) {
+/// Calls each job twice by each code, once to have all in place and once counted; the parent reads the counts in this order.
+pub fn call_all(jobs: &[Job], most: usize) {
     bench_counted(&mut || {});
     for job in jobs {
         let mut room = job.room();
-        job.proved(&mut room);
-        job.renew(&mut room);
-        bench_counted(&mut || {
-            black_box(job.proved(black_box(&mut room)));
-        });
-        job.renew(&mut room);
-        job.plain(&mut room);
-        job.renew(&mut room);
-        bench_counted(&mut || {
-            black_box(job.plain(black_box(&mut room)));
-        });
+        for call in codes_of(job, most) {
+            job.renew(&mut room);
+            call(job, &mut room);
+            job.renew(&mut room);
+            bench_counted(&mut || {
+                black_box(call(job, black_box(&mut room)));
+            });
+        }
     }
 }
 
@@ -59,48 +62,46 @@ fn total_in(file: &Path) -> Option<u64> {
 }
 
 /// The counts of all jobs, or why there are none.
-pub fn counts_of(jobs: &[Job], argument: &str) -> Result<Vec<Counts>, String> {
+pub fn counts_of(jobs: &[Job], argument: &str, most: usize) -> Result<Vec<Counts>, String> {
     let folder = std::env::temp_dir().join(format!("bench-counts-{}", std::process::id()));
     fs::create_dir_all(&folder).map_err(|error| error.to_string())?;
-    let counted = counted_in(&folder, jobs.len(), argument);
+    let counted = call_counted(&folder, argument).and_then(|()| read_counts(&folder, jobs, most));
     fs::remove_dir_all(&folder).map_err(|error| error.to_string())?;
     counted
 }
 
-fn counted_in(folder: &Path, jobs: usize, argument: &str) -> Result<Vec<Counts>, String> {
+fn call_counted(folder: &Path, argument: &str) -> Result<(), String> {
     let own = std::env::current_exe().map_err(|error| error.to_string())?;
+    let out = folder.join("out");
     let status = Command::new("valgrind")
         .args(["--tool=callgrind", "--quiet"])
         .args(["--zero-before=bench_counted", "--dump-after=bench_counted"])
-        .arg(format!(
-            "--callgrind-out-file={}",
-            folder.join("out").display()
-        ))
+        .arg(format!("--callgrind-out-file={}", out.display()))
         .arg(own)
         .args([COUNTED, argument])
         .stderr(Stdio::null())
-        .status();
-    match status {
-        Err(error) => {
-            return Err(format!(
-                "valgrind is not installed or does not start: {error}"
-            ))
-        }
-        Ok(status) if !status.success() => return Err(format!("valgrind ended with {status}")),
-        Ok(_) => {}
+        .status()
+        .map_err(|error| format!("valgrind is not installed or does not start: {error}"))?;
+    if !status.success() {
+        return Err(format!("valgrind ended with {status}"));
     }
-    let total = |i: usize| {
-        let file = folder.join(format!("out.{i}"));
+    Ok(())
+}
+
+/// Callgrind's files are numbered in the order of the calls, the empty one first.
+fn read_counts(folder: &Path, jobs: &[Job], most: usize) -> Result<Vec<Counts>, String> {
+    let mut next = 0;
+    let mut total = || {
+        next += 1;
+        let file = folder.join(format!("out.{next}"));
         total_in(&file).ok_or(format!("no counts in {}", file.display()))
     };
-    let empty = total(1)?;
-    let calls = (0..jobs).map(|job| {
-        Ok(Counts {
-            proved: total(2 * job + 2)? - empty,
-            plain: total(2 * job + 3)? - empty,
-        })
-    });
-    calls.collect()
+    let empty = total()?;
+    let mut counts_of = |job: &Job| {
+        let calls = codes_of(job, most).iter();
+        calls.map(|_| Ok(total()? - empty)).collect()
+    };
+    jobs.iter().map(&mut counts_of).collect()
 }
 
 /// Jobs whose counts are added up.
@@ -150,25 +151,15 @@ pub fn print() {
             job.same(&format!("{}, seed {seed}", group.label));
         }
     }
-    println!(
-        "\n{:<50} {:>9} {:>9} {:>6}",
-        format!("instructions, the mean of {SEEDS} seeds"),
-        "proved",
-        "plain",
-        "ratio"
-    );
-    let counts = match counts_of(&jobs(), "counts") {
+    table::title(&format!("instructions, the mean of {SEEDS} seeds"), true);
+    let counts = match counts_of(&jobs(), "counts", ALL_CODES) {
         Ok(counts) => counts,
         Err(why) => return println!("not counted: {why}"),
     };
     for (group, counts) in groups.iter().zip(counts.chunks(SEEDS as usize)) {
         let size: usize = group.jobs.iter().map(Job::size).sum();
-        let each = |of: fn(&Counts) -> u64| counts.iter().map(of).sum::<u64>() as f64 / size as f64;
-        let (proved, plain) = (each(|c| c.proved), each(|c| c.plain));
-        println!(
-            "{:<50} {proved:9.1} {plain:9.1} {:6.2}",
-            group.label,
-            proved / plain
-        );
+        let mean = |code| counts.iter().map(|c| c[code]).sum::<u64>() as f64 / size as f64;
+        let each: Vec<f64> = (0..counts[0].len()).map(mean).collect();
+        table::line(&group.label, &Figures::of(&each));
     }
 }

@@ -1,4 +1,4 @@
-//! A job that the proved code and the plain code both do: a check, a run, or events on a state's bytes.
+//! A job that the proved code and its plain opponents do: a check, a run, or events on a state's bytes.
 
 use dispatch::raw;
 use harness::calls;
@@ -7,7 +7,10 @@ use harness::report::{hex, save};
 use second::machine::Event;
 
 use crate::cases::{history_of, Case};
-use crate::{plain, plain_state};
+use crate::{lean, plain, plain_state};
+
+/// Does a job in the room lent; gives the last answer.
+pub type Call = fn(&Job, &mut [u8]) -> (u8, usize, usize);
 
 pub enum Job {
     Check(Vec<u8>),
@@ -48,7 +51,7 @@ impl Job {
     }
 
     /// The job by the proved code; gives the last answer.
-    pub fn proved(&self, room: &mut [u8]) -> (u8, usize, usize) {
+    fn proved(&self, room: &mut [u8]) -> (u8, usize, usize) {
         match self {
             Job::Check(roster) => raw::check(roster),
             Job::Run(case) => raw::run(&case.roster, &case.events, room),
@@ -64,7 +67,7 @@ impl Job {
     }
 
     /// The job by the plain code; gives the last answer.
-    pub fn plain(&self, room: &mut [u8]) -> (u8, usize, usize) {
+    fn plain(&self, room: &mut [u8]) -> (u8, usize, usize) {
         match self {
             Job::Check(roster) => plain::check(roster),
             Job::Run(case) => plain::run(&case.roster, &case.events, room),
@@ -78,12 +81,33 @@ impl Job {
         }
     }
 
-    /// Both give the same answers and bytes, else there is nothing to compare; gives the room as it is afterwards.
+    /// The job by the lean code, which takes no events on bytes; gives the answer.
+    fn lean(&self, room: &mut [u8]) -> (u8, usize, usize) {
+        match self {
+            Job::Check(roster) => lean::check(roster),
+            Job::Run(case) => lean::run(&case.roster, &case.events, room),
+            Job::History(..) => unreachable!("the lean code keeps no state"),
+        }
+    }
+
+    /// The codes that do this job: proved, plain and, unless it is events on bytes, lean.
+    pub fn codes(&self) -> &'static [Call] {
+        const ALL: [Call; 3] = [Job::proved, Job::plain, Job::lean];
+        match self {
+            Job::History(..) => &ALL[..2],
+            _ => &ALL,
+        }
+    }
+
+    /// All give the same answers and bytes, else there is nothing to compare; gives the room as it is afterwards.
     pub fn same(&self, input: &str) -> Vec<u8> {
-        let (mut proved, mut plain) = (self.room(), self.room());
-        let answers = (self.proved(&mut proved), self.plain(&mut plain));
-        assert_eq!(answers.0, answers.1, "{input}, {}", self.told());
-        assert!(proved == plain, "bytes differ, {input}, {}", self.told());
+        let mut proved = self.room();
+        let answer = self.proved(&mut proved);
+        for call in &self.codes()[1..] {
+            let mut room = self.room();
+            assert_eq!(call(self, &mut room), answer, "{input}, {}", self.told());
+            assert!(room == proved, "bytes differ, {input}, {}", self.told());
+        }
         proved
     }
 

@@ -1,20 +1,23 @@
 //! The proved code beside tuned plain Rust of the same job: times, instructions, and the dearest single events.
 //!
+//! A check and a run have two opponents: `plain` keeps the whole state after every event, `lean` only what the replies need.
 //! `bench` prints all of it; `bench times`, `bench counts` and `bench worst` print one part. The parts with instructions need valgrind.
 
 mod cases;
 mod counting;
 mod jobs;
+mod lean;
 mod plain;
 mod plain_state;
 mod same;
+mod table;
 mod timing;
 mod worst;
 
 fn counted(what: &str) {
     match what {
-        "worst" => counting::call_all(&worst::jobs()),
-        _ => counting::call_all(&counting::jobs()),
+        "worst" => counting::call_all(&worst::jobs(), counting::WITHOUT_LEAN),
+        _ => counting::call_all(&counting::jobs(), counting::ALL_CODES),
     }
 }
 

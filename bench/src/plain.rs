@@ -1,23 +1,16 @@
-//! A run in plain Rust on arrays, tuned: the same job as the proved run, to be timed beside it.
+//! A run in plain Rust as a careful programmer writes and tunes it: the same job as the proved run, to be timed beside it.
 //!
-//! It relies on the check: a script that passes cannot be refused with 1, 2, 3, 6, 7 or 9, so these are not tested for a Step.
+//! After every event it has the whole state of the rules and could hand it out: for each task its place, base, waiting base, permit, due
+//! time and held objects, outermost first; the ready queues in order; now and who is running. It relies on the check, which is local: a
+//! script that passes cannot be refused with 1, 2, 3, 6, 7 or 9, so these are not tested for a Step. It uses no fact about whole runs.
 
 const MOST_TASKS: usize = 32;
 const MOST_OBJECTS: usize = 16;
-const MOST_PRIORITIES: usize = 32;
 const LARGEST: usize = 32_768;
 const LONGEST_ADVANCE: u64 = 86_400_000;
 const TRAILER: usize = 8;
 const NOBODY: u8 = 255;
 const REPLY: usize = 3;
-/// A delayed task's due time is multiplied by this, its number added: the order in which they wake.
-const KEY: u64 = MOST_TASKS as u64;
-
-/// The most frequent step, which is tested before the others.
-const WORK: u32 = 4;
-
-/// The record of a Step, which has no unused field but 0.
-const STEP: u64 = 3;
 
 /// Number, task and step.
 pub type Answer = (u8, usize, usize);
@@ -132,79 +125,8 @@ fn script_fault(script: &[u8], t: usize, base: u8, ceilings: &[u8]) -> Option<(u
     (depth > 0).then_some((17, script.len() / 4))
 }
 
-/// What a script holds while it is walked through. The innermost object is kept as the step that leaves it, with its ceiling above
-/// that, and 0 for none; an object that is held keeps what was innermost before it.
-struct Holding<'a> {
-    ceilings: &'a [[u8; 2]],
-    innermost: u64,
-    outer: [u64; MOST_OBJECTS],
-    lowest: u8,
-}
-
-/// For an object that is not held.
-const FREE: u64 = u64::MAX;
-
-/// The operands of a step that should have this code: a wrong code is moved into the highest bits, where no operand is.
-fn operands(s: u32, code: u32) -> u32 {
-    (s ^ code).rotate_right(8)
-}
-
-impl Holding<'_> {
-    fn enter(&mut self, s: u32) -> bool {
-        let o = operands(s, 1) as usize;
-        let Some(&[ceiling, _]) = self.ceilings.get(o) else {
-            return false;
-        };
-        let outer = &mut self.outer[o % MOST_OBJECTS];
-        let good = *outer == FREE && ceiling as u64 >= self.innermost >> 32;
-        *outer = self.innermost;
-        self.innermost = (ceiling as u64) << 32 | (s ^ 3) as u64;
-        self.lowest = self.lowest.min(ceiling);
-        good
-    }
-
-    fn leave(&mut self, s: u32) -> bool {
-        let good = s == self.innermost as u32;
-        let outer = &mut self.outer[(s >> 8) as usize % MOST_OBJECTS];
-        self.innermost = *outer;
-        *outer = FREE;
-        good
-    }
-
-    /// Whether a script breaks no rule of 16 to 20, in one pass; where it does, `first_fault` finds the place.
-    ///
-    /// Each step is compared as one word, operands and all. No ceiling entered may be below the base and the own Set values, wherever
-    /// these come, so the highest of these and the lowest ceiling are compared at the end.
-    fn walks(&mut self, script: &[[u8; 4]], own_set: u32, base: u8, tasks: u32) -> bool {
-        self.lowest = 32;
-        let mut highest = base as u32;
-        let mut steps = script.iter();
-        while let Some(step) = steps.next() {
-            let s = u32::from_le_bytes(*step);
-            let good = match s % 8 {
-                1 => self.enter(s),
-                2 => self.leave(s),
-                3 => s as u16 == 3 && self.innermost == 0,
-                4 => s == 4,
-                5 => s == 5 && self.innermost == 0,
-                6 => operands(s, 6) < tasks,
-                7 => {
-                    highest = highest.max(s >> 16);
-                    s & 0xFFFF == own_set && s >> 16 != 0
-                }
-                _ => s == 8 && self.innermost == 0 && steps.as_slice().is_empty(),
-            };
-            if !good {
-                return false;
-            }
-        }
-        self.innermost == 0 && highest <= self.lowest as u32
-    }
-}
-
-/// The refusal of a roster with a script that is not good.
-#[cold]
-fn first_fault(roster: &[u8], shape: &Shape) -> Answer {
+fn checked(roster: &[u8]) -> Result<Shape, Answer> {
+    let shape = shape_of(roster).map_err(|number| (number, 0, 0))?;
     let rows = &roster[shape.task_table..shape.object_table];
     let script = |row: &[u8]| {
         let start = word(row, 2);
@@ -214,38 +136,15 @@ fn first_fault(roster: &[u8], shape: &Shape) -> Answer {
         let count = word(row, 4) / 4;
         for (k, step) in script(row).chunks_exact(4).enumerate() {
             if !step_is_good(step, k + 1 == count, shape.tasks, shape.objects) {
-                return (16, t, k);
+                return Err((16, t, k));
             }
         }
     }
     let ceilings = &roster[shape.object_table..roster.len() - TRAILER];
     for (t, row) in rows.chunks_exact(6).enumerate() {
         if let Some((number, k)) = script_fault(script(row), t, row[0], ceilings) {
-            return (number, t, k);
+            return Err((number, t, k));
         }
-    }
-    unreachable!("a script that is not good has a fault")
-}
-
-fn checked(roster: &[u8]) -> Result<Shape, Answer> {
-    let shape = shape_of(roster).map_err(|number| (number, 0, 0))?;
-    let (steps, _) = roster[..shape.task_table].as_chunks();
-    let (ceilings, _) = roster[shape.object_table..roster.len() - TRAILER].as_chunks();
-    let mut holding = Holding {
-        ceilings,
-        innermost: 0,
-        outer: [FREE; MOST_OBJECTS],
-        lowest: 32,
-    };
-    let mut start = 0;
-    let rows = roster[shape.task_table..shape.object_table].chunks_exact(6);
-    for (t, row) in rows.enumerate() {
-        let end = start + word(row, 4) / 4;
-        let own_set = 7 | (t as u32) << 8;
-        if !holding.walks(&steps[start..end], own_set, row[0], shape.tasks as u32) {
-            return Err(first_fault(roster, &shape));
-        }
-        start = end;
     }
     Ok(shape)
 }
@@ -255,104 +154,83 @@ pub fn check(roster: &[u8]) -> Answer {
     checked(roster).map_or_else(|refusal| refusal, |_| (0, 0, 0))
 }
 
-/// For each kind of event, the bits of a record that have to be 0; for what is no kind, the kind itself.
-const UNUSED: [u64; 256] = {
-    let mut masks = [0xFF; 256];
-    masks[1] = 0xFF00;
-    masks[2] = 0xFFFF_FFFF_FFFF_0000;
-    masks[3] = 0xFFFF_FFFF_FFFF_FF00;
-    masks[4] = 0;
-    masks
-};
-
-/// A kind: where the bits of no kind are looked at, they differ from it.
-const SOME_KIND: u64 = 4;
-
-/// Without jumps: what is wrong with any record is or-ed together.
-fn events_are_good(events: &[u8]) -> bool {
-    let record = |e: &[u8]| u64::from_le_bytes(e.try_into().unwrap());
-    let wrong = |e: u64| (e ^ SOME_KIND) & UNUSED[e as u8 as usize];
-    let records = events.chunks_exact(8);
-    events.len().is_multiple_of(8)
-        && events.len() <= LARGEST
-        && records.fold(0, |bad, e| bad | wrong(record(e))) == 0
+fn value_of(record: &[u8]) -> u64 {
+    u64::from_le_bytes(record.try_into().unwrap()) >> 16
 }
 
-/// Where a task is; who is running is kept apart.
+fn events_are_good(events: &[u8]) -> bool {
+    events.len().is_multiple_of(8)
+        && events.len() <= LARGEST
+        && events.chunks_exact(8).all(|e| match e[0] {
+            1 => e[1] == 0,
+            2 => value_of(e) == 0,
+            3 => e[1] == 0 && value_of(e) == 0,
+            4 => true,
+            _ => false,
+        })
+}
+
 #[derive(Clone, Copy, PartialEq)]
 enum Place {
+    Running,
     Ready,
     Delayed,
     Suspended,
     Ended,
 }
 
-/// A ready queue as a ring: the cells from `first` to before `end`, both counted on and on and taken modulo the size. Each has a
-/// cache line of its own.
-#[derive(Clone, Copy)]
-#[repr(align(64))]
-struct Queue {
-    first: u8,
-    end: u8,
-    cells: [u8; MOST_TASKS],
-}
-
-/// All that a run changes. Whether a task runs or is ready is told by `running`; a bit of `marks` is on per nonempty queue.
+/// All that a run changes. Queues are rings; a bit of `marks` per nonempty queue, of `delayed` per delayed task.
 struct Machine {
     now: u64,
     running: u8,
-    /// What this event reports.
-    report: u8,
+    /// Whether the dispatch of this event has sent the running task to the head of its queue.
+    preempted: bool,
     tasks: usize,
     place: [Place; MOST_TASKS],
+    base: [u8; MOST_TASKS],
     active: [u8; MOST_TASKS],
     waiting: [u8; MOST_TASKS],
-    permit: [bool; MOST_TASKS],
-    /// How many objects a task holds.
+    permits: u32,
+    due: [u64; MOST_TASKS],
+    delayed: u32,
+    next_due: u64,
+    held: [[u8; MOST_OBJECTS]; MOST_TASKS],
     depth: [u8; MOST_TASKS],
     ceilings: [u8; MOST_OBJECTS],
-    /// The active priority that the Leave of an object goes back to: in a run an object has one holder.
-    outer: [u8; MOST_OBJECTS],
-    /// Due time and number of the delayed tasks, the next to wake last.
-    delayed: [u64; MOST_TASKS],
-    sleepers: usize,
-    next_due: u64,
-    /// The queue for priority 32 is the first.
-    queues: [Queue; MOST_PRIORITIES],
+    queues: [[u8; MOST_TASKS]; 33],
+    heads: [u8; 33],
+    lengths: [u8; 33],
     marks: u64,
-    /// Where scripts start, end and are at, in steps.
     start: [u16; MOST_TASKS],
-    end: [u16; MOST_TASKS],
-    at: [u16; MOST_TASKS],
+    length: [u16; MOST_TASKS],
+    position: [u16; MOST_TASKS],
 }
 
 impl Machine {
     fn new(roster: &[u8], shape: &Shape) -> Machine {
-        let empty = Queue {
-            first: 0,
-            end: 0,
-            cells: [0; MOST_TASKS],
-        };
         let mut m = Machine {
             now: 0,
             running: NOBODY,
-            report: 0,
+            preempted: false,
             tasks: shape.tasks,
             place: [Place::Ready; MOST_TASKS],
+            base: [0; MOST_TASKS],
             active: [0; MOST_TASKS],
             waiting: [0; MOST_TASKS],
-            permit: [false; MOST_TASKS],
+            permits: 0,
+            due: [0; MOST_TASKS],
+            delayed: 0,
+            next_due: u64::MAX,
+            held: [[0; MOST_OBJECTS]; MOST_TASKS],
             depth: [0; MOST_TASKS],
             ceilings: [0; MOST_OBJECTS],
-            outer: [0; MOST_OBJECTS],
-            delayed: [0; MOST_TASKS],
-            sleepers: 0,
-            next_due: u64::MAX,
-            queues: [empty; MOST_PRIORITIES],
+            queues: [[0; MOST_TASKS]; 33],
+            heads: [0; 33],
+            lengths: [0; 33],
             marks: 0,
             start: [0; MOST_TASKS],
-            end: [0; MOST_TASKS],
-            at: [0; MOST_TASKS],
+            length: [0; MOST_TASKS],
+            position: [0; MOST_TASKS],
         };
         let ceilings = &roster[shape.object_table..roster.len() - TRAILER];
         for (o, row) in ceilings.chunks_exact(2).enumerate() {
@@ -360,98 +238,81 @@ impl Machine {
         }
         let rows = &roster[shape.task_table..shape.object_table];
         for (t, row) in rows.chunks_exact(6).enumerate() {
+            m.base[t] = row[0];
             m.active[t] = row[0];
-            m.start[t] = (word(row, 2) / 4) as u16;
-            m.at[t] = m.start[t];
-            m.end[t] = m.start[t] + (word(row, 4) / 4) as u16;
+            m.start[t] = word(row, 2) as u16;
+            m.length[t] = word(row, 4) as u16;
             m.push_tail(t);
         }
-        m.pick();
+        m.dispatch();
         m
     }
 
     fn push_tail(&mut self, t: usize) {
-        let p = self.active[t];
-        let queue = &mut self.queues[p as usize % MOST_PRIORITIES];
-        queue.cells[queue.end as usize % MOST_TASKS] = t as u8;
-        queue.end = queue.end.wrapping_add(1);
+        let p = self.active[t] as usize;
+        let at = (self.heads[p] + self.lengths[p]) as usize % MOST_TASKS;
+        self.queues[p][at] = t as u8;
+        self.lengths[p] += 1;
         self.marks |= 1 << p;
+        self.place[t] = Place::Ready;
     }
 
     fn push_head(&mut self, t: usize) {
-        let p = self.active[t];
-        let queue = &mut self.queues[p as usize % MOST_PRIORITIES];
-        queue.first = queue.first.wrapping_sub(1);
-        queue.cells[queue.first as usize % MOST_TASKS] = t as u8;
+        let p = self.active[t] as usize;
+        self.heads[p] = (self.heads[p] + 31) % 32;
+        self.queues[p][self.heads[p] as usize] = t as u8;
+        self.lengths[p] += 1;
         self.marks |= 1 << p;
+        self.place[t] = Place::Ready;
+    }
+
+    fn pop(&mut self, p: usize) -> u8 {
+        let t = self.queues[p][self.heads[p] as usize];
+        self.heads[p] = (self.heads[p] + 1) % 32;
+        self.lengths[p] -= 1;
+        if self.lengths[p] == 0 {
+            self.marks &= !(1 << p);
+        }
+        t
     }
 
     fn take_out(&mut self, t: usize) {
-        let p = self.active[t];
-        let queue = &mut self.queues[p as usize % MOST_PRIORITIES];
-        let mut i = queue.first;
-        while queue.cells[i as usize % MOST_TASKS] != t as u8 {
-            i = i.wrapping_add(1);
+        let p = self.active[t] as usize;
+        let head = self.heads[p] as usize;
+        let count = self.lengths[p] as usize;
+        let mut i = 0;
+        while self.queues[p][(head + i) % 32] != t as u8 {
+            i += 1;
         }
-        queue.end = queue.end.wrapping_sub(1);
-        while i != queue.end {
-            let next = i.wrapping_add(1);
-            queue.cells[i as usize % MOST_TASKS] = queue.cells[next as usize % MOST_TASKS];
-            i = next;
+        while i + 1 < count {
+            self.queues[p][(head + i) % 32] = self.queues[p][(head + i + 1) % 32];
+            i += 1;
         }
-        if queue.first == queue.end {
+        self.lengths[p] -= 1;
+        if self.lengths[p] == 0 {
             self.marks &= !(1 << p);
-        }
-    }
-
-    /// The head of the highest queue, which is not empty, runs.
-    fn run_head(&mut self, p: usize) {
-        let queue = &mut self.queues[p % MOST_PRIORITIES];
-        self.running = queue.cells[queue.first as usize % MOST_TASKS];
-        queue.first = queue.first.wrapping_add(1);
-        if queue.first == queue.end {
-            self.marks &= !(1 << p);
-        }
-    }
-
-    /// The highest priority whose queue is not empty, or 0.
-    fn highest(&self) -> usize {
-        (self.marks | 1).ilog2() as usize
-    }
-
-    /// The running task has stopped: the head of the highest queue runs, or nobody.
-    fn pick(&mut self) {
-        let before = self.running;
-        let highest = self.highest();
-        if highest == 0 {
-            self.running = NOBODY;
-        } else {
-            self.run_head(highest);
-        }
-        self.report = 2 * (self.running != before) as u8;
-    }
-
-    /// The running task goes on, unless a higher one is ready.
-    fn preempt(&mut self, t: usize) {
-        let highest = self.highest();
-        if highest > self.active[t] as usize {
-            self.push_head(t);
-            self.run_head(highest);
-            self.report = 1;
         }
     }
 
     fn dispatch(&mut self) {
-        let t = self.running as usize;
-        if t < MOST_TASKS {
-            self.preempt(t);
-        } else {
-            self.pick();
+        if self.marks == 0 {
+            return;
         }
+        let top = 63 - self.marks.leading_zeros() as usize;
+        if self.running != NOBODY {
+            let t = self.running as usize;
+            if self.active[t] as usize >= top {
+                return;
+            }
+            self.push_head(t);
+            self.preempted = true;
+        }
+        self.running = self.pop(top);
+        self.place[self.running as usize] = Place::Running;
     }
 
     fn clock(&mut self, r: u64) -> u8 {
-        if r.wrapping_sub(self.now) > LONGEST_ADVANCE {
+        if r < self.now || r - self.now > LONGEST_ADVANCE {
             return 4;
         }
         self.now = r;
@@ -464,31 +325,40 @@ impl Machine {
 
     /// Everybody due, by due time, lower number first when equal.
     fn wake(&mut self, r: u64) {
-        self.next_due = u64::MAX;
-        while let Some(&key) = self.delayed[..self.sleepers].last() {
-            if key / KEY > r {
-                self.next_due = key / KEY;
+        loop {
+            let (mut first, mut least) = (MOST_TASKS, u64::MAX);
+            let mut left = self.delayed;
+            while left != 0 {
+                let t = left.trailing_zeros() as usize;
+                left &= left - 1;
+                if self.due[t] < least {
+                    (first, least) = (t, self.due[t]);
+                }
+            }
+            self.next_due = least;
+            if least > r || first == MOST_TASKS {
                 return;
             }
-            self.sleepers -= 1;
-            let t = (key % KEY) as usize;
-            self.place[t] = Place::Ready;
-            self.push_tail(t);
+            self.delayed &= !(1 << first);
+            self.push_tail(first);
         }
     }
 
-    fn release(&mut self, t: usize) {
+    fn release(&mut self, t: usize) -> u8 {
+        if t >= self.tasks {
+            return 1;
+        }
         if self.place[t] == Place::Suspended {
-            self.place[t] = Place::Ready;
             self.push_tail(t);
             self.dispatch();
         } else {
-            self.permit[t] = true;
+            self.permits |= 1 << t;
         }
+        0
     }
 
     fn set(&mut self, t: usize, p: u64) -> u8 {
-        if t >= self.tasks || t >= MOST_TASKS {
+        if t >= self.tasks {
             return 1;
         }
         if !(1..=32).contains(&p) {
@@ -500,132 +370,109 @@ impl Machine {
         let p = p as u8;
         if self.depth[t] > 0 {
             self.waiting[t] = p;
-        } else if self.place[t] != Place::Ready {
-            self.active[t] = p;
-        } else if self.running as usize == t {
-            self.rebase_running(t, p);
-        } else {
-            self.take_out(t);
-            self.active[t] = p;
-            self.push_tail(t);
-            self.dispatch();
+            return 0;
+        }
+        match self.place[t] {
+            Place::Ready => {
+                self.take_out(t);
+                self.base[t] = p;
+                self.active[t] = p;
+                self.push_tail(t);
+                self.dispatch();
+            }
+            Place::Running => self.rebase_running(t, p),
+            _ => {
+                self.base[t] = p;
+                self.active[t] = p;
+            }
         }
         0
     }
 
     fn rebase_running(&mut self, t: usize, p: u8) {
+        self.base[t] = p;
         self.active[t] = p;
+        self.running = NOBODY;
         self.push_tail(t);
-        self.pick();
+        self.dispatch();
     }
 
-    fn enter(&mut self, t: usize, o: usize) -> u8 {
-        let (active, ceiling) = (self.active[t], self.ceilings[o]);
-        if active > ceiling {
-            return 8;
-        }
-        self.outer[o] = active;
-        self.depth[t] += 1;
-        self.active[t] = ceiling;
-        0
-    }
-
-    fn leave(&mut self, t: usize, o: usize) {
+    fn leave(&mut self, t: usize) {
         self.depth[t] -= 1;
-        self.active[t] = self.outer[o];
-        let p = self.waiting[t];
-        if p != 0 && self.depth[t] == 0 {
+        let depth = self.depth[t] as usize;
+        if depth > 0 {
+            self.active[t] = self.ceilings[self.held[t][depth - 1] as usize];
+            self.dispatch();
+        } else if self.waiting[t] != 0 {
+            let p = self.waiting[t];
             self.waiting[t] = 0;
             self.rebase_running(t, p);
         } else {
-            self.preempt(t);
+            self.active[t] = self.base[t];
+            self.dispatch();
         }
     }
 
     fn put_off(&mut self, t: usize, d: u64) {
+        self.running = NOBODY;
         if d == 0 {
             self.push_tail(t);
         } else {
-            let due = self.now + d;
             self.place[t] = Place::Delayed;
-            self.next_due = self.next_due.min(due);
-            let key = due * KEY + t as u64;
-            let mut i = self.sleepers;
-            self.sleepers += 1;
-            while i > 0 && self.delayed[i - 1] < key {
-                self.delayed[i] = self.delayed[i - 1];
-                i -= 1;
-            }
-            self.delayed[i] = key;
+            self.due[t] = self.now + d;
+            self.delayed |= 1 << t;
+            self.next_due = self.next_due.min(self.due[t]);
         }
-        self.pick();
+        self.dispatch();
     }
 
-    fn suspend(&mut self, t: usize) {
-        if self.permit[t] {
-            self.permit[t] = false;
-        } else {
-            self.place[t] = Place::Suspended;
-            self.pick();
-        }
-    }
-
-    fn finish(&mut self, t: usize) {
-        self.place[t] = Place::Ended;
-        self.pick();
-    }
-
-    fn step(&mut self, steps: &[[u8; 4]]) -> u8 {
-        let t = self.running as usize;
-        if t >= MOST_TASKS {
+    fn step(&mut self, roster: &[u8]) -> u8 {
+        if self.running == NOBODY {
             return 5;
         }
-        let at = self.at[t];
-        if at >= self.end[t] {
-            self.finish(t);
+        let t = self.running as usize;
+        let position = self.position[t];
+        if position >= self.length[t] {
+            self.running = NOBODY;
+            self.place[t] = Place::Ended;
+            self.dispatch();
             return 0;
         }
-        let s = u32::from_le_bytes(steps[at as usize]);
-        self.at[t] = at + 1;
-        if s == WORK {
-            return 0;
-        }
-        let object = || s as usize / 256 % MOST_OBJECTS;
-        let value = || s as u64 / 65536;
-        match s % 8 {
+        let at = (self.start[t] + position) as usize;
+        let s: [u8; 4] = roster[at..at + 4].try_into().unwrap();
+        let (a, b) = (s[1] as usize, u16::from_le_bytes([s[2], s[3]]));
+        self.position[t] = position + 4;
+        match s[0] {
             1 => {
-                let answer = self.enter(t, object());
-                if answer != 0 {
-                    self.at[t] = at;
+                if self.active[t] > self.ceilings[a] {
+                    self.position[t] = position;
+                    return 8;
                 }
-                return answer;
+                self.held[t][self.depth[t] as usize] = a as u8;
+                self.depth[t] += 1;
+                self.active[t] = self.ceilings[a];
             }
-            2 => self.leave(t, object()),
-            3 => self.put_off(t, value()),
-            5 => self.suspend(t),
-            6 => self.release(s as usize / 256 % MOST_TASKS),
+            2 => self.leave(t),
+            3 => self.put_off(t, b as u64),
+            5 => {
+                if self.permits & 1 << t != 0 {
+                    self.permits &= !(1 << t);
+                } else {
+                    self.running = NOBODY;
+                    self.place[t] = Place::Suspended;
+                    self.dispatch();
+                }
+            }
+            6 => {
+                self.release(a);
+            }
             7 => {
-                self.set(t, value());
+                self.set(t, b as u64);
             }
-            // Again is 8
-            0 => self.at[t] = self.start[t],
+            8 => self.position[t] = 0,
             _ => {}
         }
         0
-    }
-
-    /// An event that is no Step.
-    fn take_outside(&mut self, event: u64) -> u8 {
-        let (a, value) = ((event >> 8) as u8 as usize, event >> 16);
-        match event as u8 {
-            1 => self.clock(value),
-            2 if a >= self.tasks || a >= MOST_TASKS => 1,
-            2 => {
-                self.release(a);
-                0
-            }
-            _ => self.set(a, value),
-        }
     }
 }
 
@@ -642,15 +489,21 @@ pub fn run(roster: &[u8], events: &[u8], buffer: &mut [u8]) -> Answer {
         return (22, 0, 0);
     }
     let mut m = Machine::new(roster, &shape);
-    let (steps, _) = roster[..shape.task_table].as_chunks();
     for (e, reply) in events.chunks_exact(8).zip(buffer.chunks_exact_mut(REPLY)) {
-        m.report = 0;
-        reply[0] = match u64::from_le_bytes(e.try_into().unwrap()) {
-            STEP => m.step(steps),
-            event => m.take_outside(event),
+        let before = m.running;
+        m.preempted = false;
+        reply[0] = match e[0] {
+            1 => m.clock(value_of(e)),
+            2 => m.release(e[1] as usize),
+            3 => m.step(roster),
+            _ => m.set(e[1] as usize, value_of(e)),
         };
         reply[1] = m.running;
-        reply[2] = m.report;
+        reply[2] = if m.preempted {
+            1
+        } else {
+            2 * (m.running != before) as u8
+        };
     }
     (0, 0, 0)
 }

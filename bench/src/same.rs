@@ -1,4 +1,4 @@
-//! That the plain code does the same job as the proved code: on made rosters, events and states, good and bad ones.
+//! That the plain and the lean code do the same job as the proved code: on made rosters, events and states, good and bad ones.
 
 use dispatch::raw;
 use harness::calls;
@@ -10,10 +10,18 @@ use harness::rosters::{passing, plant};
 use harness::states::{self, event_of, sound_state};
 use second::machine::apply_to;
 
-use crate::{plain, plain_state};
+use crate::{lean, plain, plain_state};
 
 const RUNS: u64 = 3_000;
 const STATES: u64 = 3_000;
+
+type Run = fn(&[u8], &[u8], &mut [u8]) -> (u8, usize, usize);
+type Check = fn(&[u8]) -> (u8, usize, usize);
+
+const OPPONENTS: [(&str, Run, Check); 2] = [
+    ("plain", plain::run, plain::check),
+    ("lean", lean::run, lean::check),
+];
 
 /// A made roster, in one of three with a planted fault or a changed byte.
 fn roster_of(random: &mut Random) -> Vec<u8> {
@@ -39,20 +47,17 @@ fn assert_run(seed: u64) {
     let roster = roster_of(&mut random);
     let events = events::events_of(&mut random);
     let room = room_for(&events) + 2 - random.below(4).min(room_for(&events) + 2);
-    let (mut proved, mut other) = (vec![0xA5; room], vec![0xA5; room]);
-    let answers = (
-        raw::run(&roster, &events, &mut proved),
-        plain::run(&roster, &events, &mut other),
-    );
+    let mut proved = vec![0xA5; room];
+    let answer = raw::run(&roster, &events, &mut proved);
     let input = || format!("seed {seed}, {}", save("bench-run", seed, &roster, &events));
-    assert_eq!(answers.0, answers.1, "answer of the run, {}", input());
-    assert!(proved == other, "replies, {}", input());
-    assert_eq!(
-        raw::check(&roster),
-        plain::check(&roster),
-        "check, {}",
-        input()
-    );
+    for (name, run, check) in OPPONENTS {
+        let mut other = vec![0xA5; room];
+        let found = run(&roster, &events, &mut other);
+        assert_eq!(answer, found, "answer of the {name} run, {}", input());
+        assert!(proved == other, "replies of the {name} run, {}", input());
+        let checked = (raw::check(&roster), check(&roster));
+        assert_eq!(checked.0, checked.1, "{name} check, {}", input());
+    }
 }
 
 /// Bytes that may be anything: in unread places of a sound state, or anywhere.

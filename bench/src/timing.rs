@@ -1,4 +1,4 @@
-//! Times of the proved and the plain code, in one process and turn by turn: the least of several batches each.
+//! Times of the proved code and its plain opponents, in one process and turn by turn: the least of several batches each.
 
 use std::hint::black_box;
 use std::time::Instant;
@@ -6,7 +6,8 @@ use std::time::Instant;
 use harness::events::REPLY_SIZE;
 
 use crate::cases::{case_of, Mix, REALISTIC, STEP_HEAVY};
-use crate::jobs::Job;
+use crate::jobs::{Call, Job};
+use crate::table::{line, medians, title, Figures};
 
 const TASKS: usize = 32;
 const FEW: usize = 64;
@@ -18,21 +19,6 @@ const SEEDS: u64 = 8;
 const BATCHES: usize = 45;
 const BATCH_NS: u128 = 1_000_000;
 
-/// ns per event, or per roster.
-#[derive(Clone, Copy)]
-struct Times {
-    proved: f64,
-    plain: f64,
-}
-
-impl Times {
-    fn ratio(&self) -> f64 {
-        self.proved / self.plain
-    }
-}
-
-type Call = fn(&Job, &mut [u8]) -> (u8, usize, usize);
-
 fn batch(call: Call, job: &Job, room: &mut [u8], times: usize) -> u128 {
     let start = Instant::now();
     for _ in 0..times {
@@ -42,10 +28,11 @@ fn batch(call: Call, job: &Job, room: &mut [u8], times: usize) -> u128 {
     start.elapsed().as_nanos()
 }
 
-fn times_of(job: &Job) -> Times {
+/// ns per event, or per roster, of each code.
+fn times_of(job: &Job) -> Figures {
     let mut room = job.room();
-    let calls: [Call; 2] = [Job::proved, Job::plain];
-    let mut least = [f64::MAX; 2];
+    let calls = job.codes();
+    let mut least = vec![f64::MAX; calls.len()];
     let once = batch(calls[0], job, &mut room, 8) / 8;
     let times = (BATCH_NS / once.max(1)).max(1) as usize;
     for _ in 0..BATCHES {
@@ -54,40 +41,7 @@ fn times_of(job: &Job) -> Times {
             *best = best.min(took / job.size() as f64);
         }
     }
-    Times {
-        proved: least[0],
-        plain: least[1],
-    }
-}
-
-fn line(label: &str, times: Times) {
-    println!(
-        "{label:<50} {:9.2} {:9.2} {:6.2}",
-        times.proved,
-        times.plain,
-        times.ratio()
-    );
-}
-
-fn median(mut values: Vec<f64>) -> f64 {
-    values.sort_by(f64::total_cmp);
-    values[values.len() / 2]
-}
-
-/// The medians of the seeds, each column by itself, and the ratios' range.
-fn medians(label: &str, all: &[Times]) {
-    let column = |of: fn(&Times) -> f64| all.iter().map(of).collect::<Vec<f64>>();
-    let ratios = column(Times::ratio);
-    let (low, high) = ratios.iter().fold((f64::MAX, 0f64), |(low, high), r| {
-        (low.min(*r), high.max(*r))
-    });
-    println!(
-        "{:<50} {:9.2} {:9.2} {:6.2}  from {low:.2} to {high:.2}",
-        format!("{label}, median of the seeds"),
-        median(column(|t| t.proved)),
-        median(column(|t| t.plain)),
-        median(ratios),
-    );
+    Figures::of(&least)
 }
 
 /// How often each answer came, in percent.
@@ -102,10 +56,6 @@ fn answers(replies: &[u8]) -> String {
         .join(", ")
 }
 
-fn title(what: &str) {
-    println!("\n{what:<50} {:>9} {:>9} {:>6}", "proved", "plain", "ratio");
-}
-
 /// One line for each seed, then the medians.
 fn seeds(label: &str, job_of: impl Fn(u64) -> Job) {
     let mut all = Vec::new();
@@ -117,7 +67,7 @@ fn seeds(label: &str, job_of: impl Fn(u64) -> Job) {
             _ => String::new(),
         };
         let times = times_of(&job);
-        line(&format!("{label}, seed {seed}{told}"), times);
+        line(&format!("{label}, seed {seed}{told}"), &times);
         all.push(times);
     }
     medians(label, &all);
@@ -130,31 +80,31 @@ fn runs(mix: Mix, count: usize) {
 }
 
 fn print_by_size() {
-    title("a run, ns per event, by the number of tasks");
+    title("a run, ns per event, by the number of tasks", true);
     for tasks in [1, 2, 4, 8, 16, 32] {
         let job = Job::Run(case_of(100, REALISTIC, tasks, MANY));
         job.same("seed 100");
         line(
             &format!("realistic, {tasks} tasks, {MANY} events"),
-            times_of(&job),
+            &times_of(&job),
         );
     }
-    title("a run, ns per event, by the number of events");
+    title("a run, ns per event, by the number of events", true);
     for count in [64, 256, 1024, 4096] {
         let job = Job::Run(case_of(200, REALISTIC, TASKS, count));
         job.same("seed 200");
         line(
             &format!("realistic, {TASKS} tasks, {count} events"),
-            times_of(&job),
+            &times_of(&job),
         );
     }
 }
 
 pub fn print() {
     println!(
-        "each time is the least of {BATCHES} batches, the proved and the plain code turn by turn"
+        "each time is the least of {BATCHES} batches, the proved and the plain codes turn by turn"
     );
-    title(&format!("a run, ns per event, {TASKS} tasks"));
+    title(&format!("a run, ns per event, {TASKS} tasks"), true);
     for (mix, count) in [
         (REALISTIC, FEW),
         (REALISTIC, MANY),
@@ -164,13 +114,12 @@ pub fn print() {
         runs(mix, count);
     }
     print_by_size();
-    title(&format!("the check, ns per roster, {TASKS} tasks"));
+    title(&format!("the check, ns per roster, {TASKS} tasks"), true);
     seeds("check", |seed| {
         Job::Check(case_of(seed, REALISTIC, TASKS, 0).roster)
     });
-    title(&format!(
-        "events on a state as bytes, ns per event, {TASKS} tasks"
-    ));
+    let on_bytes = format!("events on a state as bytes, ns per event, {TASKS} tasks");
+    title(&on_bytes, false);
     for mix in [REALISTIC, STEP_HEAVY] {
         seeds(&format!("{}, on bytes", mix.name), |seed| {
             Job::history(&case_of(seed, mix, TASKS, ON_BYTES))

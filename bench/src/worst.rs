@@ -16,7 +16,7 @@ use second::sound::is_sound;
 use second::state::State;
 
 use crate::cases::{event_of, Case};
-use crate::counting::{counts_of, Counts};
+use crate::counting::{counts_of, Counts, WITHOUT_LEAN};
 use crate::jobs::Job;
 
 /// The kinds of events, and Again, which is a step of a run and no event on a state.
@@ -557,23 +557,24 @@ struct Worst {
 }
 
 impl Worst {
-    fn take(&mut self, place: usize, counts: Counts, name: &str) {
-        self.plain[place] = self.plain[place].max(counts.plain);
-        if counts.proved > self.proved[place] {
-            self.proved[place] = counts.proved;
+    fn take(&mut self, place: usize, proved: u64, plain: u64, name: &str) {
+        self.plain[place] = self.plain[place].max(plain);
+        if proved > self.proved[place] {
+            self.proved[place] = proved;
             self.names[place] = name.to_string();
         }
     }
 
     fn take_all(&mut self, counts: &[Counts], name: &str) {
-        let in_run = Counts {
-            proved: counts[1].proved.saturating_sub(counts[0].proved),
-            plain: counts[1].plain.saturating_sub(counts[0].plain),
-        };
-        self.take(0, in_run, name);
-        let on_bytes = &counts[2..];
-        on_bytes.iter().take(1).for_each(|c| self.take(1, *c, name));
-        on_bytes.iter().for_each(|c| self.take(2, *c, name));
+        let in_run = |code: usize| counts[1][code].saturating_sub(counts[0][code]);
+        self.take(0, in_run(0), in_run(1), name);
+        for (i, on_bytes) in counts[2..].iter().enumerate() {
+            let (proved, plain) = (on_bytes[0], on_bytes[1]);
+            if i == 0 {
+                self.take(1, proved, plain, name);
+            }
+            self.take(2, proved, plain, name);
+        }
     }
 }
 
@@ -586,7 +587,7 @@ pub fn print() {
     }
     let jobs: Vec<Job> = self::jobs();
     println!("\ninstructions of a single event, the worst found by {} constructed states of 32 tasks and up to 16 objects", all.len());
-    let counts = match counts_of(&jobs, "worst") {
+    let counts = match counts_of(&jobs, "worst", WITHOUT_LEAN) {
         Ok(counts) => counts,
         Err(why) => return println!("not counted: {why}"),
     };
