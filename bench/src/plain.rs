@@ -6,11 +6,18 @@
 
 const MOST_TASKS: usize = 32;
 const MOST_OBJECTS: usize = 16;
+const MOST_PRIORITIES: usize = 32;
 const LARGEST: usize = 32_768;
 const LONGEST_ADVANCE: u64 = 86_400_000;
 const TRAILER: usize = 8;
 const NOBODY: u8 = 255;
 const REPLY: usize = 3;
+
+/// The most frequent step, which is tested before the others.
+const WORK: u32 = 4;
+
+/// The record of a Step, which has no unused field but 0.
+const STEP: u64 = 3;
 
 /// Number, task and step.
 pub type Answer = (u8, usize, usize);
@@ -74,75 +81,142 @@ fn shape_of(roster: &[u8]) -> Result<Shape, u8> {
     Ok(shape)
 }
 
-fn step_is_good(step: &[u8], last: bool, tasks: usize, objects: usize) -> bool {
-    let (a, b) = (step[1] as usize, word(step, 2));
-    match step[0] {
-        1 | 2 => a < objects && b == 0,
-        3 => a == 0,
-        4 | 5 => a == 0 && b == 0,
-        6 => a < tasks && b == 0,
-        7 => a < tasks && (1..=32).contains(&b),
-        8 => a == 0 && b == 0 && last,
-        _ => false,
-    }
+/// The operands of a step that should have this code: a wrong code is moved into the highest bits, where no operand is.
+fn operands(s: u32, code: u32) -> u32 {
+    (s ^ code).rotate_right(8)
 }
 
-/// What is wrong with one script, and at which step: 17 to 20.
-fn script_fault(script: &[u8], t: usize, base: u8, ceilings: &[u8]) -> Option<(u8, usize)> {
-    let sets = script
-        .chunks_exact(4)
-        .filter(|s| s[0] == 7 && s[1] as usize == t);
-    let top = sets.fold(base, |most, s| most.max(s[2]));
-    let mut held = [0u8; MOST_OBJECTS];
-    let mut levels = [0u8; MOST_OBJECTS];
-    let mut depth = 0;
-    for (k, s) in script.chunks_exact(4).enumerate() {
-        let a = s[1] as usize;
-        match s[0] {
-            1 => {
-                if held[..depth].contains(&s[1]) {
-                    return Some((17, k));
+/// The highest of a base and the own Set values of its script, or the first step that is none: 16.
+fn form(script: &[[u8; 4]], own_set: u32, base: u8, shape: &Shape) -> Result<u8, usize> {
+    let (tasks, objects) = (shape.tasks as u32, shape.objects as u32);
+    let mut highest = base;
+    let mut steps = script.iter();
+    while let Some(step) = steps.next() {
+        let s = u32::from_le_bytes(*step);
+        let good = match s % 8 {
+            1 => operands(s, 1) < objects,
+            2 => operands(s, 2) < objects,
+            3 => s as u16 == 3,
+            4 => s == 4,
+            5 => s == 5,
+            6 => operands(s, 6) < tasks,
+            7 => {
+                if s & 0xFFFF == own_set {
+                    highest = highest.max((s >> 16) as u8);
                 }
-                let level = if depth == 0 { top } else { levels[depth - 1] };
-                if ceilings[2 * a] < level {
-                    return Some((18, k));
-                }
-                held[depth] = s[1];
-                levels[depth] = ceilings[2 * a];
-                depth += 1;
+                let priority = s >> 16;
+                s as u8 == 7 && s >> 8 & 0xFF < tasks && (1..=32).contains(&priority)
             }
-            2 => {
-                if depth == 0 || held[depth - 1] != s[1] {
-                    return Some((19, k));
-                }
-                depth -= 1;
-            }
-            3 | 5 | 8 if depth > 0 => return Some((17, k)),
-            7 if a != t => return Some((20, k)),
-            _ => {}
+            _ => s == 8 && steps.as_slice().is_empty(),
+        };
+        if !good {
+            return Err(script.len() - steps.as_slice().len() - 1);
         }
     }
-    (depth > 0).then_some((17, script.len() / 4))
+    Ok(highest)
 }
 
+/// What a script holds while it is walked through. The innermost object is kept as the step that leaves it, or 0, with the priority
+/// inside it above that; an object that is held keeps what was innermost before it.
+struct Holding {
+    ceilings: [u8; MOST_OBJECTS],
+    innermost: u64,
+    outer: [u64; MOST_OBJECTS],
+}
+
+/// For an object that is not held.
+const FREE: u64 = u64::MAX;
+
+impl Holding {
+    /// 17 or 18, or 0.
+    fn enter(&mut self, s: u32) -> u8 {
+        let o = s as usize / 256 % MOST_OBJECTS;
+        if self.outer[o] != FREE {
+            return 17;
+        }
+        let ceiling = self.ceilings[o] as u64;
+        if ceiling < self.innermost >> 32 {
+            return 18;
+        }
+        self.outer[o] = self.innermost;
+        // Leave is 2 where Enter is 1
+        self.innermost = ceiling << 32 | (s ^ 3) as u64;
+        0
+    }
+
+    fn leave(&mut self, s: u32) -> u8 {
+        if s != self.innermost as u32 {
+            return 19;
+        }
+        let o = s as usize / 256 % MOST_OBJECTS;
+        self.innermost = self.outer[o];
+        self.outer[o] = FREE;
+        0
+    }
+
+    fn holds(&self) -> bool {
+        self.innermost as u32 != 0
+    }
+
+    /// What is wrong with one script, and at which step: 17 to 20. Its steps have the form of steps.
+    fn fault(&mut self, script: &[[u8; 4]], own_set: u32, highest: u8) -> Option<(u8, usize)> {
+        self.innermost = (highest as u64) << 32;
+        let mut steps = script.iter();
+        while let Some(step) = steps.next() {
+            let s = u32::from_le_bytes(*step);
+            if s == WORK {
+                continue;
+            }
+            let number = match s % 8 {
+                1 => self.enter(s),
+                2 => self.leave(s),
+                3 | 5 | 0 if self.holds() => 17,
+                7 if s & 0xFFFF != own_set => 20,
+                _ => 0,
+            };
+            if number != 0 {
+                return Some((number, script.len() - steps.as_slice().len() - 1));
+            }
+        }
+        self.holds().then_some((17, script.len()))
+    }
+}
+
+/// The step of a task that sets its own base, without the value.
+fn own_set(t: usize) -> u32 {
+    7 | (t as u32) << 8
+}
+
+fn ceilings_of(roster: &[u8], shape: &Shape) -> [u8; MOST_OBJECTS] {
+    let mut ceilings = [0; MOST_OBJECTS];
+    let rows = roster[shape.object_table..].chunks_exact(2);
+    for (ceiling, row) in ceilings[..shape.objects].iter_mut().zip(rows) {
+        *ceiling = row[0];
+    }
+    ceilings
+}
+
+fn script_of<'a>(roster: &'a [u8], row: &[u8]) -> &'a [[u8; 4]] {
+    let start = word(row, 2);
+    roster[start..start + word(row, 4)].as_chunks().0
+}
+
+/// The form of all scripts comes first, then what they do.
 fn checked(roster: &[u8]) -> Result<Shape, Answer> {
     let shape = shape_of(roster).map_err(|number| (number, 0, 0))?;
-    let rows = &roster[shape.task_table..shape.object_table];
-    let script = |row: &[u8]| {
-        let start = word(row, 2);
-        &roster[start..start + word(row, 4)]
-    };
-    for (t, row) in rows.chunks_exact(6).enumerate() {
-        let count = word(row, 4) / 4;
-        for (k, step) in script(row).chunks_exact(4).enumerate() {
-            if !step_is_good(step, k + 1 == count, shape.tasks, shape.objects) {
-                return Err((16, t, k));
-            }
-        }
+    let rows = roster[shape.task_table..shape.object_table].chunks_exact(6);
+    let mut highest = [0; MOST_TASKS];
+    for (t, row) in rows.clone().enumerate() {
+        let found = form(script_of(roster, row), own_set(t), row[0], &shape);
+        highest[t] = found.map_err(|k| (16, t, k))?;
     }
-    let ceilings = &roster[shape.object_table..roster.len() - TRAILER];
-    for (t, row) in rows.chunks_exact(6).enumerate() {
-        if let Some((number, k)) = script_fault(script(row), t, row[0], ceilings) {
+    let mut holding = Holding {
+        ceilings: ceilings_of(roster, &shape),
+        innermost: 0,
+        outer: [FREE; MOST_OBJECTS],
+    };
+    for (t, row) in rows.enumerate() {
+        if let Some((number, k)) = holding.fault(script_of(roster, row), own_set(t), highest[t]) {
             return Err((number, t, k));
         }
     }
@@ -154,20 +228,30 @@ pub fn check(roster: &[u8]) -> Answer {
     checked(roster).map_or_else(|refusal| refusal, |_| (0, 0, 0))
 }
 
-fn value_of(record: &[u8]) -> u64 {
-    u64::from_le_bytes(record.try_into().unwrap()) >> 16
+/// For each kind of event, the bits of a record that have to be 0; for what is no kind, the kind itself.
+const UNUSED: [u64; 256] = {
+    let mut masks = [0xFF; 256];
+    masks[1] = 0xFF00;
+    masks[2] = 0xFFFF_FFFF_FFFF_0000;
+    masks[3] = 0xFFFF_FFFF_FFFF_FF00;
+    masks[4] = 0;
+    masks
+};
+
+/// A kind: where the bits of no kind are looked at, they differ from it.
+const SOME_KIND: u64 = 4;
+
+fn record(e: &[u8]) -> u64 {
+    u64::from_le_bytes(e.try_into().unwrap())
 }
 
+/// Without jumps: what is wrong with any record is or-ed together.
 fn events_are_good(events: &[u8]) -> bool {
+    let wrong = |e: u64| (e ^ SOME_KIND) & UNUSED[e as u8 as usize];
+    let records = events.chunks_exact(8);
     events.len().is_multiple_of(8)
         && events.len() <= LARGEST
-        && events.chunks_exact(8).all(|e| match e[0] {
-            1 => e[1] == 0,
-            2 => value_of(e) == 0,
-            3 => e[1] == 0 && value_of(e) == 0,
-            4 => true,
-            _ => false,
-        })
+        && records.fold(0, |bad, e| bad | wrong(record(e))) == 0
 }
 
 #[derive(Clone, Copy, PartialEq)]
@@ -179,12 +263,30 @@ enum Place {
     Ended,
 }
 
+/// A ready queue as a ring: the cells from `first` to before `end`, both counted on and on and taken modulo the size. Each has a
+/// cache line of its own.
+#[derive(Clone, Copy)]
+#[repr(align(64))]
+struct Queue {
+    first: u8,
+    end: u8,
+    cells: [u8; MOST_TASKS],
+}
+
+impl Queue {
+    const EMPTY: Queue = Queue {
+        first: 0,
+        end: 0,
+        cells: [0; MOST_TASKS],
+    };
+}
+
 /// All that a run changes. Queues are rings; a bit of `marks` per nonempty queue, of `delayed` per delayed task.
-struct Machine {
+struct Machine<'a> {
     now: u64,
     running: u8,
-    /// Whether the dispatch of this event has sent the running task to the head of its queue.
-    preempted: bool,
+    /// What this event reports.
+    report: u8,
     tasks: usize,
     place: [Place; MOST_TASKS],
     base: [u8; MOST_TASKS],
@@ -197,21 +299,22 @@ struct Machine {
     held: [[u8; MOST_OBJECTS]; MOST_TASKS],
     depth: [u8; MOST_TASKS],
     ceilings: [u8; MOST_OBJECTS],
-    queues: [[u8; MOST_TASKS]; 33],
-    heads: [u8; 33],
-    lengths: [u8; 33],
+    /// The queue for priority 32 is the first.
+    queues: [Queue; MOST_PRIORITIES],
     marks: u64,
-    start: [u16; MOST_TASKS],
-    length: [u16; MOST_TASKS],
-    position: [u16; MOST_TASKS],
+    /// Each task's script, and what is left of it.
+    scripts: [Script<'a>; MOST_TASKS],
+    left: [Script<'a>; MOST_TASKS],
 }
 
-impl Machine {
-    fn new(roster: &[u8], shape: &Shape) -> Machine {
+type Script<'a> = std::slice::Iter<'a, [u8; 4]>;
+
+impl<'a> Machine<'a> {
+    fn new(roster: &'a [u8], shape: &Shape) -> Machine<'a> {
         let mut m = Machine {
             now: 0,
             running: NOBODY,
-            preempted: false,
+            report: 0,
             tasks: shape.tasks,
             place: [Place::Ready; MOST_TASKS],
             base: [0; MOST_TASKS],
@@ -223,92 +326,110 @@ impl Machine {
             next_due: u64::MAX,
             held: [[0; MOST_OBJECTS]; MOST_TASKS],
             depth: [0; MOST_TASKS],
-            ceilings: [0; MOST_OBJECTS],
-            queues: [[0; MOST_TASKS]; 33],
-            heads: [0; 33],
-            lengths: [0; 33],
+            ceilings: ceilings_of(roster, shape),
+            queues: [Queue::EMPTY; MOST_PRIORITIES],
             marks: 0,
-            start: [0; MOST_TASKS],
-            length: [0; MOST_TASKS],
-            position: [0; MOST_TASKS],
+            scripts: std::array::from_fn(|_| [].iter()),
+            left: std::array::from_fn(|_| [].iter()),
         };
-        let ceilings = &roster[shape.object_table..roster.len() - TRAILER];
-        for (o, row) in ceilings.chunks_exact(2).enumerate() {
-            m.ceilings[o] = row[0];
-        }
         let rows = &roster[shape.task_table..shape.object_table];
         for (t, row) in rows.chunks_exact(6).enumerate() {
             m.base[t] = row[0];
             m.active[t] = row[0];
-            m.start[t] = word(row, 2) as u16;
-            m.length[t] = word(row, 4) as u16;
+            m.scripts[t] = script_of(roster, row).iter();
+            m.left[t] = m.scripts[t].clone();
             m.push_tail(t);
         }
-        m.dispatch();
+        m.pick();
         m
     }
 
     fn push_tail(&mut self, t: usize) {
-        let p = self.active[t] as usize;
-        let at = (self.heads[p] + self.lengths[p]) as usize % MOST_TASKS;
-        self.queues[p][at] = t as u8;
-        self.lengths[p] += 1;
+        let p = self.active[t];
+        let queue = &mut self.queues[p as usize % MOST_PRIORITIES];
+        queue.cells[queue.end as usize % MOST_TASKS] = t as u8;
+        queue.end = queue.end.wrapping_add(1);
         self.marks |= 1 << p;
         self.place[t] = Place::Ready;
     }
 
     fn push_head(&mut self, t: usize) {
-        let p = self.active[t] as usize;
-        self.heads[p] = (self.heads[p] + 31) % 32;
-        self.queues[p][self.heads[p] as usize] = t as u8;
-        self.lengths[p] += 1;
+        let p = self.active[t];
+        let queue = &mut self.queues[p as usize % MOST_PRIORITIES];
+        queue.first = queue.first.wrapping_sub(1);
+        queue.cells[queue.first as usize % MOST_TASKS] = t as u8;
         self.marks |= 1 << p;
         self.place[t] = Place::Ready;
     }
 
     fn pop(&mut self, p: usize) -> u8 {
-        let t = self.queues[p][self.heads[p] as usize];
-        self.heads[p] = (self.heads[p] + 1) % 32;
-        self.lengths[p] -= 1;
-        if self.lengths[p] == 0 {
+        let queue = &mut self.queues[p % MOST_PRIORITIES];
+        let t = queue.cells[queue.first as usize % MOST_TASKS];
+        queue.first = queue.first.wrapping_add(1);
+        if queue.first == queue.end {
             self.marks &= !(1 << p);
         }
         t
     }
 
     fn take_out(&mut self, t: usize) {
-        let p = self.active[t] as usize;
-        let head = self.heads[p] as usize;
-        let count = self.lengths[p] as usize;
-        let mut i = 0;
-        while self.queues[p][(head + i) % 32] != t as u8 {
-            i += 1;
+        let p = self.active[t];
+        let queue = &mut self.queues[p as usize % MOST_PRIORITIES];
+        let mut i = queue.first;
+        while queue.cells[i as usize % MOST_TASKS] != t as u8 {
+            i = i.wrapping_add(1);
         }
-        while i + 1 < count {
-            self.queues[p][(head + i) % 32] = self.queues[p][(head + i + 1) % 32];
-            i += 1;
+        queue.end = queue.end.wrapping_sub(1);
+        while i != queue.end {
+            let next = i.wrapping_add(1);
+            queue.cells[i as usize % MOST_TASKS] = queue.cells[next as usize % MOST_TASKS];
+            i = next;
         }
-        self.lengths[p] -= 1;
-        if self.lengths[p] == 0 {
+        if queue.first == queue.end {
             self.marks &= !(1 << p);
         }
     }
 
-    fn dispatch(&mut self) {
-        if self.marks == 0 {
-            return;
+    /// The head of the highest queue, which is not empty, runs.
+    fn run_head(&mut self, p: usize) {
+        self.running = self.pop(p);
+        self.place[self.running as usize % MOST_TASKS] = Place::Running;
+    }
+
+    /// The highest priority whose queue is not empty, or 0.
+    fn highest(&self) -> usize {
+        (self.marks | 1).ilog2() as usize
+    }
+
+    /// The running task has stopped: the head of the highest queue runs, or nobody.
+    fn pick(&mut self) {
+        let before = self.running;
+        let highest = self.highest();
+        if highest == 0 {
+            self.running = NOBODY;
+        } else {
+            self.run_head(highest);
         }
-        let top = 63 - self.marks.leading_zeros() as usize;
-        if self.running != NOBODY {
-            let t = self.running as usize;
-            if self.active[t] as usize >= top {
-                return;
-            }
+        self.report = 2 * (self.running != before) as u8;
+    }
+
+    /// The running task goes on, unless a higher one is ready.
+    fn preempt(&mut self, t: usize) {
+        let highest = self.highest();
+        if highest > self.active[t] as usize {
             self.push_head(t);
-            self.preempted = true;
+            self.run_head(highest);
+            self.report = 1;
         }
-        self.running = self.pop(top);
-        self.place[self.running as usize] = Place::Running;
+    }
+
+    fn dispatch(&mut self) {
+        let t = self.running as usize;
+        if t < MOST_TASKS {
+            self.preempt(t);
+        } else {
+            self.pick();
+        }
     }
 
     fn clock(&mut self, r: u64) -> u8 {
@@ -344,21 +465,17 @@ impl Machine {
         }
     }
 
-    fn release(&mut self, t: usize) -> u8 {
-        if t >= self.tasks {
-            return 1;
-        }
+    fn release(&mut self, t: usize) {
         if self.place[t] == Place::Suspended {
             self.push_tail(t);
             self.dispatch();
         } else {
             self.permits |= 1 << t;
         }
-        0
     }
 
     fn set(&mut self, t: usize, p: u64) -> u8 {
-        if t >= self.tasks {
+        if t >= self.tasks || t >= MOST_TASKS {
             return 1;
         }
         if !(1..=32).contains(&p) {
@@ -392,29 +509,40 @@ impl Machine {
     fn rebase_running(&mut self, t: usize, p: u8) {
         self.base[t] = p;
         self.active[t] = p;
-        self.running = NOBODY;
         self.push_tail(t);
-        self.dispatch();
+        self.pick();
+    }
+
+    fn enter(&mut self, t: usize, o: usize) -> u8 {
+        let ceiling = self.ceilings[o];
+        if self.active[t] > ceiling {
+            self.repeat(t);
+            return 8;
+        }
+        self.held[t][self.depth[t] as usize % MOST_OBJECTS] = o as u8;
+        self.depth[t] += 1;
+        self.active[t] = ceiling;
+        0
     }
 
     fn leave(&mut self, t: usize) {
         self.depth[t] -= 1;
         let depth = self.depth[t] as usize;
         if depth > 0 {
-            self.active[t] = self.ceilings[self.held[t][depth - 1] as usize];
-            self.dispatch();
+            let innermost = self.held[t][(depth - 1) % MOST_OBJECTS];
+            self.active[t] = self.ceilings[innermost as usize % MOST_OBJECTS];
+            self.preempt(t);
         } else if self.waiting[t] != 0 {
             let p = self.waiting[t];
             self.waiting[t] = 0;
             self.rebase_running(t, p);
         } else {
             self.active[t] = self.base[t];
-            self.dispatch();
+            self.preempt(t);
         }
     }
 
     fn put_off(&mut self, t: usize, d: u64) {
-        self.running = NOBODY;
         if d == 0 {
             self.push_tail(t);
         } else {
@@ -423,56 +551,71 @@ impl Machine {
             self.delayed |= 1 << t;
             self.next_due = self.next_due.min(self.due[t]);
         }
-        self.dispatch();
+        self.pick();
     }
 
-    fn step(&mut self, roster: &[u8]) -> u8 {
-        if self.running == NOBODY {
+    fn suspend(&mut self, t: usize) {
+        if self.permits & 1 << t != 0 {
+            self.permits &= !(1 << t);
+        } else {
+            self.place[t] = Place::Suspended;
+            self.pick();
+        }
+    }
+
+    fn finish(&mut self, t: usize) {
+        self.place[t] = Place::Ended;
+        self.pick();
+    }
+
+    /// The step just taken is the next one again.
+    fn repeat(&mut self, t: usize) {
+        let script = self.scripts[t].as_slice();
+        self.left[t] = script[script.len() - self.left[t].len() - 1..].iter();
+    }
+
+    fn step(&mut self) -> u8 {
+        let t = self.running as usize;
+        if t >= MOST_TASKS {
             return 5;
         }
-        let t = self.running as usize;
-        let position = self.position[t];
-        if position >= self.length[t] {
-            self.running = NOBODY;
-            self.place[t] = Place::Ended;
-            self.dispatch();
+        let Some(step) = self.left[t].next() else {
+            self.finish(t);
+            return 0;
+        };
+        let s = u32::from_le_bytes(*step);
+        if s == WORK {
             return 0;
         }
-        let at = (self.start[t] + position) as usize;
-        let s: [u8; 4] = roster[at..at + 4].try_into().unwrap();
-        let (a, b) = (s[1] as usize, u16::from_le_bytes([s[2], s[3]]));
-        self.position[t] = position + 4;
-        match s[0] {
-            1 => {
-                if self.active[t] > self.ceilings[a] {
-                    self.position[t] = position;
-                    return 8;
-                }
-                self.held[t][self.depth[t] as usize] = a as u8;
-                self.depth[t] += 1;
-                self.active[t] = self.ceilings[a];
-            }
+        let value = || (s >> 16) as u64;
+        match s % 8 {
+            1 => return self.enter(t, s as usize / 256 % MOST_OBJECTS),
             2 => self.leave(t),
-            3 => self.put_off(t, b as u64),
-            5 => {
-                if self.permits & 1 << t != 0 {
-                    self.permits &= !(1 << t);
-                } else {
-                    self.running = NOBODY;
-                    self.place[t] = Place::Suspended;
-                    self.dispatch();
-                }
-            }
-            6 => {
-                self.release(a);
-            }
+            3 => self.put_off(t, value()),
+            5 => self.suspend(t),
+            6 => self.release(s as usize / 256 % MOST_TASKS),
             7 => {
-                self.set(t, b as u64);
+                self.set(t, value());
             }
-            8 => self.position[t] = 0,
+            // Again is 8
+            0 => self.left[t] = self.scripts[t].clone(),
             _ => {}
         }
         0
+    }
+
+    /// An event that is no Step.
+    fn take_outside(&mut self, event: u64) -> u8 {
+        let (a, value) = ((event >> 8) as u8 as usize, event >> 16);
+        match event as u8 {
+            1 => self.clock(value),
+            2 if a >= self.tasks || a >= MOST_TASKS => 1,
+            2 => {
+                self.release(a);
+                0
+            }
+            _ => self.set(a, value),
+        }
     }
 }
 
@@ -490,20 +633,13 @@ pub fn run(roster: &[u8], events: &[u8], buffer: &mut [u8]) -> Answer {
     }
     let mut m = Machine::new(roster, &shape);
     for (e, reply) in events.chunks_exact(8).zip(buffer.chunks_exact_mut(REPLY)) {
-        let before = m.running;
-        m.preempted = false;
-        reply[0] = match e[0] {
-            1 => m.clock(value_of(e)),
-            2 => m.release(e[1] as usize),
-            3 => m.step(roster),
-            _ => m.set(e[1] as usize, value_of(e)),
+        m.report = 0;
+        reply[0] = match record(e) {
+            STEP => m.step(),
+            event => m.take_outside(event),
         };
         reply[1] = m.running;
-        reply[2] = if m.preempted {
-            1
-        } else {
-            2 * (m.running != before) as u8
-        };
+        reply[2] = m.report;
     }
     (0, 0, 0)
 }
