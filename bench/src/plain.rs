@@ -13,6 +13,9 @@ const TRAILER: usize = 8;
 const NOBODY: u8 = 255;
 const REPLY: usize = 3;
 
+/// A delayed task's due time is multiplied by this, its number added: the order in which they wake.
+const KEY: u64 = MOST_TASKS as u64;
+
 /// The most frequent step, which is tested before the others.
 const WORK: u32 = 4;
 
@@ -81,36 +84,52 @@ fn shape_of(roster: &[u8]) -> Result<Shape, u8> {
     Ok(shape)
 }
 
-/// The operands of a step that should have this code: a wrong code is moved into the highest bits, where no operand is.
-fn operands(s: u32, code: u32) -> u32 {
-    (s ^ code).rotate_right(8)
+/// By code, what the operands of a step have to be below, so that most steps need one comparison; 0 where another test is needed, or
+/// where there is no such code.
+type Limits = [u8; 256];
+
+fn limits_of(shape: &Shape) -> Limits {
+    let mut limits = [0; 256];
+    limits[1] = shape.objects as u8;
+    limits[2] = shape.objects as u8;
+    limits[4] = 1;
+    limits[5] = 1;
+    limits[6] = shape.tasks as u8;
+    limits
+}
+
+/// Whether a step that no limit allows is one all the same: a Delay, a Set, or an Again at the end.
+fn other_is_good(s: u32, last: bool, tasks: usize) -> bool {
+    let (a, b) = (s as usize / 256 % 256, s >> 16);
+    match s as u8 {
+        3 => a == 0,
+        7 => a < tasks && (1..=32).contains(&b),
+        8 => s == 8 && last,
+        _ => false,
+    }
 }
 
 /// The highest of a base and the own Set values of its script, or the first step that is none: 16.
-fn form(script: &[[u8; 4]], own_set: u32, base: u8, shape: &Shape) -> Result<u8, usize> {
-    let (tasks, objects) = (shape.tasks as u32, shape.objects as u32);
+fn form(
+    script: &[[u8; 4]],
+    t: usize,
+    base: u8,
+    tasks: usize,
+    limits: &Limits,
+) -> Result<u8, usize> {
     let mut highest = base;
     let mut steps = script.iter();
     while let Some(step) = steps.next() {
         let s = u32::from_le_bytes(*step);
-        let good = match s % 8 {
-            1 => operands(s, 1) < objects,
-            2 => operands(s, 2) < objects,
-            3 => s as u16 == 3,
-            4 => s == 4,
-            5 => s == 5,
-            6 => operands(s, 6) < tasks,
-            7 => {
-                if s & 0xFFFF == own_set {
-                    highest = highest.max((s >> 16) as u8);
-                }
-                let priority = s >> 16;
-                s as u8 == 7 && s >> 8 & 0xFF < tasks && (1..=32).contains(&priority)
-            }
-            _ => s == 8 && steps.as_slice().is_empty(),
-        };
-        if !good {
-            return Err(script.len() - steps.as_slice().len() - 1);
+        if s >> 8 < limits[s as u8 as usize] as u32 {
+            continue;
+        }
+        let left = steps.as_slice().len();
+        if !other_is_good(s, left == 0, tasks) {
+            return Err(script.len() - left - 1);
+        }
+        if s & 0xFFFF == own_set(t) {
+            highest = highest.max((s >> 16) as u8);
         }
     }
     Ok(highest)
@@ -201,13 +220,14 @@ fn script_of<'a>(roster: &'a [u8], row: &[u8]) -> &'a [[u8; 4]] {
     roster[start..start + word(row, 4)].as_chunks().0
 }
 
-/// The form of all scripts comes first, then what they do.
+/// The form of all scripts comes first, then what they do, in the order of the answers.
 fn checked(roster: &[u8]) -> Result<Shape, Answer> {
     let shape = shape_of(roster).map_err(|number| (number, 0, 0))?;
     let rows = roster[shape.task_table..shape.object_table].chunks_exact(6);
+    let limits = limits_of(&shape);
     let mut highest = [0; MOST_TASKS];
     for (t, row) in rows.clone().enumerate() {
-        let found = form(script_of(roster, row), own_set(t), row[0], &shape);
+        let found = form(script_of(roster, row), t, row[0], shape.tasks, &limits);
         highest[t] = found.map_err(|k| (16, t, k))?;
     }
     let mut holding = Holding {
@@ -281,7 +301,8 @@ impl Queue {
     };
 }
 
-/// All that a run changes. Queues are rings; a bit of `marks` per nonempty queue, of `delayed` per delayed task.
+/// All that a run changes: the whole state of the rules, and beside it what is kept so that it need not be worked out again: the active
+/// priorities, the next due time, and a bit of `marks` per nonempty queue.
 struct Machine<'a> {
     now: u64,
     running: u8,
@@ -292,10 +313,12 @@ struct Machine<'a> {
     base: [u8; MOST_TASKS],
     active: [u8; MOST_TASKS],
     waiting: [u8; MOST_TASKS],
-    permits: u32,
-    due: [u64; MOST_TASKS],
-    delayed: u32,
+    permit: [bool; MOST_TASKS],
+    /// Due times of the delayed tasks, each with the task's number below it, the next to wake last.
+    delayed: [u64; MOST_TASKS],
+    sleepers: usize,
     next_due: u64,
+    /// The objects held, outermost first, and how many.
     held: [[u8; MOST_OBJECTS]; MOST_TASKS],
     depth: [u8; MOST_TASKS],
     ceilings: [u8; MOST_OBJECTS],
@@ -320,9 +343,9 @@ impl<'a> Machine<'a> {
             base: [0; MOST_TASKS],
             active: [0; MOST_TASKS],
             waiting: [0; MOST_TASKS],
-            permits: 0,
-            due: [0; MOST_TASKS],
-            delayed: 0,
+            permit: [false; MOST_TASKS],
+            delayed: [0; MOST_TASKS],
+            sleepers: 0,
             next_due: u64::MAX,
             held: [[0; MOST_OBJECTS]; MOST_TASKS],
             depth: [0; MOST_TASKS],
@@ -433,7 +456,8 @@ impl<'a> Machine<'a> {
     }
 
     fn clock(&mut self, r: u64) -> u8 {
-        if r < self.now || r - self.now > LONGEST_ADVANCE {
+        // a reading below now is far above it when wrapped
+        if r.wrapping_sub(self.now) > LONGEST_ADVANCE {
             return 4;
         }
         self.now = r;
@@ -446,22 +470,14 @@ impl<'a> Machine<'a> {
 
     /// Everybody due, by due time, lower number first when equal.
     fn wake(&mut self, r: u64) {
-        loop {
-            let (mut first, mut least) = (MOST_TASKS, u64::MAX);
-            let mut left = self.delayed;
-            while left != 0 {
-                let t = left.trailing_zeros() as usize;
-                left &= left - 1;
-                if self.due[t] < least {
-                    (first, least) = (t, self.due[t]);
-                }
-            }
-            self.next_due = least;
-            if least > r || first == MOST_TASKS {
+        self.next_due = u64::MAX;
+        while let Some(&key) = self.delayed[..self.sleepers].last() {
+            if key / KEY > r {
+                self.next_due = key / KEY;
                 return;
             }
-            self.delayed &= !(1 << first);
-            self.push_tail(first);
+            self.sleepers -= 1;
+            self.push_tail((key % KEY) as usize);
         }
     }
 
@@ -470,7 +486,7 @@ impl<'a> Machine<'a> {
             self.push_tail(t);
             self.dispatch();
         } else {
-            self.permits |= 1 << t;
+            self.permit[t] = true;
         }
     }
 
@@ -546,17 +562,24 @@ impl<'a> Machine<'a> {
         if d == 0 {
             self.push_tail(t);
         } else {
+            let due = self.now + d;
             self.place[t] = Place::Delayed;
-            self.due[t] = self.now + d;
-            self.delayed |= 1 << t;
-            self.next_due = self.next_due.min(self.due[t]);
+            self.next_due = self.next_due.min(due);
+            let key = due * KEY + t as u64;
+            let mut i = self.sleepers;
+            self.sleepers += 1;
+            while i > 0 && self.delayed[i - 1] < key {
+                self.delayed[i] = self.delayed[i - 1];
+                i -= 1;
+            }
+            self.delayed[i] = key;
         }
         self.pick();
     }
 
     fn suspend(&mut self, t: usize) {
-        if self.permits & 1 << t != 0 {
-            self.permits &= !(1 << t);
+        if self.permit[t] {
+            self.permit[t] = false;
         } else {
             self.place[t] = Place::Suspended;
             self.pick();
