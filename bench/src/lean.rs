@@ -1,4 +1,4 @@
-//! A leaner run in plain Rust than `plain`: as little work as the same three bytes per event can be had for, timed beside the proved run.
+//! A leaner run in plain Rust than `plain`: it keeps less and so does less for the same bytes; timed beside the proved run as well.
 //!
 //! It keeps only what the replies need: no lists of held objects, no bases, a place only where a task is away. What it leaves out it takes
 //! from facts about whole runs: the check, after which no Step is refused with 1, 2, 3, 6, 7 or 9, and the proved theorem that an object
