@@ -4,6 +4,10 @@
 //! time and held objects, outermost first; the ready queues in order; now and who is running. It relies on the check, which is local: a
 //! script that passes cannot be refused with 1, 2, 3, 6, 7 or 9, so these are not tested for a Step. It uses no fact about whole runs.
 
+use std::collections::VecDeque;
+
+use second::state::{self, State};
+
 const MOST_TASKS: usize = 32;
 const MOST_OBJECTS: usize = 16;
 const MOST_PRIORITIES: usize = 32;
@@ -627,6 +631,19 @@ impl<'a> Machine<'a> {
         0
     }
 
+    /// Writes three bytes per event: answer, running task or 255, report.
+    fn take_all(&mut self, events: &[u8], buffer: &mut [u8]) {
+        for (e, reply) in events.chunks_exact(8).zip(buffer.chunks_exact_mut(REPLY)) {
+            self.report = 0;
+            reply[0] = match record(e) {
+                STEP => self.step(),
+                event => self.take_outside(event),
+            };
+            reply[1] = self.running;
+            reply[2] = self.report;
+        }
+    }
+
     /// An event that is no Step.
     fn take_outside(&mut self, event: u64) -> u8 {
         let (a, value) = ((event >> 8) as u8 as usize, event >> 16);
@@ -642,6 +659,60 @@ impl<'a> Machine<'a> {
     }
 }
 
+impl Machine<'_> {
+    fn task(&self, t: usize) -> state::Task {
+        let keys = &self.delayed[..self.sleepers];
+        let due = || keys.iter().find(|key| *key % KEY == t as u64).unwrap() / KEY;
+        let held = &self.held[t][..self.depth[t] as usize];
+        state::Task {
+            base: self.base[t] as u64,
+            place: match self.place[t] {
+                Place::Running => state::Place::Running,
+                Place::Ready => state::Place::Ready,
+                Place::Delayed => state::Place::Delayed { due: due() },
+                Place::Suspended => state::Place::Suspended,
+                Place::Ended => state::Place::Ended,
+            },
+            permit: self.permit[t],
+            held: held.iter().map(|o| *o as usize).collect(),
+            waiting: (self.waiting[t] != 0).then_some(self.waiting[t] as u64),
+        }
+    }
+
+    fn queue(&self, p: usize) -> VecDeque<usize> {
+        let queue = &self.queues[p % MOST_PRIORITIES];
+        let count = queue.end.wrapping_sub(queue.first);
+        let cell = |i: u8| queue.cells[queue.first.wrapping_add(i) as usize % MOST_TASKS];
+        (0..count).map(|i| cell(i) as usize).collect()
+    }
+
+    /// The whole state of the rules.
+    fn state(&self, objects: usize) -> State {
+        let ceilings = self.ceilings[..objects].iter();
+        State {
+            now: self.now,
+            tasks: (0..self.tasks).map(|t| self.task(t)).collect(),
+            ceilings: ceilings.map(|c| *c as u64).collect(),
+            queues: std::array::from_fn(|i| self.queue(i + 1)),
+            marks: (self.marks >> 1) as u32,
+            running: (self.running != NOBODY).then_some(self.running as usize),
+        }
+    }
+}
+
+/// The state after each event of a good run; through `take_all`, so that what is timed is what is tested here.
+pub fn states(roster: &[u8], events: &[u8]) -> Vec<State> {
+    let Ok(shape) = checked(roster) else {
+        return Vec::new();
+    };
+    let mut m = Machine::new(roster, &shape);
+    let after = |e| {
+        m.take_all(e, &mut [0; REPLY]);
+        m.state(shape.objects)
+    };
+    events.chunks_exact(8).map(after).collect()
+}
+
 /// Three bytes per event: answer, running task or 255, report.
 pub fn run(roster: &[u8], events: &[u8], buffer: &mut [u8]) -> Answer {
     let shape = match checked(roster) {
@@ -655,14 +726,6 @@ pub fn run(roster: &[u8], events: &[u8], buffer: &mut [u8]) -> Answer {
         return (22, 0, 0);
     }
     let mut m = Machine::new(roster, &shape);
-    for (e, reply) in events.chunks_exact(8).zip(buffer.chunks_exact_mut(REPLY)) {
-        m.report = 0;
-        reply[0] = match record(e) {
-            STEP => m.step(),
-            event => m.take_outside(event),
-        };
-        reply[1] = m.running;
-        reply[2] = m.report;
-    }
+    m.take_all(events, buffer);
     (0, 0, 0)
 }

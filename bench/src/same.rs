@@ -1,4 +1,4 @@
-//! That the plain and the lean code do the same job as the proved code: on made rosters, events and states, good and bad ones.
+//! That the plain and the lean code do the same job as the proved code, on made input good and bad, and that plain has the whole state.
 
 use dispatch::raw;
 use harness::calls;
@@ -9,16 +9,18 @@ use harness::report::{hex, save};
 use harness::rosters::{passing, plant};
 use harness::states::{self, event_of, sound_state};
 use second::machine::apply_to;
+use second::roster;
+use second::run::{decode, Run};
 
 use crate::{lean, plain, plain_state};
 
 const RUNS: u64 = 3_000;
 const STATES: u64 = 3_000;
 
-type Run = fn(&[u8], &[u8], &mut [u8]) -> (u8, usize, usize);
+type RunCall = fn(&[u8], &[u8], &mut [u8]) -> (u8, usize, usize);
 type Check = fn(&[u8]) -> (u8, usize, usize);
 
-const OPPONENTS: [(&str, Run, Check); 2] = [
+const OPPONENTS: [(&str, RunCall, Check); 2] = [
     ("plain", plain::run, plain::check),
     ("lean", lean::run, lean::check),
 ];
@@ -60,6 +62,23 @@ fn assert_run(seed: u64) {
     }
 }
 
+/// The plain run has the whole state of the rules after every event, whoever ran and whatever was refused.
+fn assert_states(seed: u64) {
+    let mut random = Random::new(seed);
+    let roster = passing(&mut random).bytes();
+    let events = events::events_of(&mut random);
+    let Ok(commands) = decode(&events) else {
+        return;
+    };
+    let mut run = Run::start(roster::admit(&roster).expect("a roster that passes"));
+    let states = plain::states(&roster, &events);
+    assert_eq!(states.len(), commands.len(), "seed {seed}");
+    for (command, state) in commands.into_iter().zip(states) {
+        run.take(command);
+        assert_eq!(state, run.state, "seed {seed}, after {command:?}");
+    }
+}
+
 /// Bytes that may be anything: in unread places of a sound state, or anywhere.
 fn spoil(random: &mut Random, bytes: &mut [u8]) {
     for _ in 0..random.pick(&[1, 2, 4, 40]) {
@@ -97,6 +116,7 @@ fn assert_history(seed: u64) {
 
 pub fn assert_all() {
     (0..RUNS).for_each(assert_run);
+    (0..RUNS).for_each(assert_states);
     (0..STATES).for_each(assert_history);
     let short = &mut [0; STATE_SIZE - 1];
     assert_eq!(
