@@ -1,17 +1,15 @@
 -- Laws of the ceilings and the active priority, as loops find them.
 use mathlib.Core.Path.{_≡_, refl, ap, _∙_, sym}
-use mathlib.Core.Bool.{true, _&&_}
-use mathlib.Core.List.{List, [], _∷_}
-use Prim.Native.Nat.{ℕ, zero, suc, _+_, _-_, _≤_, _<_, max}
+use mathlib.Core.Bool.{true}
+use mathlib.Core.List.{List}
+use Prim.Native.Nat.{ℕ, _+_, _-_, _≤_, _<_, max}
 use native.Mathlib.Numerals.{add-one}
 use native.Mathlib.Omega.{arith}
-use borrow.Author.Tests.{leb-true}
-use lib.Dec.{leb}
 use lib.ListN.{length, take, drop, getD, length-take, drop-of-length-le, List·getD-eq-default}
 use lib.Seq.{drop-cons, getD-take}
 use Rattle.rules.specs.Model.{ceilingOf, highestOf, active}
 use Rattle.rules.specs.Sound.{rising}
-use Rattle.rules.proofs.Choices.{and-left, and-right}
+use Rattle.rules.proofs.HeldLaws.{highest-none, highest-innermost}
 use Rattle.memory.specs.Rows.{heldBy}
 use Rattle.memory.specs.Tasks.{taskIn}
 use Rattle.memory.specs.Memory.{taskCountIn, objectCountIn, modelOf, LaidOut, Rises}
@@ -33,27 +31,6 @@ pub raise-end : (cs l : List ℕ) (p a i : ℕ) → length l ≤ i → highestOf
 unfolding highestOf
 raise-end cs l p a i h f = sym (f ∙ rw (drop-of-length-le l {i = i} h))
 
--- nothing held raises nothing
-highest-none : (cs : List ℕ) (b : ℕ) (l : List ℕ) → length l ≡ 0 → b ≡ highestOf cs b l
-unfolding highestOf
-highest-none cs b [] e = refl
-highest-none cs b (x ∷ l) e = absurd (omega arith)
-
--- where ceilings do not fall, that of the next is the highest so far, and that of the last the highest
-top-next : (cs : List ℕ) (x b : ℕ) (l : List ℕ) → (leb b (ceilingOf cs x) && rising cs (ceilingOf cs x) l) ≡ true →
-    max b (ceilingOf cs x) ≡ ceilingOf cs x
-top-next cs x b l e = omega (arith, leb-true b (ceilingOf cs x) (and-left (leb b (ceilingOf cs x)) (rising cs (ceilingOf cs x) l) e))
-
-rising-last : (cs l : List ℕ) (b i : ℕ) → rising cs b l ≡ true → suc i ≡ length l → highestOf cs b l ≡ ceilingOf cs (getD l i 0)
-unfolding rising highestOf
-rising-last cs [] b i e h = absurd (omega arith)
-rising-last cs (x ∷ []) b zero e h = top-next cs x b [] e
-rising-last cs (x ∷ []) b (suc i) e h = absurd (omega arith)
-rising-last cs (x ∷ (y ∷ l)) b zero e h = absurd (omega arith)
-rising-last cs (x ∷ (y ∷ l)) b (suc i) e h =
-    let rest = and-right (leb b (ceilingOf cs x)) (rising cs (ceilingOf cs x) (y ∷ l)) e in
-    rw (top-next cs x b (y ∷ l) e) (rising-last cs (y ∷ l) (ceilingOf cs x) i rest (omega arith))
-
 module _ {h ts hd cs qs : List ℕ} (d : LaidOut h ts hd cs qs) where
   pub active-is : (t a b n : ℕ) → t < taskCountIn h → n ≡ objectCountIn h → b ≡ taskIn ts t .base .0 →
       a ≡ highestOf (take n cs) b (heldBy hd t) → a ≡ active (modelOf h ts hd cs qs) t
@@ -70,5 +47,5 @@ module _ {h ts hd cs qs : List ℕ} (d : LaidOut h ts hd cs qs) where
   active-rises t c n o g e r z f k =
       let here : rising (take (objectCountIn h) cs) (taskIn ts t .base .0) (heldBy hd t) ≡ true = rw (task-is d t g) at r in
       let up : rising (take n cs) (taskIn ts t .base .0) (heldBy hd t) ≡ true = rw e here in
-      let last = rising-last (take n cs) (heldBy hd t) (taskIn ts t .base .0) (length (heldBy hd t) - 1) up (omega arith) in
-      active-is t c (taskIn ts t .base .0) n g e refl (k ∙ ap (ceilingOf (take n cs)) f ∙ sym last)
+      let last = highest-innermost (take n cs) (taskIn ts t .base .0) (heldBy hd t) up (omega arith) in
+      active-is t c (taskIn ts t .base .0) n g e refl (k ∙ ap (ceilingOf (take n cs)) f ∙ last)

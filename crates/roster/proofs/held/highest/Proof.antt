@@ -3,7 +3,7 @@ use native.Mathlib.Omega.{arith}
 use mathlib.Core.Path.{_∙_}
 use Prim.Native.Nat.{_-_}
 use lib.ListN.{length}
-use Rattle.roster.proofs.StackLaws.{highest-none, highest-innermost}
+use Rattle.rules.proofs.HeldLaws.{highest-none, highest-innermost}
 use borrow.Author.Needs.{needs}
 use Rattle.roster.proofs.held.highest.Statement.{statement}
 use Rattle.roster.proofs.held.highest.Tie as tie
