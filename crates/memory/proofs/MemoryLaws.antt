@@ -129,8 +129,8 @@ module _ {h ts hd cs qs : List ℕ} (d : LaidOut h ts hd cs qs) where
   busy n = let e : getD h runningCell 0 ≡ suc (getD h runningCell 0 - 1) = omega arith in ap runnerOf e
 
   -- what a change of one slice means
-  laid-head : {h' qs' : List ℕ} {v : ℕ} → length h' ≡ headWidth → taskCountIn h' ≡ taskCountIn h → objectCountIn h' ≡ objectCountIn h → Queues qs' →
-      marksIn h' ≡ marksOf (queuesIn qs') → nextIn h' ≡ v → NobodyBefore v (modelOf h ts hd cs qs) → LaidOut h' ts hd cs qs'
+  laid-head : {h' qs' : List ℕ} {v : ℕ} → length h' ≡ headWidth → taskCountIn h' ≡ taskCountIn h → objectCountIn h' ≡ objectCountIn h →
+      Queues qs' → marksIn h' ≡ marksOf (queuesIn qs') → nextIn h' ≡ v → NobodyBefore v (modelOf h ts hd cs qs) → LaidOut h' ts hd cs qs'
   laid-head n c e q m x w =
       record {
         head = n;

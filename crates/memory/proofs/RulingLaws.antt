@@ -9,7 +9,8 @@ use Rattle.rules.specs.declared.Report.the-variants.{Unchanged}
 use Rattle.memory.specs.Rulings.{answerOf, reportOf}
 
 -- none of the nine is accepted
-pub answer-none : (n : ℕ) (a : n ≡ 1 → ⊥) (b : n ≡ 2 → ⊥) (c : n ≡ 3 → ⊥) (d : n ≡ 4 → ⊥) (e : n ≡ 5 → ⊥) (f : n ≡ 6 → ⊥) (g : n ≡ 7 → ⊥) (h : n ≡ 8 → ⊥) (i : n ≡ 9 → ⊥) → Done ≡ answerOf n
+pub answer-none : (n : ℕ) → (n ≡ 1 → ⊥) → (n ≡ 2 → ⊥) → (n ≡ 3 → ⊥) → (n ≡ 4 → ⊥) → (n ≡ 5 → ⊥) → (n ≡ 6 → ⊥) → (n ≡ 7 → ⊥) →
+    (n ≡ 8 → ⊥) → (n ≡ 9 → ⊥) → Done ≡ answerOf n
 answer-none n a b c d e f g h i =
     rw (ne-eqb n 1 a, ne-eqb n 2 b, ne-eqb n 3 c, ne-eqb n 4 d, ne-eqb n 5 e, ne-eqb n 6 f, ne-eqb n 7 g, ne-eqb n 8 h, ne-eqb n 9 i)
 

@@ -40,8 +40,8 @@ module _ {h ts hd cs qs : List ℕ} (d : LaidOut h ts hd cs qs) where
       (record { low = omega (arith, j .level .low); high = omega (arith, j .level .high) }, (d .queues, (marked d, rw e (j .room))))
 
   -- the active priority of a task that holds nothing
-  pub base-level : (t : ℕ) (p : Priority) → t < taskCountIn h → length (taskAt (modelOf h ts hd cs qs) t .held) ≡ 0 → p ≡ taskIn ts t .base →
-      p .0 ≡ active (modelOf h ts hd cs qs) t
+  pub base-level : (t : ℕ) (p : Priority) → t < taskCountIn h → length (taskAt (modelOf h ts hd cs qs) t .held) ≡ 0 →
+      p ≡ taskIn ts t .base → p .0 ≡ active (modelOf h ts hd cs qs) t
   base-level t p g z e = active-bare d t (p .0) g (ap (λ (v : Priority). v .0) e) (sym (ap length (held-is d t g)) ∙ z)
 
   pub ready-law : {h' ts' qs' : List ℕ} (t p : ℕ) → t < length (modelOf h ts hd cs qs .tasks) → p ≡ active (modelOf h ts hd cs qs) t →

@@ -15,14 +15,14 @@ use Rattle.run.proofs.pass.pass.Statement.{statement}
 use Rattle.run.proofs.pass.pass.Tie as tie
 
 abbrev Inv-loop : tie.InvT-loop
-Inv-loop roster starts lengths events buffer₀ head₀ tasks₀ held₀ ceilings queues₀ positions₀ n i₀ buffer head tasks held queues positions i =
-    (i ≤ n) × (length buffer ≡ length buffer₀) × Going roster head tasks held ceilings queues positions ×
-    (sets buffer₀ 0 (repliesFrom (rosterOf roster) (configOf roster head₀ tasks₀ held₀ ceilings queues₀ positions₀) (inputsOf events)) ≡
-    sets buffer (replySize * i)
+Inv-loop roster starts lengths events b₀ head₀ tasks₀ held₀ ceilings queues₀ positions₀ n i₀ b head tasks held queues positions i =
+    (i ≤ n) × (length b ≡ length b₀) × Going roster head tasks held ceilings queues positions ×
+    (sets b₀ 0 (repliesFrom (rosterOf roster) (configOf roster head₀ tasks₀ held₀ ceilings queues₀ positions₀) (inputsOf events)) ≡
+    sets b (replySize * i)
     (repliesFrom (rosterOf roster) (configOf roster head tasks held ceilings queues positions) (drop i (inputsOf events))))
 
 abbrev μ-loop : tie.MeasureT-loop
-μ-loop roster starts lengths events buffer₀ head₀ tasks₀ held₀ ceilings queues₀ positions₀ n i₀ buffer head tasks held queues positions i = n - i
+μ-loop roster starts lengths events b₀ head₀ tasks₀ held₀ ceilings queues₀ positions₀ n i₀ b head tasks held queues positions i = n - i
 
 loop-holds : tie.Need-loop-holds Inv-loop μ-loop
 loop-holds c =

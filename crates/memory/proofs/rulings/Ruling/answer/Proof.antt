@@ -33,7 +33,10 @@ returns-9 : tie.Need-returns-9
 returns-9 c = sym (ap answerOf (c .match .keys9))
 
 returns-10 : tie.Need-returns-10
-returns-10 c = let n = c .match .rest in answer-none _ (n .0 .0 .0 .0 .0 .0 .0 .0 .1) (n .0 .0 .0 .0 .0 .0 .0 .1) (n .0 .0 .0 .0 .0 .0 .1) (n .0 .0 .0 .0 .0 .1) (n .0 .0 .0 .0 .1) (n .0 .0 .0 .1) (n .0 .0 .1) (n .0 .1) (n .1)
+returns-10 c =
+    let n = c .match .rest in
+    answer-none _ (n .0 .0 .0 .0 .0 .0 .0 .0 .1) (n .0 .0 .0 .0 .0 .0 .0 .1) (n .0 .0 .0 .0 .0 .0 .1)
+    (n .0 .0 .0 .0 .0 .1) (n .0 .0 .0 .0 .1) (n .0 .0 .0 .1) (n .0 .0 .1) (n .0 .1) (n .1)
 
 pub answer-spec : {M : Type 1} → statement M
 answer-spec =
