@@ -13,7 +13,7 @@ use Rattle.rules.specs.Sound.{sound}
 use Rattle.rules.specs.declared.Event.{Event}
 use Rattle.rules.specs.declared.Answer.{Answer}
 use Rattle.rules.specs.declared.Report.{Report}
-use Rattle.memory.specs.declared.rulings.Ruling.{Ruling}
+use Rattle.memory.specs.Rulings.{Ruling}
 use Rattle.rules.proofs.Choices.{and-left, and-right}
 use Rattle.marks.specs.Marks.{marksOf}
 use Rattle.memory.specs.Rows.{queuesIn}

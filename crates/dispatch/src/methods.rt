@@ -7,6 +7,7 @@ use crate::State;
 use crate::Stepped;
 use crate::load::load;
 use crate::store::store;
+use memory::rulings;
 use rules::Answer;
 use rules::Event;
 use rules::Priority;
@@ -62,16 +63,16 @@ impl State {
             &mut queues,
             event,
         );
-        if ruling.number() != 0 {
+        if rulings::number(ruling) != 0 {
             return Stepped {
-                answer: ruling.answer(),
-                report: ruling.report(),
+                answer: rulings::answer(ruling),
+                report: rulings::report(ruling),
                 state: self,
             };
         }
         Stepped {
-            answer: ruling.answer(),
-            report: ruling.report(),
+            answer: rulings::answer(ruling),
+            report: rulings::report(ruling),
             state: store(head, tasks, held, ceilings, queues),
         }
     }

@@ -1,7 +1,6 @@
 // Internal: pub only for our own crates. Any event in place on the slices of crate memory: the one match over the nine of crate events.
 ghost use Rattle.rules.specs.Events.{apply};
 ghost use Rattle.memory.specs.Memory.{modelOf, Valid, Moves};
-use memory::rulings::Ruling;
 use memory::sizes::HEAD_WIDTH;
 use rules::Event;
 
@@ -12,7 +11,7 @@ pub fn apply(
     ceilings: &[u8],
     queues: &mut [u8],
     event: Event,
-) -> Ruling
+) -> u8
     requires { ⌜ Valid (now head) (now tasks) (now held) (now ceilings) (now queues) ⌝ }
     ensures { λ r.
         ⌜ Moves (now (head .exit)) (now (tasks .exit)) (now (held .exit)) (now (ceilings .entry)) (now (queues .exit)) r

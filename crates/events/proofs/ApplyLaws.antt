@@ -7,7 +7,7 @@ use Rattle.rules.specs.Model.{Model}
 use Rattle.rules.specs.Events.{apply}
 use Rattle.rules.specs.Sound.{sound}
 use Rattle.rules.specs.declared.Event.{Event}
-use Rattle.memory.specs.declared.rulings.Ruling.{Ruling}
+use Rattle.memory.specs.Rulings.{Ruling}
 use Rattle.rules.specs.Histories.{delayFits}
 use Rattle.rules.proofs.Soundness.{sound-kept}
 use Rattle.memory.specs.Memory.{modelOf, Valid, Did, Moves}

@@ -13,7 +13,7 @@ use Rattle.rules.specs.Moved.{isNobody, sameRunner, reportBy, accepted}
 use Rattle.memory.specs.Rulings.{answerIn, reportIn}
 use Rattle.rules.specs.declared.Answer.the-variants.{Done}
 use Rattle.rules.specs.declared.Report.the-variants.{Unchanged, Preempted, Changed}
-use Rattle.memory.specs.declared.rulings.Ruling.{Ruling}
+use Rattle.memory.specs.Rulings.{Ruling}
 use Rattle.rules.proofs.Choices.{split}
 use Rattle.memory.specs.Memory.{runningCell, runnerOf, Means, Did}
 

@@ -5,25 +5,25 @@ ghost use Rattle.rules.specs.declared.Answer.the-variants.{Done};
 ghost use Rattle.memory.specs.Rulings.{answerIn, reportIn};
 ghost use Rattle.memory.specs.Memory.{runnerOf, modelOf, LaidOut, Did};
 ghost use Rattle.moves.specs.Room.{Dispatches};
-use memory::rulings::Ruling;
+use memory::rulings;
 use memory::sizes::HEAD_WIDTH;
 use memory::sizes::RUNNING_CELL;
 
 // Accepted, with the report by the running cell before the event, when its dispatch begins, and after it.
-fn accepted_by(before: u64, pending: u64, after: u64) -> Ruling
+fn accepted_by(before: u64, pending: u64, after: u64) -> u8
     ensures { λ r. ⌜ answerIn r ≡ Done ⌝ }
     ensures { λ r. ⌜ reportIn r ≡ reportBy (runnerOf before) (runnerOf pending) (runnerOf after) ⌝ }
 {
     if before == after {
-        return Ruling::UNCHANGED;
+        return rulings::UNCHANGED;
     }
     if before == 0 {
-        return Ruling::CHANGED;
+        return rulings::CHANGED;
     }
     if before == pending {
-        return Ruling::PREEMPTED;
+        return rulings::PREEMPTED;
     }
-    Ruling::CHANGED
+    rulings::CHANGED
 }
 
 // The running cell was `before` when the event came.
@@ -34,7 +34,7 @@ pub fn conclude(
     ceilings: &[u8],
     queues: &mut [u8],
     before: u64,
-) -> Ruling
+) -> u8
     requires { ⌜ LaidOut (now head) (now tasks) (now held) (now ceilings) (now queues) ⌝ }
     requires { ⌜ Dispatches (modelOf (now head) (now tasks) (now held) (now ceilings) (now queues)) ⌝ }
     ensures { λ r.

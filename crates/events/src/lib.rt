@@ -9,7 +9,7 @@ mod conclusion;
 use crate::conclusion::conclude;
 use memory::held;
 use memory::priorities;
-use memory::rulings::Ruling;
+use memory::rulings;
 use memory::sizes::HEAD_WIDTH;
 use memory::sizes::LAST_READING;
 use memory::sizes::LONGEST_ADVANCE;
@@ -30,7 +30,7 @@ pub fn enter(
     ceilings: &[u8],
     queues: &[u8],
     o: u64,
-) -> Ruling
+) -> u8
     requires { ⌜ Valid (now head) (now tasks) (now held) (now ceilings) (now queues) ⌝ }
     ensures { λ r.
         ⌜ Did (now (head .entry)) (now (tasks .entry)) (now (held .exit)) (now (ceilings .entry)) (now (queues .entry)) r
@@ -39,23 +39,23 @@ pub fn enter(
         o) ⌝ }
 {
     if head[OBJECTS_CELL] <= o {
-        return Ruling::NO_SUCH_OBJECT;
+        return rulings::NO_SUCH_OBJECT;
     }
     let running = head[RUNNING_CELL];
     if running == 0 {
-        return Ruling::NOBODY_RUNS;
+        return rulings::NOBODY_RUNS;
     }
     let t = (running - 1) as usize;
     let object = o as u8;
     if held::holds(held, t, object) {
-        return Ruling::INSIDE_ACTION;
+        return rulings::INSIDE_ACTION;
     }
     let a = priorities::active_inside(head, tasks, held, ceilings, queues, t);
     if ceilings[o as usize] < a.0 {
-        return Ruling::ABOVE_CEILING;
+        return rulings::ABOVE_CEILING;
     }
     held::push(held, t, object);
-    Ruling::UNCHANGED
+    rulings::UNCHANGED
 }
 
 pub fn leave(
@@ -65,7 +65,7 @@ pub fn leave(
     ceilings: &[u8],
     queues: &mut [u8],
     o: u64,
-) -> Ruling
+) -> u8
     requires { ⌜ Valid (now head) (now tasks) (now held) (now ceilings) (now queues) ⌝ }
     ensures { λ r.
         ⌜ Did (now (head .exit)) (now (tasks .exit)) (now (held .exit)) (now (ceilings .entry)) (now (queues .exit)) r
@@ -74,18 +74,18 @@ pub fn leave(
         o) ⌝ }
 {
     if head[OBJECTS_CELL] <= o {
-        return Ruling::NO_SUCH_OBJECT;
+        return rulings::NO_SUCH_OBJECT;
     }
     let running = head[RUNNING_CELL];
     if running == 0 {
-        return Ruling::NOBODY_RUNS;
+        return rulings::NOBODY_RUNS;
     }
     let t = (running - 1) as usize;
     if held::depth(held, t) == 0 {
-        return Ruling::NOT_INNERMOST;
+        return rulings::NOT_INNERMOST;
     }
     if held::last(held, t) as u64 != o {
-        return Ruling::NOT_INNERMOST;
+        return rulings::NOT_INNERMOST;
     }
     held::drop_last(held, t);
     effects::settle(head, tasks, held, ceilings, queues, t);
@@ -99,7 +99,7 @@ pub fn delay(
     ceilings: &[u8],
     queues: &mut [u8],
     d: u16,
-) -> Ruling
+) -> u8
     requires { ⌜ Valid (now head) (now tasks) (now held) (now ceilings) (now queues) ⌝ }
     ensures { λ r.
         ⌜ Did (now (head .exit)) (now (tasks .exit)) (now (held .entry)) (now (ceilings .entry)) (now (queues .exit)) r
@@ -109,11 +109,11 @@ pub fn delay(
 {
     let running = head[RUNNING_CELL];
     if running == 0 {
-        return Ruling::NOBODY_RUNS;
+        return rulings::NOBODY_RUNS;
     }
     let t = (running - 1) as usize;
     if 0 < held::depth(held, t) {
-        return Ruling::INSIDE_ACTION;
+        return rulings::INSIDE_ACTION;
     }
     head[RUNNING_CELL] = 0;
     effects::put_off(head, tasks, held, ceilings, queues, t, d);
@@ -127,7 +127,7 @@ pub fn suspend(
     held: &[u8],
     ceilings: &[u8],
     queues: &mut [u8],
-) -> Ruling
+) -> u8
     requires { ⌜ Valid (now head) (now tasks) (now held) (now ceilings) (now queues) ⌝ }
     ensures { λ r.
         ⌜ Did (now (head .exit)) (now (tasks .exit)) (now (held .entry)) (now (ceilings .entry)) (now (queues .exit)) r
@@ -136,14 +136,14 @@ pub fn suspend(
 {
     let running = head[RUNNING_CELL];
     if running == 0 {
-        return Ruling::NOBODY_RUNS;
+        return rulings::NOBODY_RUNS;
     }
     let t = (running - 1) as usize;
     if 0 < held::depth(held, t) {
-        return Ruling::INSIDE_ACTION;
+        return rulings::INSIDE_ACTION;
     }
     if effects::rest(head, tasks, held, ceilings, queues, t) {
-        return Ruling::UNCHANGED;
+        return rulings::UNCHANGED;
     }
     conclude(head, tasks, held, ceilings, queues, running)
 }
@@ -156,7 +156,7 @@ pub fn release(
     ceilings: &[u8],
     queues: &mut [u8],
     t: u64,
-) -> Ruling
+) -> u8
     requires { ⌜ Valid (now head) (now tasks) (now held) (now ceilings) (now queues) ⌝ }
     ensures { λ r.
         ⌜ Did (now (head .exit)) (now (tasks .exit)) (now (held .entry)) (now (ceilings .entry)) (now (queues .exit)) r
@@ -165,11 +165,11 @@ pub fn release(
         t) ⌝ }
 {
     if head[TASKS_CELL] <= t {
-        return Ruling::NO_SUCH_TASK;
+        return rulings::NO_SUCH_TASK;
     }
     let running = head[RUNNING_CELL];
     if !effects::release_from(head, tasks, held, ceilings, queues, t as usize) {
-        return Ruling::UNCHANGED;
+        return rulings::UNCHANGED;
     }
     conclude(head, tasks, held, ceilings, queues, running)
 }
@@ -198,7 +198,7 @@ pub fn clock(
     ceilings: &[u8],
     queues: &mut [u8],
     r: u64,
-) -> Ruling
+) -> u8
     requires { ⌜ Valid (now head) (now tasks) (now held) (now ceilings) (now queues) ⌝ }
     ensures { λ a.
         ⌜ Did (now (head .exit)) (now (tasks .exit)) (now (held .entry)) (now (ceilings .entry)) (now (queues .exit)) a
@@ -208,12 +208,12 @@ pub fn clock(
 {
     let at = head[NOW_CELL];
     if bad_reading(at, r) {
-        return Ruling::BAD_READING;
+        return rulings::BAD_READING;
     }
     let running = head[RUNNING_CELL];
     head[NOW_CELL] = r;
     if !effects::wake_up(head, tasks, held, ceilings, queues, r) {
-        return Ruling::UNCHANGED;
+        return rulings::UNCHANGED;
     }
     conclude(head, tasks, held, ceilings, queues, running)
 }
@@ -226,7 +226,7 @@ pub fn set(
     queues: &mut [u8],
     t: u64,
     p: Priority,
-) -> Ruling
+) -> u8
     requires { ⌜ Valid (now head) (now tasks) (now held) (now ceilings) (now queues) ⌝ }
     ensures { λ r.
         ⌜ Did (now (head .exit)) (now (tasks .exit)) (now (held .entry)) (now (ceilings .entry)) (now (queues .exit)) r
@@ -237,17 +237,17 @@ pub fn set(
     let first = Priority::FIRST;
     let last = Priority::LAST;
     if head[TASKS_CELL] <= t {
-        return Ruling::NO_SUCH_TASK;
+        return rulings::NO_SUCH_TASK;
     }
     if p.0 < first.0 {
-        return Ruling::BAD_PRIORITY;
+        return rulings::BAD_PRIORITY;
     }
     if last.0 < p.0 {
-        return Ruling::BAD_PRIORITY;
+        return rulings::BAD_PRIORITY;
     }
     let place = tasks::place(tasks, t as usize);
     if effects::is_ended(place) {
-        return Ruling::ENDED_TASK;
+        return rulings::ENDED_TASK;
     }
     let running = head[RUNNING_CELL];
     effects::rebase(head, tasks, held, ceilings, queues, t as usize, p);
@@ -261,7 +261,7 @@ pub fn work(
     held: &[u8],
     ceilings: &[u8],
     queues: &[u8],
-) -> Ruling
+) -> u8
     requires { ⌜ Valid (now head) (now tasks) (now held) (now ceilings) (now queues) ⌝ }
     ensures { λ r.
         ⌜ Did (now (head .entry)) (now (tasks .entry)) (now (held .entry)) (now (ceilings .entry)) (now (queues .entry)) r
@@ -269,9 +269,9 @@ pub fn work(
         (modelOf (now (head .entry)) (now (tasks .entry)) (now (held .entry)) (now (ceilings .entry)) (now (queues .entry)))) ⌝ }
 {
     if head[RUNNING_CELL] == 0 {
-        return Ruling::NOBODY_RUNS;
+        return rulings::NOBODY_RUNS;
     }
-    Ruling::UNCHANGED
+    rulings::UNCHANGED
 }
 
 pub fn finish(
@@ -280,7 +280,7 @@ pub fn finish(
     held: &[u8],
     ceilings: &[u8],
     queues: &mut [u8],
-) -> Ruling
+) -> u8
     requires { ⌜ Valid (now head) (now tasks) (now held) (now ceilings) (now queues) ⌝ }
     ensures { λ r.
         ⌜ Did (now (head .exit)) (now (tasks .exit)) (now (held .entry)) (now (ceilings .entry)) (now (queues .exit)) r
@@ -289,11 +289,11 @@ pub fn finish(
 {
     let running = head[RUNNING_CELL];
     if running == 0 {
-        return Ruling::NOBODY_RUNS;
+        return rulings::NOBODY_RUNS;
     }
     let t = (running - 1) as usize;
     if 0 < held::depth(held, t) {
-        return Ruling::INSIDE_ACTION;
+        return rulings::INSIDE_ACTION;
     }
     head[RUNNING_CELL] = 0;
     tasks::set_place(tasks, t, Place::Ended);

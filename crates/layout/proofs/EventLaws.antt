@@ -21,7 +21,7 @@ use Rattle.marks.specs.Marks.{marksOf}
 use Rattle.memory.specs.Rows.{queuesIn}
 use Rattle.memory.specs.Rulings.{answerIn, reportIn}
 use Rattle.memory.specs.Memory.{modelOf, Means, Valid, Moves}
-use Rattle.memory.specs.declared.rulings.Ruling.{Ruling}
+use Rattle.memory.specs.Rulings.{Ruling}
 use Rattle.loading.proofs.TestLaws.{and-false}
 use Rattle.dispatch.specs.State.{view, encode}
 use Rattle.dispatch.specs.Sound.{sizesFit, marksGood, soundOf}

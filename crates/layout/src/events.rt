@@ -14,6 +14,7 @@ use cells::slices::load;
 use cells::slices::loadable;
 use cells::slices::store;
 use dispatch::State;
+use memory::rulings;
 use memory::sizes::HELD_CELLS;
 use memory::sizes::OBJECT_LIMIT;
 use memory::sizes::QUEUE_CELLS;
@@ -51,8 +52,8 @@ pub fn apply(bytes: &mut [u8], event: Event, report: &mut u8) -> u8
         &mut queues,
         event,
     );
-    *report = ruling.report().number();
-    let number = ruling.number();
+    *report = rulings::report_number(ruling);
+    let number = rulings::number(ruling);
     if number != 0 {
         return number;
     }

@@ -15,7 +15,7 @@ use Rattle.rules.specs.declared.Runner.the-variants.{Nobody, Task as Runs}
 use Rattle.rules.specs.declared.WaitingBase.{WaitingBase}
 use Rattle.rules.specs.declared.WaitingBase.the-variants.{Nothing, Base}
 use Rattle.rules.specs.declared.Task.{Task}
-use Rattle.memory.specs.declared.rulings.Ruling.{Ruling}
+use Rattle.memory.specs.Rulings.{Ruling}
 use Rattle.memory.specs.Rulings.{answerIn, reportIn}
 use Rattle.marks.specs.Marks.{marksOf}
 use Rattle.memory.specs.Rows.{queuesIn, Queues, QueueBecame, heldIn, Held}

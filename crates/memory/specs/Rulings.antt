@@ -7,7 +7,6 @@ use Rattle.rules.specs.declared.Answer.the-variants.{Done, NoSuchTask, NoSuchOb
 use Rattle.rules.specs.declared.Answer.the-variants.{InsideAction, AboveCeiling, NotInnermost}
 use Rattle.rules.specs.declared.Report.{Report}
 use Rattle.rules.specs.declared.Report.the-variants.{Unchanged, Preempted, Changed}
-use Rattle.memory.specs.declared.rulings.Ruling.{Ruling}
 
 abbrev pub reportUnit : ℕ
 reportUnit = 16
@@ -29,45 +28,48 @@ abbrev pub reportOf : ℕ → Report
 reportOf n = cond (eqb n 1) Preempted (cond (eqb n 2) Changed Unchanged)
 
 -- .. of a ruling
+abbrev pub Ruling : Type 0
+Ruling = ℕ
+
 abbrev pub answerIn : Ruling → Answer
-answerIn r = answerOf (r .0 % reportUnit)
+answerIn r = answerOf (r % reportUnit)
 
 abbrev pub reportIn : Ruling → Report
-reportIn r = reportOf (r .0 / reportUnit)
+reportIn r = reportOf (r / reportUnit)
 
 -- accepted, with each report; refused, with each answer: "A refused event reports 0."
 abbrev pub unchanged : Ruling
-unchanged = record { 0 = 0 }
+unchanged = 0
 
 abbrev pub preempted : Ruling
-preempted = record { 0 = 16 }
+preempted = 16
 
 abbrev pub changed : Ruling
-changed = record { 0 = 32 }
+changed = 32
 
 abbrev pub noSuchTask : Ruling
-noSuchTask = record { 0 = 1 }
+noSuchTask = 1
 
 abbrev pub noSuchObject : Ruling
-noSuchObject = record { 0 = 2 }
+noSuchObject = 2
 
 abbrev pub badPriority : Ruling
-badPriority = record { 0 = 3 }
+badPriority = 3
 
 abbrev pub badReading : Ruling
-badReading = record { 0 = 4 }
+badReading = 4
 
 abbrev pub nobodyRuns : Ruling
-nobodyRuns = record { 0 = 5 }
+nobodyRuns = 5
 
 abbrev pub endedTask : Ruling
-endedTask = record { 0 = 6 }
+endedTask = 6
 
 abbrev pub insideAction : Ruling
-insideAction = record { 0 = 7 }
+insideAction = 7
 
 abbrev pub aboveCeiling : Ruling
-aboveCeiling = record { 0 = 8 }
+aboveCeiling = 8
 
 abbrev pub notInnermost : Ruling
-notInnermost = record { 0 = 9 }
+notInnermost = 9

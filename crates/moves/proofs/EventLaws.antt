@@ -17,7 +17,7 @@ use Rattle.memory.specs.Rulings.{answerIn, reportIn}
 use Rattle.rules.specs.declared.Runner.{Runner}
 use Rattle.rules.specs.declared.Runner.the-variants.{Task}
 use Rattle.rules.specs.declared.Report.the-variants.{Unchanged}
-use Rattle.memory.specs.declared.rulings.Ruling.{Ruling}
+use Rattle.memory.specs.Rulings.{Ruling}
 use Rattle.memory.specs.Rulings as Ruling
 use Rattle.rules.proofs.Choices.{clash, compare, cond-true, cond-false}
 use Rattle.rules.proofs.EventLaws.{rest-permit}

@@ -9,7 +9,7 @@ use Rattle.rules.specs.Priorities.{inRange, checkedOf}
 use Rattle.rules.specs.Events.{enter, leave, delay, suspend, release, setBase, work, finish, apply}
 use Rattle.rules.specs.Sound.{sound}
 use Rattle.rules.specs.declared.Answer.the-variants.{Done}
-use Rattle.memory.specs.declared.rulings.Ruling.{Ruling}
+use Rattle.memory.specs.Rulings.{Ruling}
 use Rattle.memory.specs.Rulings as Ruling
 use Rattle.rules.specs.declared.Event.{Event}
 use Rattle.rules.specs.declared.Event.the-variants as Event

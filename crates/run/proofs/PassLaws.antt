@@ -9,7 +9,7 @@ use lib.Seq.{sets, drop-cons}
 use Rattle.rules.specs.Limits.{taskLimit}
 use Rattle.rules.specs.Answers.{numberOf, reportNumber}
 use Rattle.memory.specs.Rulings.{answerIn, reportIn}
-use Rattle.memory.specs.declared.rulings.Ruling.{Ruling}
+use Rattle.memory.specs.Rulings.{Ruling}
 use Rattle.format.specs.Roster.{Roster}
 use Rattle.rules.proofs.Choices.{split}
 use Rattle.words.proofs.TableLaws.{length-tabulate, tabulate-at}

@@ -13,7 +13,7 @@ use Rattle.memory.specs.Rulings.{answerIn}
 use Rattle.rules.specs.Model.{Model}
 use Rattle.rules.specs.Moved.{Moved}
 use Rattle.rules.specs.declared.Answer.{Answer}
-use Rattle.memory.specs.declared.rulings.Ruling.{Ruling}
+use Rattle.memory.specs.Rulings.{Ruling}
 use Rattle.memory.specs.Rulings as Ruling
 use Rattle.rules.specs.declared.Runner.{Runner}
 use Rattle.rules.specs.declared.Runner.the-variants.{Nobody, Task}

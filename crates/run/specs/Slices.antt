@@ -5,7 +5,7 @@ use Prim.Native.Nat.{ℕ, _≤_}
 use lib.ListN.{length, take}
 use Rattle.rules.specs.Limits.{taskLimit}
 use Rattle.memory.specs.Rulings.{answerIn, reportIn}
-use Rattle.memory.specs.declared.rulings.Ruling.{Ruling}
+use Rattle.memory.specs.Rulings.{Ruling}
 use Rattle.words.specs.Words.{tabulate}
 use Rattle.format.specs.Format.{taskCount, startAt, lengthAt}
 use Rattle.format.specs.Form.{formOf}

@@ -17,6 +17,7 @@ use crate::start::start;
 use crate::turns::happen;
 use inputs::events_good;
 use inputs::input_at;
+use memory::rulings;
 use memory::sizes::HEAD_WIDTH;
 use memory::sizes::HELD_CELLS;
 use memory::sizes::OBJECT_LIMIT;
@@ -84,9 +85,9 @@ fn pass(
             x,
         );
         let at = REPLY_SIZE * i;
-        buffer[at] = ruling.number();
+        buffer[at] = rulings::number(ruling);
         buffer[at + 1] = running_byte(head);
-        buffer[at + 2] = ruling.report_number();
+        buffer[at + 2] = rulings::report_number(ruling);
         i += 1;
     }
 }

@@ -9,7 +9,7 @@ ghost use Rattle.trace.specs.Config.{perform, positionAfter, happen};
 ghost use Rattle.run.specs.Slices.{configOf, Going, ScriptsRead, Happened};
 use crate::scripts::step_in;
 use format::Step;
-use memory::rulings::Ruling;
+use memory::rulings;
 use memory::sizes::HEAD_WIDTH;
 use memory::sizes::RUNNING_CELL;
 use rules::Checked;
@@ -24,7 +24,7 @@ fn perform(
     ceilings: &[u8],
     queues: &mut [u8],
     x: Step,
-) -> Ruling
+) -> u8
     requires { ⌜ Valid (now head) (now tasks) (now held) (now ceilings) (now queues) ⌝ }
     ensures { λ a.
         ⌜ Moves (now (head .exit)) (now (tasks .exit)) (now (held .exit)) (now (ceilings .entry)) (now (queues .exit)) a
@@ -40,7 +40,7 @@ fn perform(
         Step::Suspend => events::suspend(head, tasks, held, ceilings, queues),
         Step::Release(t) => events::release(head, tasks, held, ceilings, queues, t as u64),
         Step::Set(t, p) => events::set(head, tasks, held, ceilings, queues, t as u64, p),
-        Step::Again => Ruling::UNCHANGED,
+        Step::Again => rulings::UNCHANGED,
         Step::Finish => events::finish(head, tasks, held, ceilings, queues),
     }
 }
@@ -74,7 +74,7 @@ fn step(
     ceilings: &[u8],
     queues: &mut [u8],
     positions: &mut [u16],
-) -> Ruling
+) -> u8
     requires { ⌜ Going (now roster) (now head) (now tasks) (now held) (now ceilings) (now queues) (now positions) ⌝ }
     requires { ⌜ ScriptsRead (now roster) (now starts) (now lengths) ⌝ }
     ensures { λ a.
@@ -87,14 +87,14 @@ fn step(
 {
     let running = head[RUNNING_CELL];
     if running == 0 {
-        return Ruling::NOBODY_RUNS;
+        return rulings::NOBODY_RUNS;
     }
     let t = (running - 1) as usize;
     let k = positions[t];
     let x = step_in(roster, starts, lengths, t, k);
     let next = position_after(k, x);
     let ruling = perform(head, tasks, held, ceilings, queues, x);
-    if ruling.number() != 0 {
+    if rulings::number(ruling) != 0 {
         return ruling;
     }
     positions[t] = next;
@@ -110,7 +110,7 @@ fn set_from(
     queues: &mut [u8],
     t: u8,
     value: u64,
-) -> Ruling
+) -> u8
     requires { ⌜ Valid (now head) (now tasks) (now held) (now ceilings) (now queues) ⌝ }
     ensures { λ a.
         ⌜ Moves (now (head .exit)) (now (tasks .exit)) (now (held .entry)) (now (ceilings .entry)) (now (queues .exit)) a
@@ -144,7 +144,7 @@ pub fn happen(
     queues: &mut [u8],
     positions: &mut [u16],
     x: Input,
-) -> Ruling
+) -> u8
     requires { ⌜ Going (now roster) (now head) (now tasks) (now held) (now ceilings) (now queues) (now positions) ⌝ }
     requires { ⌜ ScriptsRead (now roster) (now starts) (now lengths) ⌝ }
     ensures { λ a.

@@ -1,7 +1,7 @@
--- `memory::rulings::Ruling::report_number` meets its contract.
+-- `memory::rulings::report_number` meets its contract.
 use Rattle.memory.proofs.RulingLaws.{reported-low, reported-high}
-use Rattle.memory.proofs.rulings.Ruling.report_number.Statement.{statement}
-use Rattle.memory.proofs.rulings.Ruling.report_number.Tie as tie
+use Rattle.memory.proofs.rulings.report_number.Statement.{statement}
+use Rattle.memory.proofs.rulings.report_number.Tie as tie
 
 returns : tie.Need-returns
 returns c = reported-low _ (c .if1 .taken)

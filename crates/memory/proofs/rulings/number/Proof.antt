@@ -1,7 +1,7 @@
--- `memory::rulings::Ruling::number` meets its contract.
+-- `memory::rulings::number` meets its contract.
 use Rattle.memory.proofs.RulingLaws.{number-low, number-high}
-use Rattle.memory.proofs.rulings.Ruling.number.Statement.{statement}
-use Rattle.memory.proofs.rulings.Ruling.number.Tie as tie
+use Rattle.memory.proofs.rulings.number.Statement.{statement}
+use Rattle.memory.proofs.rulings.number.Tie as tie
 
 returns : tie.Need-returns
 returns c = number-low _ (c .if1 .taken)

@@ -1,9 +1,9 @@
--- `memory::rulings::Ruling::answer` meets its contract.
+-- `memory::rulings::answer` meets its contract.
 use mathlib.Core.Path.{ap, sym}
 use Rattle.memory.specs.Rulings.{answerOf}
 use Rattle.memory.proofs.RulingLaws.{answer-none}
-use Rattle.memory.proofs.rulings.Ruling.answer.Statement.{statement}
-use Rattle.memory.proofs.rulings.Ruling.answer.Tie as tie
+use Rattle.memory.proofs.rulings.answer.Statement.{statement}
+use Rattle.memory.proofs.rulings.answer.Tie as tie
 
 returns : tie.Need-returns
 returns c = sym (ap answerOf (c .match .keys1))

@@ -1,9 +1,9 @@
--- `memory::rulings::Ruling::report` meets its contract.
+-- `memory::rulings::report` meets its contract.
 use mathlib.Core.Path.{ap, sym}
 use Rattle.memory.specs.Rulings.{reportOf}
 use Rattle.memory.proofs.RulingLaws.{report-none}
-use Rattle.memory.proofs.rulings.Ruling.report.Statement.{statement}
-use Rattle.memory.proofs.rulings.Ruling.report.Tie as tie
+use Rattle.memory.proofs.rulings.report.Statement.{statement}
+use Rattle.memory.proofs.rulings.report.Tie as tie
 
 returns : tie.Need-returns
 returns c = sym (ap reportOf (c .match .keys1))
