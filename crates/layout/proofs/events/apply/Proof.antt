@@ -1,8 +1,7 @@
 -- `layout::events::apply` meets its contract.
-use mathlib.Core.Path.{refl, ap, sym, _∙_}
+use mathlib.Core.Path.{refl, sym, _∙_}
 use native.Mathlib.Omega.{arith}
 use borrow.Author.Tests.{not-true, not-false}
-use Rattle.rules.specs.Answers.{reportNumber}
 use Rattle.layout.proofs.EventLaws.{unloadable, untested, event-unsound, loaded-tested, loaded-valid, moved-refused, moved-done}
 use Rattle.cells.proofs.CellLaws.{loadable-long}
 use borrow.Author.Needs.{needs}
@@ -115,14 +114,11 @@ apply-requires c κs =
     loaded-valid (a .args .bytes .now) ok (at-load .load .ensures) _ (at-marks .long-at .ensures) _ (at-sound .sound .ensures)
     (not-false _ (i .if2 .left))
 
-report-requires : tie.Need-report-requires
-report-requires c κs = search needs
+report-number-requires : tie.Need-report-number-requires
+report-number-requires c κs = search needs
 
 number-requires-4 : tie.Need-number-requires-4
 number-requires-4 c κs = search needs
-
-number-requires-5 : tie.Need-number-requires-5
-number-requires-5 c κs = search needs
 
 same-length-3 : tie.Need-same-length-3
 same-length-3 c = search needs
@@ -130,8 +126,7 @@ same-length-3 c = search needs
 returns-3 : tie.Need-returns-3
 returns-3 c =
     let n = c .before in
-    let at-number = n .before in
-    let at-report = at-number .before in
+    let at-report = n .before in
     let at-apply = at-report .before .before .before .before in
     let i = at-apply .before .before .before .before .before .before in
     let at-sound = i .before in
@@ -141,9 +136,8 @@ returns-3 c =
     let t = j .before in
     let a = t .before .before .before .before in
     let ok = sym (t .loadable .ensures) ∙ not-false _ (j .if1 .left) in
-    let report = at-number .number4 .ensures ∙ ap reportNumber (at-report .report .ensures) in
     moved-refused (a .args .bytes .now) ok (at-load .load .ensures) _ (at-marks .long-at .ensures) _ (at-sound .sound .ensures)
-    (a .args .event) (not-false _ (i .if2 .left)) _ (at-apply .apply .ensures) _ (n .number5 .ensures) _ report
+    (a .args .event) (not-false _ (i .if2 .left)) _ (at-apply .apply .ensures) _ (n .number4 .ensures) _ (at-report .report-number .ensures)
     (λ z. c .if3 .taken (omega arith))
 
 slice-aggregate-store : tie.Need-slice-aggregate-store
@@ -160,7 +154,7 @@ slice-aggregate-store-4 c = search needs
 
 store-requires : tie.Need-store-requires
 store-requires c κs =
-    let at-apply = c .before .before .before .before .before .before .before .before .before .before .before .before .before in
+    let at-apply = c .before .before .before .before .before .before .before .before .before .before .before .before in
     let at-sound = at-apply .before .before .before .before .before .before .before in
     let at-load = at-sound .before .before .before .before .before .before .before .before .before .before .before .before in
     let j = at-load .before .before .before .before .before .before in
@@ -177,8 +171,7 @@ returns-4 c =
     let w = c .before .before in
     let k = w .before .before .before .before .before .before .before in
     let n = k .before in
-    let at-number = n .before in
-    let at-report = at-number .before in
+    let at-report = n .before in
     let at-apply = at-report .before .before .before .before in
     let i = at-apply .before .before .before .before .before .before in
     let at-sound = i .before in
@@ -188,9 +181,8 @@ returns-4 c =
     let t = j .before in
     let a = t .before .before .before .before in
     let ok = sym (t .loadable .ensures) ∙ not-false _ (j .if1 .left) in
-    let report = at-number .number4 .ensures ∙ ap reportNumber (at-report .report .ensures) in
     moved-done (a .args .bytes .now) ok (at-load .load .ensures) _ (at-marks .long-at .ensures) _ (at-sound .sound .ensures)
-    (a .args .event) (not-false _ (i .if2 .left)) _ (at-apply .apply .ensures) _ (n .number5 .ensures) _ report
+    (a .args .event) (not-false _ (i .if2 .left)) _ (at-apply .apply .ensures) _ (n .number4 .ensures) _ (at-report .report-number .ensures)
     (omega (arith, k .if3 .left)) _ (w .store .ensures)
 
 pub apply-spec : {M : Type 1} → statement M
@@ -221,9 +213,8 @@ apply-spec =
     slice-aggregate-apply-3
     slice-aggregate-apply-4
     apply-requires
-    report-requires
+    report-number-requires
     number-requires-4
-    number-requires-5
     same-length-3
     returns-3
     slice-aggregate-store
