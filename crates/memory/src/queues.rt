@@ -1,12 +1,10 @@
 // The ready queues: a row for each priority, its tasks from the head on; and the word of marks, which follows every change of them.
 ghost use mathlib.Core.Path.{_≡_};
-ghost use mathlib.Core.Bool.{not};
 ghost use mathlib.Core.List.{[], _∷_, _++_};
 ghost use Prim.Native.Nat.{_-_, _<_};
-ghost use lib.Dec.{leb};
 ghost use lib.ListN.{length, drop, getD, set};
 ghost use Rattle.rules.specs.Limits.{taskLimit, lastPriority};
-ghost use Rattle.rules.specs.Lists.{allOf, timesIn, without};
+ghost use Rattle.rules.specs.Lists.{without};
 ghost use Rattle.rules.specs.Moves.{highestTo};
 ghost use Rattle.marks.specs.Marks.{withBit, markFor, marksOf};
 ghost use Rattle.memory.specs.Rows.{HasQueue, queueIn, queuesIn, Queues};
@@ -131,26 +129,4 @@ pub fn remove(head: &mut [u64; HEAD_WIDTH], queues: &mut [u8], p: Priority, t: u
     let at = rows::find(row, t);
     rows::cut(row, at);
     remark(head, queues, p);
-}
-
-// How often t stands in the queue.
-pub fn count(queues: &[u8], p: Priority, t: u8) -> usize
-    requires { ⌜ HasQueue (p .0) ⌝ }
-    requires { ⌜ Queues (now queues) ⌝ }
-    ensures { λ r. ⌜ r ≡ timesIn t (queueIn (now (queues .entry)) (p .0)) ⌝ }
-{
-    let i = p.0 as usize - 1;
-    let b = i * QUEUE_WIDTH;
-    rows::count(&queues[b..b + QUEUE_WIDTH], t)
-}
-
-// Whether all numbers in the queue are below n.
-pub fn all_below(queues: &[u8], p: Priority, n: usize) -> bool
-    requires { ⌜ HasQueue (p .0) ⌝ }
-    requires { ⌜ Queues (now queues) ⌝ }
-    ensures { λ r. ⌜ r ≡ allOf (λ t. not (leb n t)) (queueIn (now (queues .entry)) (p .0)) ⌝ }
-{
-    let i = p.0 as usize - 1;
-    let b = i * QUEUE_WIDTH;
-    rows::all_below(&queues[b..b + QUEUE_WIDTH], n)
 }
