@@ -1,19 +1,19 @@
 -- Laws of the test of events without jumps: what the masks leave of a record, and the loop that joins it all.
-use mathlib.Core.Path.{_≡_, refl, ap, sym, _∙_}
+use mathlib.Core.Path.{_≡_, refl, ap, ap₂, sym, _∙_}
 use mathlib.Core.Bool.{Bool, true, false, _&&_}
 use mathlib.Core.List.{List}
 use Prim.Native.Nat.{ℕ, _+_, _-_, _*_, _/_, _%_, _^_, _≤_, _<_}
 use native.Mathlib.Omega.{arith}
 use native.Mathlib.Numerals.{add-one}
 use borrow.Author.Tests.{eq-eqb, ne-eqb}
-use lib.Bits.{bitAnd, bitOr, and-zero-r, and-le-l, and-le-r, and-mask, and-high, or-zero-r, or-add-and}
+use lib.Bits.{bitAnd, bitOr, and-zero-r, and-le-l, and-le-r, and-high, or-zero-r, or-add-and, or-shr, or-mod}
 use lib.Dec.{eqb}
 use lib.ListN.{getD}
 use Rattle.rules.specs.Lists.{below}
 use Rattle.rules.proofs.Choices.{split, compare}
 use Rattle.trace.specs.Inputs.{decode, isGood, kindAt, operandAt, valueAt, decodedAt, eventGood}
 use Rattle.trace.proofs.InputLaws.{fields-are, decode-none}
-use Rattle.inputs.specs.Masks.{FieldsOf, masks}
+use Rattle.inputs.specs.Masks.{FieldsOf, unusedBits, unknownKinds, faultIn}
 
 -- a number is 0 where another is, or where two others are
 zero-same : (x z : ℕ) → (x ≡ 0 → z ≡ 0) → (z ≡ 0 → x ≡ 0) → eqb x 0 ≡ eqb z 0
@@ -33,23 +33,40 @@ join-zero x y =
     (λ e. omega (arith, or-add-and x y, and-le-l x y))
     (λ e f. omega (arith, or-add-and x y))
 
--- what is left of a record of kind k
-abbrev left : ℕ → ℕ → ℕ
-left k y = bitOr (bitAnd y (getD masks (k % 8) 0)) (k / 8)
+-- what is 0 where a record's kind is below 8
+abbrev high : ℕ → ℕ
+high all = all / 8 % 32
 
-left-is : (k y m : ℕ) (b : Bool) → k < 8 → getD masks (k % 8) 0 ≡ m → eqb (bitAnd y m) 0 ≡ b → eqb (left k y) 0 ≡ b
-left-is k y m b h e f =
-    let x = bitAnd y (getD masks (k % 8) 0) in
-    let z : k / 8 ≡ 0 = omega arith in
-    ap (λ (n : ℕ). eqb n 0) (ap (bitOr x) z ∙ or-zero-r x) ∙ (ap (λ (n : ℕ). eqb (bitAnd y n) 0) e ∙ f)
+high-joined : (x y : ℕ) → eqb (high (bitOr x y)) 0 ≡ (eqb (high x) 0 && eqb (high y) 0)
+high-joined x y =
+    ap (λ (n : ℕ). eqb n 0) (ap (λ (n : ℕ). n % 32) (or-shr x y 3) ∙ or-mod (x / 8) (y / 8) 5) ∙ join-zero (high x) (high y)
 
-above : (k y : ℕ) → 8 ≤ k → eqb (left k y) 0 ≡ false
-above k y h =
-    let x = bitAnd y (getD masks (k % 8) 0) in
-    ne-eqb (left k y) 0 (λ z. above-zero x (k / 8) (omega arith) z)
-  where
-    above-zero : (x z : ℕ) → 0 < z → bitOr x z ≡ 0 → ⊥
-    above-zero x z h e = omega (arith, or-add-and x z, and-le-l x z)
+-- a record of kind j, below 8, with the bits m that have to be 0 and x for an unknown kind
+module _ (all j m x : ℕ) (e : all % 256 ≡ j) (h : j < 8) (f : getD unusedBits j 0 ≡ m) (g : getD unknownKinds j 0 ≡ x) where
+  fault-is : faultIn all ≡ bitOr (bitAnd all m) x
+  fault-is =
+      let r : all % 8 ≡ j = omega arith in
+      ap (λ (i : ℕ). bitOr (bitAnd all (getD unusedBits i 0)) (getD unknownKinds i 0)) r ∙
+      (ap (λ (n : ℕ). bitOr (bitAnd all n) (getD unknownKinds j 0)) f ∙ ap (bitOr (bitAnd all m)) g)
+
+  low : (b : Bool) → eqb (bitOr (bitAnd all m) x) 0 ≡ b → (eqb (faultIn all) 0 && eqb (high all) 0) ≡ b
+  low b i =
+      let z : high all ≡ 0 = omega arith in
+      ap (λ (c : Bool). eqb (faultIn all) 0 && c) (eq-eqb (high all) 0 z) ∙
+      (and-true (eqb (faultIn all) 0) ∙ (ap (λ (n : ℕ). eqb n 0) fault-is ∙ i))
+    where
+      and-true : (c : Bool) → (c && true) ≡ c
+      and-true true = refl
+      and-true false = refl
+
+known : (all j m : ℕ) (b : Bool) → all % 256 ≡ j → j < 8 → getD unusedBits j 0 ≡ m → getD unknownKinds j 0 ≡ 0 → eqb (bitAnd all m) 0 ≡ b →
+    (eqb (faultIn all) 0 && eqb (high all) 0) ≡ b
+known all j m b e h f g i = low all j m 0 e h f g b (ap (λ (n : ℕ). eqb n 0) (or-zero-r (bitAnd all m)) ∙ i)
+
+none : (all j m : ℕ) → all % 256 ≡ j → j < 8 → getD unusedBits j 0 ≡ m → getD unknownKinds j 0 ≡ 1 →
+    (eqb (faultIn all) 0 && eqb (high all) 0) ≡ false
+none all j m e h f g =
+    low all j m 1 e h f g false (ne-eqb (bitOr (bitAnd all m) 1) 0 (λ z. omega (arith, or-add-and (bitAnd all m) 1, and-le-l (bitAnd all m) 1)))
 
 is-zero : (k : ℕ) → k < 5 → (k ≡ 1 → ⊥) → (k ≡ 2 → ⊥) → (k ≡ 3 → ⊥) → (k ≡ 4 → ⊥) → k ≡ 0
 is-zero k h h1 h2 h3 h4 = omega arith
@@ -58,78 +75,61 @@ is-seven : (k : ℕ) → 5 ≤ k → k < 8 → (k ≡ 5 → ⊥) → (k ≡ 6 �
 is-seven k g h h5 h6 = omega arith
 
 module _ (all : ℕ) (fits : all < 2 ^ 64) where
-  -- the fields, over a lowest byte that is 1
-  abbrev over : ℕ
-  over = 256 * (all / 256) + 1
-
-  over-fields : over / 256 ≡ all / 256
-  over-fields = omega arith
-
-  over-value : over / 65536 ≡ all / 65536
-  over-value = omega arith
-
-  clock-left : eqb (bitAnd over (2 ^ 16 - 2 ^ 8)) 0 ≡ eqb (all / 256 % 256) 0
+  clock-left : eqb (bitAnd all (2 ^ 16 - 2 ^ 8)) 0 ≡ eqb (all / 256 % 256) 0
   clock-left =
-      let x = bitAnd over (2 ^ 16 - 2 ^ 8) in
-      let e : x ≡ all / 256 % 256 * 256 = and-high over 8 8 ∙ ap (λ (n : ℕ). n % 256 * 256) over-fields in
+      let x = bitAnd all (2 ^ 16 - 2 ^ 8) in
+      let e : x ≡ all / 256 % 256 * 256 = and-high all 8 8 in
       zero-same x (all / 256 % 256) (λ f. omega arith) (λ f. omega arith)
 
-  release-left : eqb (bitAnd over (2 ^ 64 - 2 ^ 16)) 0 ≡ eqb (all / 65536) 0
+  release-left : eqb (bitAnd all (2 ^ 64 - 2 ^ 16)) 0 ≡ eqb (all / 65536) 0
   release-left =
-      let x = bitAnd over (2 ^ 64 - 2 ^ 16) in
-      let e : x ≡ all / 65536 % 2 ^ 48 * 65536 = and-high over 48 16 ∙ ap (λ (n : ℕ). n % 2 ^ 48 * 65536) over-value in
+      let x = bitAnd all (2 ^ 64 - 2 ^ 16) in
+      let e : x ≡ all / 65536 % 2 ^ 48 * 65536 = and-high all 48 16 in
       let w : all / 65536 % 2 ^ 48 ≡ all / 65536 = omega arith in
       zero-same x (all / 65536) (λ f. omega arith) (λ f. omega arith)
 
-  step-left : eqb (bitAnd over (2 ^ 64 - 2 ^ 8)) 0 ≡ (eqb (all / 256 % 256) 0 && eqb (all / 65536) 0)
+  step-left : eqb (bitAnd all (2 ^ 64 - 2 ^ 8)) 0 ≡ (eqb (all / 256 % 256) 0 && eqb (all / 65536) 0)
   step-left =
-      let x = bitAnd over (2 ^ 64 - 2 ^ 8) in
-      let e : x ≡ all / 256 % 2 ^ 56 * 256 = and-high over 56 8 ∙ ap (λ (n : ℕ). n % 2 ^ 56 * 256) over-fields in
+      let x = bitAnd all (2 ^ 64 - 2 ^ 8) in
+      let e : x ≡ all / 256 % 2 ^ 56 * 256 = and-high all 56 8 in
       let w : all / 256 % 2 ^ 56 ≡ all / 256 = omega arith in
       zero-both x (all / 256 % 256) (all / 65536) (λ f. omega arith) (λ f. omega arith) (λ f g. omega arith)
 
-  none-left : eqb (bitAnd over 1) 0 ≡ false
-  none-left = ne-eqb (bitAnd over 1) 0 (λ e. omega (arith, and-mask over 1))
-
-  -- of no kind
-  none : (j : ℕ) → all % 256 ≡ j → j < 8 → getD masks (j % 8) 0 ≡ 1 → eqb (left (all % 256) over) 0 ≡ false
-  none j e h m = left-is (all % 256) over 1 false (omega arith) (ap (λ (i : ℕ). getD masks (i % 8) 0) e ∙ m) none-left
-
-  unknown : (all % 256 ≡ 1 → ⊥) → (all % 256 ≡ 2 → ⊥) → (all % 256 ≡ 3 → ⊥) → (all % 256 ≡ 4 → ⊥) → eqb (left (all % 256) over) 0 ≡ false
-  unfolding masks
+  unknown : (all % 256 ≡ 1 → ⊥) → (all % 256 ≡ 2 → ⊥) → (all % 256 ≡ 3 → ⊥) → (all % 256 ≡ 4 → ⊥) →
+      (eqb (faultIn all) 0 && eqb (high all) 0) ≡ false
+  unfolding unusedBits unknownKinds
   unknown h1 h2 h3 h4 =
-      compare 8 (all % 256) (λ h. above (all % 256) over h) (λ h.
+      compare 8 (all % 256)
+      (λ h.
+      ap (λ (c : Bool). eqb (faultIn all) 0 && c) (ne-eqb (high all) 0 (λ z. omega arith)) ∙ and-false (eqb (faultIn all) 0))
+      (λ h.
       compare 5 (all % 256)
       (λ g.
-      split (all % 256) 5 (λ e. none 5 e (omega arith) refl) (λ n5.
-      split (all % 256) 6 (λ e. none 6 e (omega arith) refl) (λ n6. none 7 (is-seven (all % 256) g h n5 n6) (omega arith) refl)))
-      (λ g. none 0 (is-zero (all % 256) g h1 h2 h3 h4) (omega arith) refl))
+      split (all % 256) 5 (λ e. none all 5 0 e (omega arith) refl refl) (λ n5.
+      split (all % 256) 6 (λ e. none all 6 0 e (omega arith) refl refl) (λ n6.
+      none all 7 0 (is-seven (all % 256) g h n5 n6) (omega arith) refl refl)))
+      (λ g. none all 0 0 (is-zero (all % 256) g h1 h2 h3 h4) (omega arith) refl refl))
+    where
+      and-false : (c : Bool) → (c && false) ≡ false
+      and-false true = refl
+      and-false false = refl
 
-  -- of a kind j, with the bits that are left
-  known : (j m : ℕ) (b : Bool) → all % 256 ≡ j → j < 8 → getD masks (j % 8) 0 ≡ m → eqb (bitAnd over m) 0 ≡ b →
-      isGood (decode j (all / 256 % 256) (all / 65536)) ≡ b →
-      eqb (left (all % 256) over) 0 ≡ isGood (decode (all % 256) (all / 256 % 256) (all / 65536))
-  known j m b e h f g i =
-      left-is (all % 256) over m b (omega arith) (ap (λ (n : ℕ). getD masks (n % 8) 0) e ∙ f) g ∙
-      sym (ap (λ (n : ℕ). isGood (decode n (all / 256 % 256) (all / 65536))) e ∙ i)
-
-  pub left-good : eqb (left (all % 256) over) 0 ≡ isGood (decode (all % 256) (all / 256 % 256) (all / 65536))
-  unfolding masks
-  left-good =
+  pub fault-good : (eqb (faultIn all) 0 && eqb (high all) 0) ≡ isGood (decode (all % 256) (all / 256 % 256) (all / 65536))
+  unfolding unusedBits unknownKinds
+  fault-good =
       let k = all % 256 in
       let a = all / 256 % 256 in
       let v = all / 65536 in
-      split k 1 (λ e. known 1 _ _ e (omega arith) refl clock-left (fields-are 1 a v)) (λ h1.
-      split k 2 (λ e. known 2 _ _ e (omega arith) refl release-left (fields-are 2 a v)) (λ h2.
-      split k 3 (λ e. known 3 _ _ e (omega arith) refl step-left (fields-are 3 a v)) (λ h3.
-      split k 4 (λ e. known 4 0 true e (omega arith) refl (ap (λ (n : ℕ). eqb n 0) (and-zero-r over)) (fields-are 4 a v)) (λ h4.
+      split k 1 (λ e. known all 1 _ _ e (omega arith) refl refl clock-left ∙ sym (good 1 e ∙ fields-are 1 a v)) (λ h1.
+      split k 2 (λ e. known all 2 _ _ e (omega arith) refl refl release-left ∙ sym (good 2 e ∙ fields-are 2 a v)) (λ h2.
+      split k 3 (λ e. known all 3 _ _ e (omega arith) refl refl step-left ∙ sym (good 3 e ∙ fields-are 3 a v)) (λ h3.
+      split k 4
+      (λ e. known all 4 0 true e (omega arith) refl refl (ap (λ (n : ℕ). eqb n 0) (and-zero-r all)) ∙ sym (good 4 e ∙ fields-are 4 a v)) (λ h4.
       unknown h1 h2 h3 h4 ∙ sym (ap isGood (decode-none k a v h1 h2 h3 h4))))))
-
-pub fault-good : (all : ℕ) (l : List ℕ) → all < 2 ^ 64 → l ≡ masks →
-    eqb (bitOr (bitAnd (256 * (all / 256) + 1) (getD l (all % 256 % 8) 0)) (all % 256 / 8)) 0 ≡
-    isGood (decode (all % 256) (all / 256 % 256) (all / 65536))
-fault-good all l h e =
-    ap (λ (m : List ℕ). eqb (bitOr (bitAnd (256 * (all / 256) + 1) (getD m (all % 256 % 8) 0)) (all % 256 / 8)) 0) e ∙ left-good all h
+    where
+      good : (j : ℕ) → all % 256 ≡ j →
+          isGood (decode (all % 256) (all / 256 % 256) (all / 65536)) ≡ isGood (decode j (all / 256 % 256) (all / 65536))
+      good j e = ap (λ (n : ℕ). isGood (decode n (all / 256 % 256) (all / 65536))) e
 
 -- the fields of a record of these bytes
 pub fields-of : (all k a v : ℕ) → k < 256 → a < 256 → all ≡ k + 256 * a + 65536 * v → FieldsOf all k a v
@@ -138,14 +138,24 @@ fields-of all k a v h g e =
     record { kind = omega arith; a = ap (λ (n : ℕ). n % 256) d ∙ (let z : (a + 256 * v) % 256 ≡ a = omega arith in z); value = omega arith }
 
 -- a turn of the loop
-pub event-good : (s : List ℕ) (i all fault : ℕ) → FieldsOf all (kindAt s i) (operandAt s i) (valueAt s i) →
-    eqb fault 0 ≡ isGood (decode (all % 256) (all / 256 % 256) (all / 65536)) → eqb fault 0 ≡ eventGood s i
+pub event-good : (s : List ℕ) (i all : ℕ) → all < 2 ^ 64 → FieldsOf all (kindAt s i) (operandAt s i) (valueAt s i) →
+    (eqb (faultIn all) 0 && eqb (high all) 0) ≡ eventGood s i
 unfolding eventGood decodedAt
-event-good s i all fault f e = cc (f .kind, f .a, f .value)
+event-good s i all h f = fault-good all h ∙ cc (f .kind, f .a, f .value)
 
-pub join-on : (f : ℕ → Bool) (i faults fault : ℕ) → eqb faults 0 ≡ below i f → eqb fault 0 ≡ f i →
-    eqb (bitOr faults fault) 0 ≡ below (i + 1) f
+pub join-on : (f : ℕ → Bool) (i faults joined fault all : ℕ) → (eqb faults 0 && eqb (high joined) 0) ≡ below i f →
+    (eqb fault 0 && eqb (high all) 0) ≡ f i → (eqb (bitOr faults fault) 0 && eqb (high (bitOr joined all)) 0) ≡ below (i + 1) f
 unfolding below
-join-on f i faults fault e g =
-    let h : (eqb faults 0 && eqb fault 0) ≡ (below i f && f i) = cc in
-    join-zero faults fault ∙ (h ∙ ap (λ (n : ℕ). below n f) (sym (add-one i)))
+join-on f i faults joined fault all e g =
+    let h : ((eqb faults 0 && eqb (high joined) 0) && (eqb fault 0 && eqb (high all) 0)) ≡ (below i f && f i) = cc in
+    ap₂ (λ (b c : Bool). b && c) (join-zero faults fault) (high-joined joined all) ∙
+    (exchange (eqb faults 0) (eqb fault 0) (eqb (high joined) 0) (eqb (high all) 0) ∙ (h ∙ ap (λ (n : ℕ). below n f) (sym (add-one i))))
+  where
+    exchange : (a b c d : Bool) → ((a && b) && (c && d)) ≡ ((a && c) && (b && d))
+    exchange true true c d = refl
+    exchange true false true d = refl
+    exchange true false false d = refl
+    exchange false b c d = refl
+
+pub join-last : (faults joined : ℕ) (b : Bool) → (eqb faults 0 && eqb (high joined) 0) ≡ b → eqb (bitOr faults (joined / 8 % 32)) 0 ≡ b
+join-last faults joined b e = join-zero faults (high joined) ∙ e

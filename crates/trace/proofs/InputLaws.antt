@@ -49,9 +49,11 @@ module _ (kind a value : ℕ) where
   step-either true = refl
   step-either false = refl
 
+  pub input-of-step : kind ≡ 3 → Step ≡ inputIn (decode kind a value)
+  unfolding decode
+  input-of-step e = step-either (eqb a 0 && eqb value 0) ∙ sym (ap (λ (n : ℕ). inputIn (decode n a value)) e)
+
   pub input-step : (kind ≡ 1 → ⊥) → (kind ≡ 2 → ⊥) → (kind ≡ 4 → ⊥) → Step ≡ inputIn (decode kind a value)
   unfolding decode
   input-step h1 h2 h4 =
-      split kind 3
-      (λ e. step-either (eqb a 0 && eqb value 0) ∙ sym (ap (λ (n : ℕ). inputIn (decode n a value)) e))
-      (λ h3. sym (ap inputIn (decode-none kind a value h1 h2 h3 h4)))
+      split kind 3 input-of-step (λ h3. sym (ap inputIn (decode-none kind a value h1 h2 h3 h4)))

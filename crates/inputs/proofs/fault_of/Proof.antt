@@ -1,15 +1,12 @@
 -- `inputs::fault_of` meets its contract.
-use native.Mathlib.Omega.{arith}
-use Rattle.inputs.proofs.MaskLaws.{fault-good}
+use mathlib.Core.Path.{ap₂}
+use mathlib.Core.List.{List}
+use Prim.Native.Nat.{ℕ, _%_}
 use borrow.Author.Needs.{needs}
+use lib.Bits.{bitAnd, bitOr}
+use lib.ListN.{getD}
 use Rattle.inputs.proofs.fault_of.Statement.{statement}
 use Rattle.inputs.proofs.fault_of.Tie as tie
-
-mul-fields : tie.Need-mul-fields
-mul-fields c = search needs
-
-add-fields : tie.Need-add-fields
-add-fields c = search needs
 
 mul-result : tie.Need-mul-result
 mul-result c = search needs
@@ -17,9 +14,16 @@ mul-result c = search needs
 element-copy-out-result : tie.Need-element-copy-out-result
 element-copy-out-result c = search needs
 
+mul-result-2 : tie.Need-mul-result-2
+mul-result-2 c = search needs
+
+element-copy-out-result-2 : tie.Need-element-copy-out-result-2
+element-copy-out-result-2 c = search needs
+
 returns : tie.Need-returns
-returns c = fault-good (c .before .args .all) (c .before .args .unused .now) (omega arith) (c .before .pre)
+returns c =
+    let all = c .before .before .args .all in
+    ap₂ (λ (m x : List ℕ). bitOr (bitAnd all (getD m (all % 8) 0)) (getD x (all % 8) 0)) (c .before .before .pre .0) (c .before .before .pre .1)
 
 pub fault-of-spec : {M : Type 1} → statement M
-fault-of-spec =
-    tie.close (tie.spec mul-fields add-fields mul-result element-copy-out-result returns)
+fault-of-spec = tie.close (tie.spec mul-result element-copy-out-result mul-result-2 element-copy-out-result-2 returns)
