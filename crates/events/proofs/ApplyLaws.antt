@@ -19,6 +19,7 @@ moves-of m e s f d =
     record {
       same = d .same;
       valid = record { laid = d .laid; sound = ap sound (d .same) ∙ sound-kept m e f s };
+      ruled = d .ruled;
       answer = d .answer;
       report = d .report;
     }

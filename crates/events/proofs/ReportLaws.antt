@@ -2,7 +2,7 @@
 use mathlib.Core.Path.{_≡_, refl, ap, sym, _∙_}
 use mathlib.Core.Bool.{true, false, cond, not, _&&_}
 use mathlib.Core.List.{List}
-use Prim.Native.Nat.{ℕ, zero, suc}
+use Prim.Native.Nat.{ℕ, zero, suc, _%_}
 use native.Mathlib.Omega.{arith}
 use borrow.Author.Tests.{eq-eqb, ne-eqb}
 use lib.Dec.{eqb}
@@ -10,10 +10,8 @@ use lib.ListN.{getD}
 use Rattle.rules.specs.Model.{Model}
 use Rattle.rules.specs.Moves.{dispatch}
 use Rattle.rules.specs.Moved.{isNobody, sameRunner, reportBy, accepted}
-use Rattle.memory.specs.Rulings.{answerIn, reportIn}
-use Rattle.rules.specs.declared.Answer.the-variants.{Done}
 use Rattle.rules.specs.declared.Report.the-variants.{Unchanged, Preempted, Changed}
-use Rattle.memory.specs.Rulings.{Ruling}
+use Rattle.memory.specs.Rulings.{Ruling, reportUnit, answerOf, reportIn}
 use Rattle.rules.proofs.Choices.{split}
 use Rattle.memory.specs.Memory.{runningCell, runnerOf, Means, Did}
 
@@ -53,13 +51,14 @@ module _ (x y z : ℕ) where
 
 -- the dispatch of the Model m, and its report
 pub did-accepted : {h ts hd cs qs : List ℕ} (m : Model) (before : ℕ) (r : Ruling) → Means h ts hd cs qs (dispatch m) →
-    answerIn r ≡ Done → reportIn r ≡ reportBy (runnerOf before) (m .running) (runnerOf (getD h runningCell 0)) →
+    r % reportUnit ≡ 0 → reportIn r ≡ reportBy (runnerOf before) (m .running) (runnerOf (getD h runningCell 0)) →
     Did h ts hd cs qs r (accepted (runnerOf before) m)
 unfolding accepted
 did-accepted m before r x d e =
     record {
       same = x .same;
       laid = x .laid;
-      answer = d;
+      ruled = omega arith;
+      answer = ap answerOf d;
       report = e ∙ ap (λ (n : Model). reportBy (runnerOf before) (m .running) (n .running)) (x .same);
     }

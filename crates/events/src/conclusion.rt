@@ -1,17 +1,19 @@
 // How an accepted event ends: one dispatch, and the report of who had the processor before and has it after.
 ghost use mathlib.Core.Path.{_≡_};
+ghost use Prim.Native.Nat.{_%_};
 ghost use Rattle.rules.specs.Moved.{reportBy, accepted};
-ghost use Rattle.rules.specs.declared.Answer.the-variants.{Done};
-ghost use Rattle.memory.specs.Rulings.{answerIn, reportIn};
+ghost use Rattle.memory.specs.Rulings.{reportUnit, reportIn};
 ghost use Rattle.memory.specs.Memory.{runnerOf, modelOf, LaidOut, Did};
 ghost use Rattle.moves.specs.Room.{Dispatches};
 use memory::rulings;
 use memory::sizes::HEAD_WIDTH;
+use memory::sizes::HELD_CELLS;
+use memory::sizes::OBJECT_LIMIT;
 use memory::sizes::RUNNING_CELL;
 
 // Accepted, with the report by the running cell before the event, when its dispatch begins, and after it.
 fn accepted_by(before: u64, pending: u64, after: u64) -> u8
-    ensures { λ r. ⌜ answerIn r ≡ Done ⌝ }
+    ensures { λ r. ⌜ r % reportUnit ≡ 0 ⌝ }
     ensures { λ r. ⌜ reportIn r ≡ reportBy (runnerOf before) (runnerOf pending) (runnerOf after) ⌝ }
 {
     if before == after {
@@ -30,8 +32,8 @@ fn accepted_by(before: u64, pending: u64, after: u64) -> u8
 pub fn conclude(
     head: &mut [u64; HEAD_WIDTH],
     tasks: &mut [u64],
-    held: &[u8],
-    ceilings: &[u8],
+    held: &[u8; HELD_CELLS],
+    ceilings: &[u8; OBJECT_LIMIT],
     queues: &mut [u8],
     before: u64,
 ) -> u8

@@ -11,9 +11,11 @@ use memory::held;
 use memory::priorities;
 use memory::rulings;
 use memory::sizes::HEAD_WIDTH;
+use memory::sizes::HELD_CELLS;
 use memory::sizes::LAST_READING;
 use memory::sizes::LONGEST_ADVANCE;
 use memory::sizes::NOW_CELL;
+use memory::sizes::OBJECT_LIMIT;
 use memory::sizes::OBJECTS_CELL;
 use memory::sizes::RUNNING_CELL;
 use memory::sizes::TASKS_CELL;
@@ -26,8 +28,8 @@ use rules::Priority;
 pub fn enter(
     head: &[u64; HEAD_WIDTH],
     tasks: &[u64],
-    held: &mut [u8],
-    ceilings: &[u8],
+    held: &mut [u8; HELD_CELLS],
+    ceilings: &[u8; OBJECT_LIMIT],
     queues: &[u8],
     o: u64,
 ) -> u8
@@ -61,8 +63,8 @@ pub fn enter(
 pub fn leave(
     head: &mut [u64; HEAD_WIDTH],
     tasks: &mut [u64],
-    held: &mut [u8],
-    ceilings: &[u8],
+    held: &mut [u8; HELD_CELLS],
+    ceilings: &[u8; OBJECT_LIMIT],
     queues: &mut [u8],
     o: u64,
 ) -> u8
@@ -95,8 +97,8 @@ pub fn leave(
 pub fn delay(
     head: &mut [u64; HEAD_WIDTH],
     tasks: &mut [u64],
-    held: &[u8],
-    ceilings: &[u8],
+    held: &[u8; HELD_CELLS],
+    ceilings: &[u8; OBJECT_LIMIT],
     queues: &mut [u8],
     d: u16,
 ) -> u8
@@ -124,8 +126,8 @@ pub fn delay(
 pub fn suspend(
     head: &mut [u64; HEAD_WIDTH],
     tasks: &mut [u64],
-    held: &[u8],
-    ceilings: &[u8],
+    held: &[u8; HELD_CELLS],
+    ceilings: &[u8; OBJECT_LIMIT],
     queues: &mut [u8],
 ) -> u8
     requires { ⌜ Valid (now head) (now tasks) (now held) (now ceilings) (now queues) ⌝ }
@@ -152,8 +154,8 @@ pub fn suspend(
 pub fn release(
     head: &mut [u64; HEAD_WIDTH],
     tasks: &mut [u64],
-    held: &[u8],
-    ceilings: &[u8],
+    held: &[u8; HELD_CELLS],
+    ceilings: &[u8; OBJECT_LIMIT],
     queues: &mut [u8],
     t: u64,
 ) -> u8
@@ -194,8 +196,8 @@ fn bad_reading(at: u64, r: u64) -> bool
 pub fn clock(
     head: &mut [u64; HEAD_WIDTH],
     tasks: &mut [u64],
-    held: &[u8],
-    ceilings: &[u8],
+    held: &[u8; HELD_CELLS],
+    ceilings: &[u8; OBJECT_LIMIT],
     queues: &mut [u8],
     r: u64,
 ) -> u8
@@ -221,8 +223,8 @@ pub fn clock(
 pub fn set(
     head: &mut [u64; HEAD_WIDTH],
     tasks: &mut [u64],
-    held: &[u8],
-    ceilings: &[u8],
+    held: &[u8; HELD_CELLS],
+    ceilings: &[u8; OBJECT_LIMIT],
     queues: &mut [u8],
     t: u64,
     p: Priority,
@@ -258,8 +260,8 @@ pub fn set(
 pub fn work(
     head: &[u64; HEAD_WIDTH],
     tasks: &[u64],
-    held: &[u8],
-    ceilings: &[u8],
+    held: &[u8; HELD_CELLS],
+    ceilings: &[u8; OBJECT_LIMIT],
     queues: &[u8],
 ) -> u8
     requires { ⌜ Valid (now head) (now tasks) (now held) (now ceilings) (now queues) ⌝ }
@@ -277,8 +279,8 @@ pub fn work(
 pub fn finish(
     head: &mut [u64; HEAD_WIDTH],
     tasks: &mut [u64],
-    held: &[u8],
-    ceilings: &[u8],
+    held: &[u8; HELD_CELLS],
+    ceilings: &[u8; OBJECT_LIMIT],
     queues: &mut [u8],
 ) -> u8
     requires { ⌜ Valid (now head) (now tasks) (now held) (now ceilings) (now queues) ⌝ }

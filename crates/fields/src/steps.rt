@@ -35,13 +35,16 @@ pub fn step_of(code: u8, a: u8, b: u16) -> Step
     }
 }
 
-// The step at position k of a script's bytes; Finish past the last.
+// The step at position k of a script's bytes; Finish past the last. Work, the most frequent, is told first.
 pub fn step_at(part: &[u8], k: usize) -> Step
     ensures { λ r. ⌜ r ≡ stepIn (stepsOf (now (part .entry))) k ⌝ }
 {
     if k < part.len() / Limits::STEP {
         let at = Limits::STEP * k;
         let code = part[at];
+        if code == Step::WORK {
+            return Step::Work;
+        }
         let a = part[at + 1];
         let b = words::word_in(part, at + 2);
         return step_of(code, a, b);

@@ -10,10 +10,12 @@ ghost use Rattle.memory.specs.Tasks.{Tasks};
 ghost use Rattle.memory.specs.Memory.{taskCountIn, modelOf, LaidOut, Means};
 ghost use Rattle.fresh.specs.Slices.{Sized, Enrolled, JoinAll};
 use memory::sizes::HEAD_WIDTH;
+use memory::sizes::HELD_CELLS;
 use memory::sizes::MARKS_CELL;
 use memory::sizes::NEXT_CELL;
 use memory::sizes::NO_DUE;
 use memory::sizes::NOW_CELL;
+use memory::sizes::OBJECT_LIMIT;
 use memory::sizes::OBJECTS_CELL;
 use memory::sizes::RUNNING_CELL;
 use memory::sizes::TASKS_CELL;
@@ -81,8 +83,8 @@ fn enroll(tasks: &mut [u64], bases: &[u8])
 fn join_all(
     head: &mut [u64; HEAD_WIDTH],
     tasks: &mut [u64],
-    held: &[u8],
-    ceilings: &[u8],
+    held: &[u8; HELD_CELLS],
+    ceilings: &[u8; OBJECT_LIMIT],
     queues: &mut [u8],
 )
     requires { ⌜ LaidOut (now head) (now tasks) (now held) (now ceilings) (now queues) ⌝ }
@@ -106,8 +108,8 @@ fn lay_out(
     given: &[u8],
     head: &mut [u64; HEAD_WIDTH],
     tasks: &mut [u64],
-    held: &mut [u8],
-    ceilings: &mut [u8],
+    held: &mut [u8; HELD_CELLS],
+    ceilings: &mut [u8; OBJECT_LIMIT],
     queues: &mut [u8],
 )
     requires { ⌜ Startable (record { bases = now bases; ceilings = now given }) ⌝ }
@@ -135,8 +137,8 @@ pub fn fresh(
     given: &[u8],
     head: &mut [u64; HEAD_WIDTH],
     tasks: &mut [u64],
-    held: &mut [u8],
-    ceilings: &mut [u8],
+    held: &mut [u8; HELD_CELLS],
+    ceilings: &mut [u8; OBJECT_LIMIT],
     queues: &mut [u8],
 )
     requires { ⌜ Startable (record { bases = now bases; ceilings = now given }) ⌝ }

@@ -17,7 +17,7 @@ answer-none n a b c d e f g h i =
 pub report-none : (n : ℕ) → (n ≡ 1 → ⊥) → (n ≡ 2 → ⊥) → Unchanged ≡ reportOf n
 report-none n a b = rw (ne-eqb n 1 a, ne-eqb n 2 b)
 
--- a number that is an answer's or a report's is its own; any other stands for 0
+-- a number that is an answer's or a report's is its own; any other report stands for 0
 pub number-low : (n : ℕ) → n < 10 → n ≡ numberOf (answerOf n)
 number-low zero h = refl
 number-low (suc zero) h = refl
@@ -30,12 +30,6 @@ number-low (suc (suc (suc (suc (suc (suc (suc zero))))))) h = refl
 number-low (suc (suc (suc (suc (suc (suc (suc (suc zero)))))))) h = refl
 number-low (suc (suc (suc (suc (suc (suc (suc (suc (suc zero))))))))) h = refl
 number-low (suc (suc (suc (suc (suc (suc (suc (suc (suc (suc n)))))))))) h = absurd (omega arith)
-
-pub number-high : (n : ℕ) → 10 ≤ n → 0 ≡ numberOf (answerOf n)
-number-high n h =
-    ap numberOf
-    (answer-none n (omega arith) (omega arith) (omega arith) (omega arith) (omega arith) (omega arith) (omega arith) (omega arith)
-    (omega arith))
 
 pub reported-low : (n : ℕ) → n < 3 → n ≡ reportNumber (reportOf n)
 reported-low zero h = refl

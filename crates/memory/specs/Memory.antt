@@ -15,8 +15,7 @@ use Rattle.rules.specs.declared.Runner.the-variants.{Nobody, Task as Runs}
 use Rattle.rules.specs.declared.WaitingBase.{WaitingBase}
 use Rattle.rules.specs.declared.WaitingBase.the-variants.{Nothing, Base}
 use Rattle.rules.specs.declared.Task.{Task}
-use Rattle.memory.specs.Rulings.{Ruling}
-use Rattle.memory.specs.Rulings.{answerIn, reportIn}
+use Rattle.memory.specs.Rulings.{Ruling, answerIn, reportIn, Ruled}
 use Rattle.marks.specs.Marks.{marksOf}
 use Rattle.memory.specs.Rows.{queuesIn, Queues, QueueBecame, heldIn, Held}
 use Rattle.memory.specs.Tasks.{tasksIn, Tasks}
@@ -135,6 +134,7 @@ pub record Valid (h ts hd cs qs : List ℕ) : Type 0 where
 pub record Did (h ts hd cs qs : List ℕ) (x : Ruling) (r : Moved) : Type 0 where
   pub same : modelOf h ts hd cs qs ≡ r .model
   pub laid : LaidOut h ts hd cs qs
+  pub ruled : Ruled x
   pub answer : answerIn x ≡ r .answer
   pub report : reportIn x ≡ r .report
 
@@ -142,5 +142,6 @@ pub record Did (h ts hd cs qs : List ℕ) (x : Ruling) (r : Moved) : Type 0 wher
 pub record Moves (h ts hd cs qs : List ℕ) (x : Ruling) (r : Moved) : Type 0 where
   pub same : modelOf h ts hd cs qs ≡ r .model
   pub valid : Valid h ts hd cs qs
+  pub ruled : Ruled x
   pub answer : answerIn x ≡ r .answer
   pub report : reportIn x ≡ r .report

@@ -1,6 +1,6 @@
 -- What an event comes to in the engine, as the rules' answer and report: the answer's number, and sixteen times the report's.
 use mathlib.Core.Bool.{cond}
-use Prim.Native.Nat.{ℕ, _/_, _%_}
+use Prim.Native.Nat.{ℕ, _/_, _%_, _<_}
 use lib.Dec.{eqb}
 use Rattle.rules.specs.declared.Answer.{Answer}
 use Rattle.rules.specs.declared.Answer.the-variants.{Done, NoSuchTask, NoSuchObject, BadPriority, BadReading, NobodyRuns, EndedTask}
@@ -36,6 +36,10 @@ answerIn r = answerOf (r % reportUnit)
 
 abbrev pub reportIn : Ruling → Report
 reportIn r = reportOf (r / reportUnit)
+
+-- .. whose answer is a number's own
+abbrev pub Ruled : Ruling → Type 0
+Ruled r = r % reportUnit < 10
 
 -- accepted, with each report; refused, with each answer: "A refused event reports 0."
 abbrev pub unchanged : Ruling

@@ -8,7 +8,9 @@ ghost use Rattle.memory.specs.Rows.{heldBy, Held};
 ghost use Rattle.memory.specs.Memory.{taskCountIn, modelOf, LaidOut, Rises};
 use crate::held;
 use crate::sizes::HEAD_WIDTH;
+use crate::sizes::HELD_CELLS;
 use crate::sizes::HELD_WIDTH;
+use crate::sizes::OBJECT_LIMIT;
 use crate::sizes::OBJECTS_CELL;
 use crate::tasks;
 use rules::Priority;
@@ -70,8 +72,8 @@ pub fn active(
 pub fn active_inside(
     head: &[u64; HEAD_WIDTH],
     tasks: &[u64],
-    held: &[u8],
-    ceilings: &[u8],
+    held: &[u8; HELD_CELLS],
+    ceilings: &[u8; OBJECT_LIMIT],
     queues: &[u8],
     t: usize,
 ) -> Priority

@@ -1,7 +1,7 @@
 // What an event comes to in the engine.
 ghost use mathlib.Core.Path.{_≡_};
 ghost use Rattle.rules.specs.Answers.{numberOf, reportNumber};
-ghost use Rattle.memory.specs.Rulings.{answerIn, reportIn};
+ghost use Rattle.memory.specs.Rulings.{answerIn, reportIn, Ruled};
 use rules::Answer;
 use rules::Report;
 
@@ -34,17 +34,15 @@ pub const NOT_INNERMOST: u8 = 9;
 // What a report's number counts.
 const UNIT: u8 = 16;
 
-// One more than the highest number of an answer, and of a report.
-const ANSWERS: u8 = 10;
-
+// One more than the highest number of a report.
 const REPORTS: u8 = 3;
 
 // The answer's number.
 pub fn number(ruling: u8) -> u8
+    requires { ⌜ Ruled ruling ⌝ }
     ensures { λ r. ⌜ r ≡ numberOf (answerIn ruling) ⌝ }
 {
-    let n = ruling % UNIT;
-    if n < ANSWERS { n } else { 0 }
+    ruling % UNIT
 }
 
 // The report's number.

@@ -2,7 +2,7 @@
 use mathlib.Core.Path.{_≡_, refl, ap, _∙_, sym, subst}
 use mathlib.Core.Bool.{true, false}
 use mathlib.Core.List.{List, [], _∷_}
-use Prim.Native.Nat.{ℕ, zero, suc, _+_, _-_, _≤_, _<_}
+use Prim.Native.Nat.{ℕ, zero, suc, _+_, _-_, _/_, _≤_, _<_}
 use native.Mathlib.Omega.{arith}
 use borrow.Author.Tests.{le-leb, lt-leb, le-ltb, lt-ltb}
 use lib.Dec.{ltb}
@@ -13,11 +13,9 @@ use Rattle.rules.specs.Moved.{Moved, refused, accepted}
 use Rattle.rules.specs.Events.{takeHold, Due as RuleDue, rest, permitOn, releaseFrom, nobody, task, dueAt, earlier, firstDue, wake, wakeUp}
 use Rattle.rules.specs.declared.Place.{Place}
 use Rattle.rules.specs.declared.Place.the-variants.{Running, Ready, Delayed, Suspended, Ended}
-use Rattle.memory.specs.Rulings.{answerIn, reportIn}
 use Rattle.rules.specs.declared.Runner.{Runner}
 use Rattle.rules.specs.declared.Runner.the-variants.{Task}
-use Rattle.rules.specs.declared.Report.the-variants.{Unchanged}
-use Rattle.memory.specs.Rulings.{Ruling}
+use Rattle.memory.specs.Rulings.{Ruling, reportUnit, reportOf, answerIn}
 use Rattle.memory.specs.Rulings as Ruling
 use Rattle.rules.proofs.Choices.{clash, compare, cond-true, cond-false}
 use Rattle.rules.proofs.EventLaws.{rest-permit}
@@ -31,14 +29,16 @@ use Rattle.memory.specs.Tasks.{noDue, dueTime}
 use Rattle.memory.specs.Memory.{modelOf, NobodyBefore, LaidOut, Means, Did}
 
 -- refused; accepted, the dispatch being of the Model n
-pub did-not : {h ts hd cs qs : List ℕ} {r : Moved} (x : Ruling) → reportIn x ≡ Unchanged → LaidOut h ts hd cs qs →
+pub did-not : {h ts hd cs qs : List ℕ} {r : Moved} (x : Ruling) → x < 10 → LaidOut h ts hd cs qs →
     r ≡ refused (modelOf h ts hd cs qs) (answerIn x) → Did h ts hd cs qs x r
 did-not x i d e =
+    let none : x / reportUnit ≡ 0 = omega arith in
     record {
       same = sym (ap (λ (y : Moved). y .model) e);
       laid = d;
+      ruled = omega arith;
       answer = sym (ap (λ (y : Moved). y .answer) e);
-      report = i ∙ sym (ap (λ (y : Moved). y .report) e);
+      report = ap reportOf none ∙ sym (ap (λ (y : Moved). y .report) e);
     }
 
 pub did : {h ts hd cs qs h' ts' hd' cs' qs' : List ℕ} {x : Ruling} {r : Moved} {n : Model} (w : Runner) → Means h ts hd cs qs n →
@@ -57,6 +57,7 @@ did-quiet {m = m} {n = n} x q e =
     record {
       same = x .same ∙ sym (q .still) ∙ sym (ap (λ (y : Moved). y .model) e);
       laid = x .laid;
+      ruled = omega arith;
       answer = sym (ap (λ (y : Moved). y .answer) e);
       report =
           sym (same-report (m .running) (n .running) (dispatch n .running) .1

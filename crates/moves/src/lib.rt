@@ -9,6 +9,8 @@ ghost use Rattle.moves.specs.Room.{Joins, Arrives, Starts, Dispatches};
 use memory::priorities;
 use memory::queues;
 use memory::sizes::HEAD_WIDTH;
+use memory::sizes::HELD_CELLS;
+use memory::sizes::OBJECT_LIMIT;
 use memory::sizes::RUNNING_CELL;
 use memory::tasks;
 use rules::Place;
@@ -20,8 +22,8 @@ pub mod effects;
 pub fn become_ready(
     head: &mut [u64; HEAD_WIDTH],
     tasks: &mut [u64],
-    held: &[u8],
-    ceilings: &[u8],
+    held: &[u8; HELD_CELLS],
+    ceilings: &[u8; OBJECT_LIMIT],
     queues: &mut [u8],
     t: usize,
 )
@@ -42,8 +44,8 @@ pub fn become_ready(
 pub fn preempt(
     head: &mut [u64; HEAD_WIDTH],
     tasks: &mut [u64],
-    held: &[u8],
-    ceilings: &[u8],
+    held: &[u8; HELD_CELLS],
+    ceilings: &[u8; OBJECT_LIMIT],
     queues: &mut [u8],
     t: usize,
     p: Priority,
@@ -66,8 +68,8 @@ pub fn preempt(
 pub fn start(
     head: &mut [u64; HEAD_WIDTH],
     tasks: &mut [u64],
-    held: &[u8],
-    ceilings: &[u8],
+    held: &[u8; HELD_CELLS],
+    ceilings: &[u8; OBJECT_LIMIT],
     queues: &mut [u8],
     p: Priority,
 )
@@ -89,8 +91,8 @@ pub fn start(
 pub fn dispatch(
     head: &mut [u64; HEAD_WIDTH],
     tasks: &mut [u64],
-    held: &[u8],
-    ceilings: &[u8],
+    held: &[u8; HELD_CELLS],
+    ceilings: &[u8; OBJECT_LIMIT],
     queues: &mut [u8],
 )
     requires { ⌜ LaidOut (now head) (now tasks) (now held) (now ceilings) (now queues) ⌝ }

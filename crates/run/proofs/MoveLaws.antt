@@ -2,6 +2,7 @@
 use mathlib.Core.Path.{_≡_, refl, ap, sym, _∙_}
 use mathlib.Core.Bool.{Bool, true, false, cond}
 use mathlib.Core.List.{List}
+use native.Mathlib.Omega.{arith}
 use Prim.Native.Nat.{ℕ}
 use Rattle.rules.specs.Model.{Model}
 use Rattle.rules.specs.Moved.{Moved, refused}
@@ -80,6 +81,7 @@ again-moves {h} {ts} {hd} {cs} {qs} x e v =
     record {
       same = sym (ap (λ (r : Moved). r .model) k);
       valid = v;
+      ruled = omega arith;
       answer = sym (ap (λ (r : Moved). r .answer) k);
       report = sym (ap (λ (r : Moved). r .report) k);
     }

@@ -94,6 +94,7 @@ module _ {s h ts hd cs qs ps : List ℕ} (g : Going s h ts hd cs qs ps) where
           count = ap (λ (n : Model). length (n .tasks)) (v .same) ∙ (e ∙ g .count);
           places = g .places;
         };
+        ruled = v .ruled;
         answer = v .answer;
         report = v .report;
       }
@@ -107,6 +108,7 @@ module _ {s h ts hd cs qs ps : List ℕ} (g : Going s h ts hd cs qs ps) where
       record {
         same = sym (ap (λ (o : Outcome). o .config) k);
         going = g;
+        ruled = omega arith;
         answer = sym (ap (λ (o : Outcome). o .answer) k);
         report = sym (ap (λ (o : Outcome). o .report) k);
       }
@@ -167,6 +169,7 @@ module _ {s h ts hd cs qs ps : List ℕ} (g : Going s h ts hd cs qs ps) where
               count = ap (λ (z : Model). length (z .tasks)) (v .same) ∙ (perform-count (modelOf h ts hd cs qs) x ∙ g .count);
               places = n ∙ g .places;
             };
+            ruled = v .ruled;
             answer = v .answer;
             report = v .report;
           }

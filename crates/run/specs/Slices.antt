@@ -4,8 +4,7 @@ use mathlib.Core.List.{List}
 use Prim.Native.Nat.{ℕ, _≤_}
 use lib.ListN.{length, take}
 use Rattle.rules.specs.Limits.{taskLimit}
-use Rattle.memory.specs.Rulings.{answerIn, reportIn}
-use Rattle.memory.specs.Rulings.{Ruling}
+use Rattle.memory.specs.Rulings.{Ruling, answerIn, reportIn, Ruled}
 use Rattle.words.specs.Words.{tabulate}
 use Rattle.format.specs.Format.{taskCount, startAt, lengthAt}
 use Rattle.format.specs.Form.{formOf}
@@ -34,5 +33,6 @@ pub record ScriptsRead (s starts lengths : List ℕ) : Type 0 where
 pub record Happened (s h ts hd cs qs ps : List ℕ) (x : Ruling) (o : Outcome) : Type 0 where
   pub same : configOf s h ts hd cs qs ps ≡ o .config
   pub going : Going s h ts hd cs qs ps
+  pub ruled : Ruled x
   pub answer : answerIn x ≡ o .answer
   pub report : reportIn x ≡ o .report

@@ -52,8 +52,8 @@ fn pass(
     buffer: &mut [u8],
     head: &mut [u64; HEAD_WIDTH],
     tasks: &mut [u64],
-    held: &mut [u8],
-    ceilings: &[u8],
+    held: &mut [u8; HELD_CELLS],
+    ceilings: &[u8; OBJECT_LIMIT],
     queues: &mut [u8],
     positions: &mut [u16],
 )

@@ -10,6 +10,7 @@ ghost use Rattle.format.specs.declared.Verdict.the-variants.{Passed};
 ghost use Rattle.memory.specs.Memory.{Means};
 ghost use Rattle.fresh.specs.Slices.{Sized};
 use memory::sizes::HEAD_WIDTH;
+use memory::sizes::HELD_CELLS;
 use memory::sizes::OBJECT_LIMIT;
 use memory::sizes::TASK_LIMIT;
 
@@ -45,8 +46,8 @@ pub fn start(
     roster: &[u8],
     head: &mut [u64; HEAD_WIDTH],
     tasks: &mut [u64],
-    held: &mut [u8],
-    ceilings: &mut [u8],
+    held: &mut [u8; HELD_CELLS],
+    ceilings: &mut [u8; OBJECT_LIMIT],
     queues: &mut [u8],
 )
     requires { ⌜ checkOf (now roster) ≡ Passed ⌝ }

@@ -11,6 +11,8 @@ use crate::scripts::step_in;
 use format::Step;
 use memory::rulings;
 use memory::sizes::HEAD_WIDTH;
+use memory::sizes::HELD_CELLS;
+use memory::sizes::OBJECT_LIMIT;
 use memory::sizes::RUNNING_CELL;
 use rules::Checked;
 use rules::Priority;
@@ -20,8 +22,8 @@ use trace::Input;
 fn perform(
     head: &mut [u64; HEAD_WIDTH],
     tasks: &mut [u64],
-    held: &mut [u8],
-    ceilings: &[u8],
+    held: &mut [u8; HELD_CELLS],
+    ceilings: &[u8; OBJECT_LIMIT],
     queues: &mut [u8],
     x: Step,
 ) -> u8
@@ -70,8 +72,8 @@ fn step(
     lengths: &[u16],
     head: &mut [u64; HEAD_WIDTH],
     tasks: &mut [u64],
-    held: &mut [u8],
-    ceilings: &[u8],
+    held: &mut [u8; HELD_CELLS],
+    ceilings: &[u8; OBJECT_LIMIT],
     queues: &mut [u8],
     positions: &mut [u16],
 ) -> u8
@@ -105,8 +107,8 @@ fn step(
 fn set_from(
     head: &mut [u64; HEAD_WIDTH],
     tasks: &mut [u64],
-    held: &[u8],
-    ceilings: &[u8],
+    held: &[u8; HELD_CELLS],
+    ceilings: &[u8; OBJECT_LIMIT],
     queues: &mut [u8],
     t: u8,
     value: u64,
@@ -139,8 +141,8 @@ pub fn happen(
     lengths: &[u16],
     head: &mut [u64; HEAD_WIDTH],
     tasks: &mut [u64],
-    held: &mut [u8],
-    ceilings: &[u8],
+    held: &mut [u8; HELD_CELLS],
+    ceilings: &[u8; OBJECT_LIMIT],
     queues: &mut [u8],
     positions: &mut [u16],
     x: Input,

@@ -77,9 +77,9 @@ same-length-3 c = search needs
 returns : tie.Need-returns
 unfolding apply delayFits
 returns c =
-    let at = c .before .before in
+    let at = c in
     let told = at .before .before .before .before .before .before .event .given in
-    let a = at .before .before .before .before .before .before .before .before .before .before .before .before in
+    let a = at .before .before .before .before .before .before .before .before .before .before in
     event-moves (a .pre) (a .args .event) (Enter (told .0 .0)) (cc) refl (at .enter .ensures)
 
 same-length-4 : tie.Need-same-length-4
@@ -94,9 +94,9 @@ same-length-6 c = search needs
 returns-2 : tie.Need-returns-2
 unfolding apply delayFits
 returns-2 c =
-    let at = c .before .before .before .before .before .before in
+    let at = c .before .before .before .before in
     let told = at .before .before .before .before .before .before .event2 .given in
-    let a = at .before .before .before .before .before .before .before .before .before .before .before .before in
+    let a = at .before .before .before .before .before .before .before .before .before .before in
     event-moves (a .pre) (a .args .event) (Leave (told .0 .0)) (cc) refl (at .leave .ensures)
 
 same-length-7 : tie.Need-same-length-7
@@ -113,7 +113,7 @@ unfolding apply delayFits
 returns-3 c =
     let at = c .before .before .before .before in
     let told = at .before .before .before .before .before .before .event3 .given in
-    let a = at .before .before .before .before .before .before .before .before .before .before .before .before in
+    let a = at .before .before .before .before .before .before .before .before .before .before in
     event-moves (a .pre) (a .args .event) (Delay (told .0 .0)) (cc) (le-leb (told .0 .0) lastDelay (omega arith)) (at .delay .ensures)
 
 same-length-10 : tie.Need-same-length-10
@@ -129,7 +129,7 @@ returns-4 : tie.Need-returns-4
 unfolding apply delayFits
 returns-4 c =
     let at = c .before .before .before .before in
-    let a = at .before .before .before .before .before .before .before .before .before .before .before in
+    let a = at .before .before .before .before .before .before .before .before .before in
     event-moves (a .pre) (a .args .event) Suspend (cc) refl (at .suspend .ensures)
 
 same-length-13 : tie.Need-same-length-13
@@ -146,7 +146,7 @@ unfolding apply delayFits
 returns-5 c =
     let at = c .before .before .before .before in
     let told = at .before .before .before .before .before .before .event4 .given in
-    let a = at .before .before .before .before .before .before .before .before .before .before .before .before in
+    let a = at .before .before .before .before .before .before .before .before .before .before in
     event-moves (a .pre) (a .args .event) (Release (told .0 .0)) (cc) refl (at .release .ensures)
 
 same-length-16 : tie.Need-same-length-16
@@ -163,55 +163,28 @@ unfolding apply delayFits
 returns-6 c =
     let at = c .before .before .before .before in
     let told = at .before .before .before .before .before .before .event5 .given in
-    let a = at .before .before .before .before .before .before .before .before .before .before .before .before in
+    let a = at .before .before .before .before .before .before .before .before .before .before in
     event-moves (a .pre) (a .args .event) (Clock (told .0 .0)) (cc) refl (at .clock .ensures)
-
-same-length-19 : tie.Need-same-length-19
-same-length-19 c = search needs
-
-same-length-20 : tie.Need-same-length-20
-same-length-20 c = search needs
-
-same-length-21 : tie.Need-same-length-21
-same-length-21 c = search needs
 
 returns-7 : tie.Need-returns-7
 unfolding apply delayFits
 returns-7 c =
     let at = c .before .before .before .before in
     let told = at .before .before .before .before .before .before .event6 .given in
-    let a = at .before .before .before .before .before .before .before .before .before .before .before .before in
+    let a = at .before .before .before .before .before .before .before .before .before .before in
     event-moves (a .pre) (a .args .event) (Set (told .0 .0) (told .0 .1 .0)) (cc) refl (at .set .ensures)
-
-same-length-22 : tie.Need-same-length-22
-same-length-22 c = search needs
-
-same-length-23 : tie.Need-same-length-23
-same-length-23 c = search needs
-
-same-length-24 : tie.Need-same-length-24
-same-length-24 c = search needs
 
 returns-8 : tie.Need-returns-8
 unfolding apply delayFits
 returns-8 c =
-    let a = c .before .before .before .before .before .before .before .before .before .before .before in
+    let a = c .before .before .before .before .before .before .before .before .before in
     event-moves (a .pre) (a .args .event) Work (cc) refl (c .work .ensures)
-
-same-length-25 : tie.Need-same-length-25
-same-length-25 c = search needs
-
-same-length-26 : tie.Need-same-length-26
-same-length-26 c = search needs
-
-same-length-27 : tie.Need-same-length-27
-same-length-27 c = search needs
 
 returns-9 : tie.Need-returns-9
 unfolding apply delayFits
 returns-9 c =
     let at = c .before .before .before .before in
-    let a = at .before .before .before .before .before .before .before .before .before .before .before in
+    let a = at .before .before .before .before .before .before .before .before .before in
     event-moves (a .pre) (a .args .event) Finish (cc) refl (at .finish .ensures)
 
 pub apply-spec : {M : Type 1} → statement M
@@ -238,37 +211,28 @@ apply-spec =
     finish-requires
     same-length
     same-length-2
-    same-length-3
     returns
+    same-length-3
     same-length-4
+    returns-2
     same-length-5
     same-length-6
-    returns-2
+    returns-3
     same-length-7
     same-length-8
+    returns-4
     same-length-9
-    returns-3
     same-length-10
+    returns-5
     same-length-11
     same-length-12
-    returns-4
+    returns-6
     same-length-13
     same-length-14
+    returns-7
     same-length-15
-    returns-5
     same-length-16
+    returns-8
     same-length-17
     same-length-18
-    returns-6
-    same-length-19
-    same-length-20
-    same-length-21
-    returns-7
-    same-length-22
-    same-length-23
-    same-length-24
-    returns-8
-    same-length-25
-    same-length-26
-    same-length-27
     returns-9)

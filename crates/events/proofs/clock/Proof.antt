@@ -25,8 +25,8 @@ bad-reading-requires c κs = search needs
 returns : tie.Need-returns
 returns c =
     let at-test = c .before in
-    let entry = at-test .before .before .before .before .before .before in
-    did-not Ruling.badReading refl (entry .pre .laid) (clock-4 _ _ (sym (at-test .bad-reading .ensures) ∙ c .if1 .taken))
+    let entry = at-test .before .before .before .before in
+    did-not Ruling.badReading (omega arith) (entry .pre .laid) (clock-4 _ _ (sym (at-test .bad-reading .ensures) ∙ c .if1 .taken))
 
 element-copy-out-running : tie.Need-element-copy-out-running
 element-copy-out-running c = search needs
@@ -38,7 +38,7 @@ wake-up-requires : tie.Need-wake-up-requires
 wake-up-requires c κs =
     let at-if1 = c .before .before .before .before in
     let at-test = at-if1 .before in
-    let entry = at-test .before .before .before .before .before .before in
+    let entry = at-test .before .before .before .before in
     let taken = sym (at-test .bad-reading .ensures) ∙ at-if1 .if1 .left in
     let v = entry .pre in
     let d = v .laid in
@@ -56,7 +56,7 @@ returns-2 c =
     let at-wake-up = c .before .before .before .before .before in
     let at-if1 = at-wake-up .before .before .before .before .before in
     let at-test = at-if1 .before in
-    let entry = at-test .before .before .before .before .before .before in
+    let entry = at-test .before .before .before .before in
     let taken = sym (at-test .bad-reading .ensures) ∙ at-if1 .if1 .left in
     let v = entry .pre in
     let d = v .laid in
@@ -68,7 +68,7 @@ conclude-requires c κs =
     let at-wake-up = c .before .before .before .before .before .before .before .before in
     let at-if1 = at-wake-up .before .before .before .before .before in
     let at-test = at-if1 .before in
-    let entry = at-test .before .before .before .before .before .before in
+    let entry = at-test .before .before .before .before in
     let taken = sym (at-test .bad-reading .ensures) ∙ at-if1 .if1 .left in
     let v = entry .pre in
     let d = v .laid in
@@ -87,7 +87,7 @@ returns-3 c =
     let at-wake-up = at-conclude .before .before .before .before .before .before .before .before .before in
     let at-if1 = at-wake-up .before .before .before .before .before in
     let at-test = at-if1 .before in
-    let entry = at-test .before .before .before .before .before .before in
+    let entry = at-test .before .before .before .before in
     let taken = sym (at-test .bad-reading .ensures) ∙ at-if1 .if1 .left in
     let v = entry .pre in
     let d = v .laid in

@@ -1,6 +1,7 @@
 -- `events::enter` meets its contract.
 use mathlib.Core.Path.{refl, _∙_}
 use Prim.Native.Nat.{_-_}
+use native.Mathlib.Omega.{arith}
 use borrow.Author.Needs.{needs}
 use Rattle.memory.specs.Rulings as Ruling
 use Rattle.rules.proofs.Pending.{t-fair}
@@ -18,10 +19,10 @@ element-copy-out-if1 c = search needs
 
 returns : tie.Need-returns
 returns c =
-    let entry = c .before .before .before .before .before .before in
+    let entry = c .before .before .before .before in
     let v = entry .pre in
     let d = v .laid in
-    did-not Ruling.noSuchObject refl d (enter-2 _ _ (unknown-object v _ (c .if1 .taken)))
+    did-not Ruling.noSuchObject (omega arith) d (enter-2 _ _ (unknown-object v _ (c .if1 .taken)))
 
 element-copy-out-running : tie.Need-element-copy-out-running
 element-copy-out-running c = search needs
@@ -29,10 +30,10 @@ element-copy-out-running c = search needs
 returns-2 : tie.Need-returns-2
 returns-2 c =
     let at-if1 = c .before .before in
-    let entry = at-if1 .before .before .before .before .before .before in
+    let entry = at-if1 .before .before .before .before in
     let v = entry .pre in
     let d = v .laid in
-    did-not Ruling.nobodyRuns refl d (enter-5 _ _ (known-object v _ (at-if1 .if1 .left)) (idle d (c .if2 .taken)))
+    did-not Ruling.nobodyRuns (omega arith) d (enter-5 _ _ (known-object v _ (at-if1 .if1 .left)) (idle d (c .if2 .taken)))
 
 sub-t : tie.Need-sub-t
 sub-t c = search needs
@@ -42,72 +43,63 @@ cast-object c = search needs
 
 holds-requires : tie.Need-holds-requires
 holds-requires c κs =
-    let at-if2 = c .before in
-    let entry = at-if2 .before .before .before .before .before .before .before .before in
+    let at-if2 = c .before .before in
+    let entry = at-if2 .before .before .before .before .before .before in
     let v = entry .pre in
     let d = v .laid in
     let e = runner v (at-if2 .if2 .left) in
     let g = runner-counted v (at-if2 .if2 .left) in
     holdable d _ g
 
-same-length : tie.Need-same-length
-same-length c = search needs
-
 returns-3 : tie.Need-returns-3
 returns-3 c =
     let at-holds = c .before in
-    let at-if2 = at-holds .before .before in
+    let at-if2 = at-holds .before .before .before in
     let at-if1 = at-if2 .before .before in
-    let entry = at-if1 .before .before .before .before .before .before in
+    let entry = at-if1 .before .before .before .before in
     let v = entry .pre in
     let d = v .laid in
     let e = runner v (at-if2 .if2 .left) in
     let g = runner-counted v (at-if2 .if2 .left) in
     let held = holds-is v _ _ _ g (at-holds .holds .ensures) ∙ c .if3 .taken in
-    did-not Ruling.insideAction refl d (enter-7 _ _ _ (known-object v _ (at-if1 .if1 .left)) e held)
+    did-not Ruling.insideAction (omega arith) d (enter-7 _ _ _ (known-object v _ (at-if1 .if1 .left)) e held)
 
 active-inside-requires : tie.Need-active-inside-requires
 active-inside-requires c κs =
-    let at-if2 = c .before .before .before .before in
-    let entry = at-if2 .before .before .before .before .before .before .before .before in
+    let at-if2 = c .before .before .before .before .before in
+    let entry = at-if2 .before .before .before .before .before .before in
     let v = entry .pre in
     let d = v .laid in
     let e = runner v (at-if2 .if2 .left) in
     let g = runner-counted v (at-if2 .if2 .left) in
     (d, (g, t-fair _ _ (good v) e .rises))
 
-shared-slice-read-if4 : tie.Need-shared-slice-read-if4
-shared-slice-read-if4 c = search needs
-
-same-length-2 : tie.Need-same-length-2
-same-length-2 c = search needs
-
-same-length-3 : tie.Need-same-length-3
-same-length-3 c = search needs
+element-copy-out-if4 : tie.Need-element-copy-out-if4
+element-copy-out-if4 c = search needs
 
 returns-4 : tie.Need-returns-4
 returns-4 c =
     let at-active = c .before .before .before in
     let at-if3 = at-active .before .before in
     let at-holds = at-if3 .before in
-    let at-if2 = at-holds .before .before in
+    let at-if2 = at-holds .before .before .before in
     let at-if1 = at-if2 .before .before in
-    let entry = at-if1 .before .before .before .before .before .before in
+    let entry = at-if1 .before .before .before .before in
     let v = entry .pre in
     let d = v .laid in
     let e = runner v (at-if2 .if2 .left) in
     let g = runner-counted v (at-if2 .if2 .left) in
     let free = holds-is v _ _ _ g (at-holds .holds .ensures) ∙ at-if3 .if3 .left in
     let above = above-ceiling v _ _ _ (at-if1 .if1 .left) (at-active .active-inside .ensures) (c .if4 .taken) in
-    did-not Ruling.aboveCeiling refl d (enter-8 _ _ _ (known-object v _ (at-if1 .if1 .left)) e free above)
+    did-not Ruling.aboveCeiling (omega arith) d (enter-8 _ _ _ (known-object v _ (at-if1 .if1 .left)) e free above)
 
 push-requires : tie.Need-push-requires
 push-requires c κs =
     let at-if3 = c .before .before .before .before .before .before in
     let at-holds = at-if3 .before in
-    let at-if2 = at-holds .before .before in
+    let at-if2 = at-holds .before .before .before in
     let at-if1 = at-if2 .before .before in
-    let entry = at-if1 .before .before .before .before .before .before in
+    let entry = at-if1 .before .before .before .before in
     let v = entry .pre in
     let d = v .laid in
     let e = runner v (at-if2 .if2 .left) in
@@ -117,14 +109,14 @@ push-requires c κs =
 
 returns-5 : tie.Need-returns-5
 returns-5 c =
-    let at-push = c .before .before in
+    let at-push = c in
     let at-if4 = at-push .before .before in
     let at-active = at-if4 .before .before .before in
     let at-if3 = at-active .before .before in
     let at-holds = at-if3 .before in
-    let at-if2 = at-holds .before .before in
+    let at-if2 = at-holds .before .before .before in
     let at-if1 = at-if2 .before .before in
-    let entry = at-if1 .before .before .before .before .before .before in
+    let entry = at-if1 .before .before .before .before in
     let v = entry .pre in
     let d = v .laid in
     let e = runner v (at-if2 .if2 .left) in
@@ -145,12 +137,9 @@ enter-spec =
     sub-t
     cast-object
     holds-requires
-    same-length
     returns-3
     active-inside-requires
-    shared-slice-read-if4
-    same-length-2
+    element-copy-out-if4
     returns-4
     push-requires
-    same-length-3
     returns-5)

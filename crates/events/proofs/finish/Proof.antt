@@ -19,42 +19,42 @@ element-copy-out-running c = search needs
 
 returns : tie.Need-returns
 returns c =
-    let entry = c .before .before .before .before .before .before in
+    let entry = c .before .before .before .before in
     let v = entry .pre in
     let d = v .laid in
-    did-not Ruling.nobodyRuns refl d (finish-5 _ (idle d (c .if1 .taken)))
+    did-not Ruling.nobodyRuns (omega arith) d (finish-5 _ (idle d (c .if1 .taken)))
 
 sub-t : tie.Need-sub-t
 sub-t c = search needs
 
 depth-requires : tie.Need-depth-requires
 depth-requires c κs =
-    let entry = c .before .before .before .before .before .before in
+    let entry = c .before .before .before .before .before in
     let v = entry .pre in
     let d = v .laid in
-    let e = runner v (c .if1 .left) in
-    let g = runner-counted v (c .if1 .left) in
+    let e = runner v (c .before .if1 .left) in
+    let g = runner-counted v (c .before .if1 .left) in
     holdable d _ g
 
 returns-2 : tie.Need-returns-2
 returns-2 c =
     let at-depth = c .before in
-    let at-if1 = at-depth .before in
-    let entry = at-if1 .before .before .before .before .before .before in
+    let at-if1 = at-depth .before .before in
+    let entry = at-if1 .before .before .before .before in
     let v = entry .pre in
     let d = v .laid in
     let e = runner v (at-if1 .if1 .left) in
     let g = runner-counted v (at-if1 .if1 .left) in
     let in-action = inside-is d _ _ g (at-depth .depth .ensures) (c .if2 .taken) in
-    did-not Ruling.insideAction refl d (finish-7 _ _ e in-action)
+    did-not Ruling.insideAction (omega arith) d (finish-7 _ _ e in-action)
 
 element-write-head : tie.Need-element-write-head
 element-write-head c = search needs
 
 set-place-requires : tie.Need-set-place-requires
 set-place-requires c κs =
-    let at-if1 = c .before .before .before in
-    let entry = at-if1 .before .before .before .before .before .before in
+    let at-if1 = c .before .before .before .before in
+    let entry = at-if1 .before .before .before .before in
     let v = entry .pre in
     let d = v .laid in
     let e = runner v (at-if1 .if1 .left) in
@@ -66,8 +66,8 @@ conclude-requires c κs =
     let at-set-place = c .before .before .before .before .before in
     let at-if2 = at-set-place .before .before in
     let at-depth = at-if2 .before in
-    let at-if1 = at-depth .before in
-    let entry = at-if1 .before .before .before .before .before .before in
+    let at-if1 = at-depth .before .before in
+    let entry = at-if1 .before .before .before .before in
     let v = entry .pre in
     let d = v .laid in
     let e = runner v (at-if1 .if1 .left) in
@@ -87,8 +87,8 @@ returns-3 c =
     let at-set-place = at-conclude .before .before .before .before .before .before in
     let at-if2 = at-set-place .before .before in
     let at-depth = at-if2 .before in
-    let at-if1 = at-depth .before in
-    let entry = at-if1 .before .before .before .before .before .before in
+    let at-if1 = at-depth .before .before in
+    let entry = at-if1 .before .before .before .before in
     let v = entry .pre in
     let d = v .laid in
     let e = runner v (at-if1 .if1 .left) in

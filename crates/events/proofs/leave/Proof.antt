@@ -23,10 +23,10 @@ element-copy-out-if1 c = search needs
 
 returns : tie.Need-returns
 returns c =
-    let entry = c .before .before .before .before .before .before in
+    let entry = c .before .before .before .before in
     let v = entry .pre in
     let d = v .laid in
-    did-not Ruling.noSuchObject refl d (leave-2 _ _ (unknown-object v _ (c .if1 .taken)))
+    did-not Ruling.noSuchObject (omega arith) d (leave-2 _ _ (unknown-object v _ (c .if1 .taken)))
 
 element-copy-out-running : tie.Need-element-copy-out-running
 element-copy-out-running c = search needs
@@ -34,18 +34,18 @@ element-copy-out-running c = search needs
 returns-2 : tie.Need-returns-2
 returns-2 c =
     let at-if1 = c .before .before in
-    let entry = at-if1 .before .before .before .before .before .before in
+    let entry = at-if1 .before .before .before .before in
     let v = entry .pre in
     let d = v .laid in
-    did-not Ruling.nobodyRuns refl d (leave-5 _ _ (known-object v _ (at-if1 .if1 .left)) (idle d (c .if2 .taken)))
+    did-not Ruling.nobodyRuns (omega arith) d (leave-5 _ _ (known-object v _ (at-if1 .if1 .left)) (idle d (c .if2 .taken)))
 
 sub-t : tie.Need-sub-t
 sub-t c = search needs
 
 depth-requires : tie.Need-depth-requires
 depth-requires c κs =
-    let at-if2 = c .before in
-    let entry = at-if2 .before .before .before .before .before .before .before .before in
+    let at-if2 = c .before .before in
+    let entry = at-if2 .before .before .before .before .before .before in
     let v = entry .pre in
     let d = v .laid in
     let e = runner v (at-if2 .if2 .left) in
@@ -58,22 +58,22 @@ same-length c = search needs
 returns-3 : tie.Need-returns-3
 returns-3 c =
     let at-depth = c .before in
-    let at-if2 = at-depth .before .before in
+    let at-if2 = at-depth .before .before .before in
     let at-if1 = at-if2 .before .before in
-    let entry = at-if1 .before .before .before .before .before .before in
+    let entry = at-if1 .before .before .before .before in
     let v = entry .pre in
     let d = v .laid in
     let e = runner v (at-if2 .if2 .left) in
     let g = runner-counted v (at-if2 .if2 .left) in
     let none = innermost-none d _ _ _ g (at-depth .depth .ensures) (omega (arith, c .if3 .taken)) in
-    did-not Ruling.notInnermost refl d (leave-9 _ _ _ (known-object v _ (at-if1 .if1 .left)) e none)
+    did-not Ruling.notInnermost (omega arith) d (leave-9 _ _ _ (known-object v _ (at-if1 .if1 .left)) e none)
 
 last-requires : tie.Need-last-requires
 last-requires c κs =
-    let at-if3 = c .before in
+    let at-if3 = c .before .before in
     let at-depth = at-if3 .before in
-    let at-if2 = at-depth .before .before in
-    let entry = at-if2 .before .before .before .before .before .before .before .before in
+    let at-if2 = at-depth .before .before .before in
+    let entry = at-if2 .before .before .before .before .before .before in
     let v = entry .pre in
     let d = v .laid in
     let e = runner v (at-if2 .if2 .left) in
@@ -90,11 +90,11 @@ same-length-2 c = search needs
 returns-4 : tie.Need-returns-4
 returns-4 c =
     let at-last = c .before in
-    let at-if3 = at-last .before .before in
+    let at-if3 = at-last .before .before .before in
     let at-depth = at-if3 .before in
-    let at-if2 = at-depth .before .before in
+    let at-if2 = at-depth .before .before .before in
     let at-if1 = at-if2 .before .before in
-    let entry = at-if1 .before .before .before .before .before .before in
+    let entry = at-if1 .before .before .before .before in
     let v = entry .pre in
     let d = v .laid in
     let e = runner v (at-if2 .if2 .left) in
@@ -102,14 +102,14 @@ returns-4 c =
     let other =
     innermost-other d _ _ _ _ g (at-depth .depth .ensures) (omega (arith, at-if3 .if3 .left)) (at-last .last .ensures)
     (c .if4 .taken) in
-    did-not Ruling.notInnermost refl d (leave-9 _ _ _ (known-object v _ (at-if1 .if1 .left)) e other)
+    did-not Ruling.notInnermost (omega arith) d (leave-9 _ _ _ (known-object v _ (at-if1 .if1 .left)) e other)
 
 drop-last-requires : tie.Need-drop-last-requires
 drop-last-requires c κs =
-    let at-if3 = c .before .before .before .before in
+    let at-if3 = c .before .before .before .before .before in
     let at-depth = at-if3 .before in
-    let at-if2 = at-depth .before .before in
-    let entry = at-if2 .before .before .before .before .before .before .before .before in
+    let at-if2 = at-depth .before .before .before in
+    let entry = at-if2 .before .before .before .before .before .before in
     let v = entry .pre in
     let d = v .laid in
     let e = runner v (at-if2 .if2 .left) in
@@ -119,9 +119,9 @@ drop-last-requires c κs =
 
 settle-requires : tie.Need-settle-requires
 settle-requires c κs =
-    let at-drop-last = c .before .before .before .before .before .before in
-    let at-if2 = at-drop-last .before .before .before .before .before .before .before .before in
-    let entry = at-if2 .before .before .before .before .before .before .before .before in
+    let at-drop-last = c .before .before .before .before in
+    let at-if2 = at-drop-last .before .before .before .before .before .before .before .before .before .before in
+    let entry = at-if2 .before .before .before .before .before .before in
     let v = entry .pre in
     let d = v .laid in
     let e = runner v (at-if2 .if2 .left) in
@@ -132,9 +132,9 @@ settle-requires c κs =
 conclude-requires : tie.Need-conclude-requires
 conclude-requires c κs =
     let at-settle = c .before .before .before .before .before .before .before .before in
-    let at-drop-last = at-settle .before .before .before .before .before .before .before in
-    let at-if2 = at-drop-last .before .before .before .before .before .before .before .before in
-    let entry = at-if2 .before .before .before .before .before .before .before .before in
+    let at-drop-last = at-settle .before .before .before .before .before in
+    let at-if2 = at-drop-last .before .before .before .before .before .before .before .before .before .before in
+    let entry = at-if2 .before .before .before .before .before .before in
     let v = entry .pre in
     let d = v .laid in
     let e = runner v (at-if2 .if2 .left) in
@@ -143,27 +143,18 @@ conclude-requires c κs =
     let x = then-means (λ (m : Model). settle m t) (give-up-law d t g (at-drop-last .drop-last .ensures)) (at-settle .settle .ensures) in
     dispatchable x (pending-leave _ t (good v) e)
 
-same-length-3 : tie.Need-same-length-3
-same-length-3 c = search needs
-
-same-length-4 : tie.Need-same-length-4
-same-length-4 c = search needs
-
-same-length-5 : tie.Need-same-length-5
-same-length-5 c = search needs
-
 returns-5 : tie.Need-returns-5
 returns-5 c =
     let at-conclude = c .before .before .before .before in
     let at-settle = at-conclude .before .before .before .before .before .before .before .before .before in
-    let at-drop-last = at-settle .before .before .before .before .before .before .before in
+    let at-drop-last = at-settle .before .before .before .before .before in
     let at-if4 = at-drop-last .before .before in
     let at-last = at-if4 .before in
-    let at-if3 = at-last .before .before in
+    let at-if3 = at-last .before .before .before in
     let at-depth = at-if3 .before in
-    let at-if2 = at-depth .before .before in
+    let at-if2 = at-depth .before .before .before in
     let at-if1 = at-if2 .before .before in
-    let entry = at-if1 .before .before .before .before .before .before in
+    let entry = at-if1 .before .before .before .before in
     let v = entry .pre in
     let d = v .laid in
     let e = runner v (at-if2 .if2 .left) in
@@ -185,16 +176,13 @@ leave-spec =
     returns-2
     sub-t
     depth-requires
-    same-length
     returns-3
     last-requires
     cast-if4
-    same-length-2
     returns-4
     drop-last-requires
     settle-requires
     conclude-requires
-    same-length-3
-    same-length-4
-    same-length-5
+    same-length
+    same-length-2
     returns-5)

@@ -1,6 +1,7 @@
 -- `events::release` meets its contract.
 use mathlib.Core.Path.{refl, _∙_, sym}
 use Prim.Native.Nat.{_-_}
+use native.Mathlib.Omega.{arith}
 use borrow.Author.Needs.{needs}
 use borrow.Author.Tests.{not-true}
 use Rattle.memory.specs.Rulings as Ruling
@@ -17,10 +18,10 @@ element-copy-out-if1 c = search needs
 
 returns : tie.Need-returns
 returns c =
-    let entry = c .before .before .before .before .before .before in
+    let entry = c .before .before .before .before in
     let v = entry .pre in
     let d = v .laid in
-    did-not Ruling.noSuchTask refl d (release-1 _ _ (unknown-task v _ (c .if1 .taken)))
+    did-not Ruling.noSuchTask (omega arith) d (release-1 _ _ (unknown-task v _ (c .if1 .taken)))
 
 element-copy-out-running : tie.Need-element-copy-out-running
 element-copy-out-running c = search needs
@@ -28,7 +29,7 @@ element-copy-out-running c = search needs
 release-from-requires : tie.Need-release-from-requires
 release-from-requires c κs =
     let at-if1 = c .before .before .before .before in
-    let entry = at-if1 .before .before .before .before .before .before in
+    let entry = at-if1 .before .before .before .before in
     let v = entry .pre in
     let d = v .laid in
     let l = there v _ (at-if1 .if1 .left) in
@@ -44,7 +45,7 @@ returns-2 : tie.Need-returns-2
 returns-2 c =
     let at-release-from = c .before .before .before .before .before in
     let at-if1 = at-release-from .before .before .before .before .before in
-    let entry = at-if1 .before .before .before .before .before .before in
+    let entry = at-if1 .before .before .before .before in
     let v = entry .pre in
     let no = sym (at-release-from .release-from .ensures .1) ∙ not-true _ (c .if2 .taken) in
     did-quiet (at-release-from .release-from .ensures .0) (quiet-release _ _ _ (good v) no)
@@ -54,7 +55,7 @@ conclude-requires : tie.Need-conclude-requires
 conclude-requires c κs =
     let at-release-from = c .before .before .before .before .before .before .before .before in
     let at-if1 = at-release-from .before .before .before .before .before in
-    let entry = at-if1 .before .before .before .before .before .before in
+    let entry = at-if1 .before .before .before .before in
     let v = entry .pre in
     let l = there v _ (at-if1 .if1 .left) in
     dispatchable (at-release-from .release-from .ensures .0) (pending-release _ _ (good v .pending) l)
@@ -70,7 +71,7 @@ returns-3 c =
     let at-conclude = c .before .before .before .before in
     let at-release-from = at-conclude .before .before .before .before .before .before .before .before .before in
     let at-if1 = at-release-from .before .before .before .before .before in
-    let entry = at-if1 .before .before .before .before .before .before in
+    let entry = at-if1 .before .before .before .before in
     let v = entry .pre in
     did _ (at-release-from .release-from .ensures .0) (at-conclude .conclude .ensures) (release-0 _ _ (known-task v _ (at-if1 .if1 .left)))
 

@@ -1,6 +1,7 @@
 -- `events::set` meets its contract.
 use mathlib.Core.Path.{refl, ap, _∙_, sym}
 use Prim.Native.Nat.{_-_}
+use native.Mathlib.Omega.{arith}
 use borrow.Author.Needs.{needs}
 use lib.ListN.{set}
 use Rattle.rules.specs.Events.{isEnded}
@@ -20,29 +21,29 @@ element-copy-out-if1 c = search needs
 
 returns : tie.Need-returns
 returns c =
-    let entry = c .before .before .before .before .before .before in
+    let entry = c .before .before .before .before in
     let v = entry .pre in
     let d = v .laid in
-    did-not Ruling.noSuchTask refl d (set-1 _ _ _ (unknown-task v _ (c .if1 .taken)))
+    did-not Ruling.noSuchTask (omega arith) d (set-1 _ _ _ (unknown-task v _ (c .if1 .taken)))
 
 returns-2 : tie.Need-returns-2
 returns-2 c =
     let at-if1 = c .before .before .before in
-    let entry = at-if1 .before .before .before .before .before .before in
+    let entry = at-if1 .before .before .before .before in
     let v = entry .pre in
     let d = v .laid in
     let here = known-task v _ (at-if1 .if1 .left) in
-    did-not Ruling.badPriority refl d (set-3 _ _ _ here (too-low _ (c .if2 .taken)))
+    did-not Ruling.badPriority (omega arith) d (set-3 _ _ _ here (too-low _ (c .if2 .taken)))
 
 returns-3 : tie.Need-returns-3
 returns-3 c =
     let at-if2 = c .before .before .before in
     let at-if1 = at-if2 .before .before .before in
-    let entry = at-if1 .before .before .before .before .before .before in
+    let entry = at-if1 .before .before .before .before in
     let v = entry .pre in
     let d = v .laid in
     let here = known-task v _ (at-if1 .if1 .left) in
-    did-not Ruling.badPriority refl d (set-3 _ _ _ here (too-high _ (at-if2 .if2 .left) (c .if3 .taken)))
+    did-not Ruling.badPriority (omega arith) d (set-3 _ _ _ here (too-high _ (at-if2 .if2 .left) (c .if3 .taken)))
 
 place-requires : tie.Need-place-requires
 place-requires c κs = search needs
@@ -60,14 +61,14 @@ returns-4 c =
     let at-if3 = at-place .before .before in
     let at-if2 = at-if3 .before .before .before in
     let at-if1 = at-if2 .before .before .before in
-    let entry = at-if1 .before .before .before .before .before .before in
+    let entry = at-if1 .before .before .before .before in
     let v = entry .pre in
     let d = v .laid in
     let here = known-task v _ (at-if1 .if1 .left) in
     let range = bounds-in _ (at-if2 .if2 .left) (at-if3 .if3 .left) in
     let place = place-is d _ (at-if1 .if1 .left) ∙ sym (at-place .place .ensures) in
     let ended = ap isEnded place ∙ (sym (at-is-ended .is-ended .ensures) ∙ c .if4 .taken) in
-    did-not Ruling.endedTask refl d (set-6 _ _ _ here range ended)
+    did-not Ruling.endedTask (omega arith) d (set-6 _ _ _ here range ended)
 
 element-copy-out-running : tie.Need-element-copy-out-running
 element-copy-out-running c = search needs
@@ -77,7 +78,7 @@ rebase-requires c κs =
     let at-if3 = c .before .before .before .before .before .before .before .before in
     let at-if2 = at-if3 .before .before .before in
     let at-if1 = at-if2 .before .before .before in
-    let entry = at-if1 .before .before .before .before .before .before in
+    let entry = at-if1 .before .before .before .before in
     let v = entry .pre in
     let d = v .laid in
     let l = there v _ (at-if1 .if1 .left) in
@@ -90,7 +91,7 @@ conclude-requires c κs =
     let at-if3 = at-rebase .before .before .before .before .before .before .before .before .before in
     let at-if2 = at-if3 .before .before .before in
     let at-if1 = at-if2 .before .before .before in
-    let entry = at-if1 .before .before .before .before .before .before in
+    let entry = at-if1 .before .before .before .before in
     let v = entry .pre in
     let d = v .laid in
     let l = there v _ (at-if1 .if1 .left) in
@@ -113,7 +114,7 @@ returns-5 c =
     let at-if3 = at-place .before .before in
     let at-if2 = at-if3 .before .before .before in
     let at-if1 = at-if2 .before .before .before in
-    let entry = at-if1 .before .before .before .before .before .before in
+    let entry = at-if1 .before .before .before .before in
     let v = entry .pre in
     let d = v .laid in
     let here = known-task v _ (at-if1 .if1 .left) in

@@ -1,6 +1,7 @@
 -- `events::suspend` meets its contract.
 use mathlib.Core.Path.{refl, _∙_, sym}
 use Prim.Native.Nat.{_-_}
+use native.Mathlib.Omega.{arith}
 use borrow.Author.Needs.{needs}
 use Rattle.memory.specs.Rulings as Ruling
 use Rattle.rules.proofs.EventLaws.{suspend-5, suspend-7, suspend-0}
@@ -17,39 +18,39 @@ element-copy-out-running c = search needs
 
 returns : tie.Need-returns
 returns c =
-    let entry = c .before .before .before .before .before .before in
+    let entry = c .before .before .before .before in
     let v = entry .pre in
     let d = v .laid in
-    did-not Ruling.nobodyRuns refl d (suspend-5 _ (idle d (c .if1 .taken)))
+    did-not Ruling.nobodyRuns (omega arith) d (suspend-5 _ (idle d (c .if1 .taken)))
 
 sub-t : tie.Need-sub-t
 sub-t c = search needs
 
 depth-requires : tie.Need-depth-requires
 depth-requires c κs =
-    let entry = c .before .before .before .before .before .before in
+    let entry = c .before .before .before .before .before in
     let v = entry .pre in
     let d = v .laid in
-    let e = runner v (c .if1 .left) in
-    let g = runner-counted v (c .if1 .left) in
+    let e = runner v (c .before .if1 .left) in
+    let g = runner-counted v (c .before .if1 .left) in
     holdable d _ g
 
 returns-2 : tie.Need-returns-2
 returns-2 c =
     let at-depth = c .before in
-    let at-if1 = at-depth .before in
-    let entry = at-if1 .before .before .before .before .before .before in
+    let at-if1 = at-depth .before .before in
+    let entry = at-if1 .before .before .before .before in
     let v = entry .pre in
     let d = v .laid in
     let e = runner v (at-if1 .if1 .left) in
     let g = runner-counted v (at-if1 .if1 .left) in
     let in-action = inside-is d _ _ g (at-depth .depth .ensures) (c .if2 .taken) in
-    did-not Ruling.insideAction refl d (suspend-7 _ _ e in-action)
+    did-not Ruling.insideAction (omega arith) d (suspend-7 _ _ e in-action)
 
 rest-requires : tie.Need-rest-requires
 rest-requires c κs =
-    let at-if1 = c .before .before .before .before .before in
-    let entry = at-if1 .before .before .before .before .before .before in
+    let at-if1 = c .before .before .before .before .before .before in
+    let entry = at-if1 .before .before .before .before in
     let v = entry .pre in
     let d = v .laid in
     let e = runner v (at-if1 .if1 .left) in
@@ -67,8 +68,8 @@ returns-3 c =
     let at-rest = c .before .before .before in
     let at-if2 = at-rest .before .before .before .before in
     let at-depth = at-if2 .before in
-    let at-if1 = at-depth .before in
-    let entry = at-if1 .before .before .before .before .before .before in
+    let at-if1 = at-depth .before .before in
+    let entry = at-if1 .before .before .before .before in
     let v = entry .pre in
     let d = v .laid in
     let e = runner v (at-if1 .if1 .left) in
@@ -82,8 +83,8 @@ conclude-requires c κs =
     let at-rest = c .before .before .before .before .before .before in
     let at-if2 = at-rest .before .before .before .before in
     let at-depth = at-if2 .before in
-    let at-if1 = at-depth .before in
-    let entry = at-if1 .before .before .before .before .before .before in
+    let at-if1 = at-depth .before .before in
+    let entry = at-if1 .before .before .before .before in
     let v = entry .pre in
     let d = v .laid in
     let e = runner v (at-if1 .if1 .left) in
@@ -103,8 +104,8 @@ returns-4 c =
     let at-rest = at-conclude .before .before .before .before .before .before .before in
     let at-if2 = at-rest .before .before .before .before in
     let at-depth = at-if2 .before in
-    let at-if1 = at-depth .before in
-    let entry = at-if1 .before .before .before .before .before .before in
+    let at-if1 = at-depth .before .before in
+    let entry = at-if1 .before .before .before .before in
     let v = entry .pre in
     let d = v .laid in
     let e = runner v (at-if1 .if1 .left) in

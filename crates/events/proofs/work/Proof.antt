@@ -1,6 +1,7 @@
 -- `events::work` meets its contract.
 use mathlib.Core.Path.{refl}
 use Prim.Native.Nat.{_-_}
+use native.Mathlib.Omega.{arith}
 use borrow.Author.Needs.{needs}
 use Rattle.memory.specs.Rulings as Ruling
 use Rattle.rules.proofs.EventLaws.{work-5, work-0}
@@ -18,7 +19,7 @@ returns c =
     let entry = c .before .before in
     let v = entry .pre in
     let d = v .laid in
-    did-not Ruling.nobodyRuns refl d (work-5 _ (idle d (c .if1 .taken)))
+    did-not Ruling.nobodyRuns (omega arith) d (work-5 _ (idle d (c .if1 .taken)))
 
 returns-2 : tie.Need-returns-2
 returns-2 c =

@@ -13,8 +13,8 @@ lay-out-requires c κs = search needs
 
 join-all-requires : tie.Need-join-all-requires
 join-all-requires c κs =
-    let at-lay-out = c .before .before .before .before .before .before .before .before .before .before .before .before .before in
-    let entry = at-lay-out .before .before .before .before .before .before .before .before .before .before .before .before in
+    let at-lay-out = c .before .before .before .before .before .before .before .before .before in
+    let entry = at-lay-out .before .before .before .before .before .before .before .before .before .before in
     let x = at-lay-out .lay-out .ensures in
     (x .laid, rw (x .same) (fresh-joins _ (entry .pre .0)))
 
@@ -22,9 +22,8 @@ dispatch-requires : tie.Need-dispatch-requires
 dispatch-requires c κs =
     let at-join-all = c .before .before .before .before .before .before .before .before .before in
     let at-lay-out =
-    at-join-all .before .before .before .before .before .before .before .before .before .before .before .before .before
-    .before in
-    let entry = at-lay-out .before .before .before .before .before .before .before .before .before .before .before .before in
+    at-join-all .before .before .before .before .before .before .before .before .before .before in
+    let entry = at-lay-out .before .before .before .before .before .before .before .before .before .before in
     let x = at-lay-out .lay-out .ensures in
     let y = joined-law _ x (at-join-all .join-all .ensures) in
     (y .laid, rw (y .same) (fresh-dispatches _ (entry .pre .0)))
@@ -35,20 +34,13 @@ same-length c = search needs
 same-length-2 : tie.Need-same-length-2
 same-length-2 c = search needs
 
-same-length-3 : tie.Need-same-length-3
-same-length-3 c = search needs
-
-same-length-4 : tie.Need-same-length-4
-same-length-4 c = search needs
-
 returns : tie.Need-returns
 unfolding freshModel
 returns c =
     let at-dispatch = c .before .before .before .before in
     let at-join-all = at-dispatch .before .before .before .before .before .before .before .before .before .before in
     let at-lay-out =
-    at-join-all .before .before .before .before .before .before .before .before .before .before .before .before .before
-    .before in
+    at-join-all .before .before .before .before .before .before .before .before .before .before in
     let y = joined-law _ (at-lay-out .lay-out .ensures) (at-join-all .join-all .ensures) in
     then-means dispatch y (at-dispatch .dispatch .ensures)
 
@@ -61,6 +53,4 @@ fresh-spec =
     dispatch-requires
     same-length
     same-length-2
-    same-length-3
-    same-length-4
     returns)

@@ -29,12 +29,12 @@ element-copy-out-n c = search needs
 
 loop-holds : tie.Need-loop-holds Inv-loop μ-loop
 unfolding joinFrom
-loop-holds c = (search needs, as-laid (c .before .before .before .before .before .pre .0), refl, refl)
+loop-holds c = (search needs, as-laid (c .before .before .before .pre .0), refl, refl)
 
 become-ready-requires : tie.Need-become-ready-requires Inv-loop μ-loop
 become-ready-requires c κs =
     let at-loop = c .before .before .before .before in
-    let entry = at-loop .before .before .before .before .before .before in
+    let entry = at-loop .before .before .before .before in
     let l = at-loop .loop in
     let next = entry .pre .1 .next (l .t) (omega (arith, count-is (entry .pre .0))) in
     (l .inv .1 .laid, rw (l .inv .1 .same) next)
@@ -64,7 +64,7 @@ same-length-2 c = search needs
 returns : tie.Need-returns Inv-loop μ-loop
 returns c =
     let at-loop = c .before in
-    let entry = at-loop .before .before .before .before .before .before in
+    let entry = at-loop .before .before .before .before in
     let e : at-loop .loop .t ≡ taskCountIn (entry .args .head .now) = omega arith in
     means-by (at-loop .loop .inv .1) (rw e)
 

@@ -26,9 +26,8 @@ copy-requires c κs = search needs
 enroll-requires : tie.Need-enroll-requires
 enroll-requires c κs =
     let at-clear-words =
-    c .before .before .before .before .before .before .before .before .before .before .before .before .before .before .before
-    .before .before .before .before in
-    let entry = at-clear-words .before .before .before .before .before .before .before .before in
+    c .before .before .before .before .before .before .before .before .before .before .before .before .before in
+    let entry = at-clear-words .before .before .before .before .before .before in
     let z = at-clear-words .clear-words .ensures ∙ ap (λ (n : ℕ). replicate n 0) (entry .pre .1 .tasks) in
     (blank-rows _ z, entry .pre .0 .count)
 
@@ -56,21 +55,15 @@ same-length c = search needs
 same-length-2 : tie.Need-same-length-2
 same-length-2 c = search needs
 
-same-length-3 : tie.Need-same-length-3
-same-length-3 c = search needs
-
-same-length-4 : tie.Need-same-length-4
-same-length-4 c = search needs
-
 returns : tie.Need-returns
 returns c =
     let at-enroll = c .before .before in
-    let at-copy = at-enroll .before .before .before .before in
+    let at-copy = at-enroll .before .before in
     let at-clear-bytes3 = at-copy .before .before .before .before in
-    let at-clear-bytes2 = at-clear-bytes3 .before .before .before .before in
-    let at-clear-bytes = at-clear-bytes2 .before .before .before .before in
+    let at-clear-bytes2 = at-clear-bytes3 .before .before in
+    let at-clear-bytes = at-clear-bytes2 .before .before in
     let at-clear-words = at-clear-bytes .before .before .before .before in
-    let entry = at-clear-words .before .before .before .before .before .before .before .before in
+    let entry = at-clear-words .before .before .before .before .before .before in
     let s = entry .pre .0 in
     let size = entry .pre .1 in
     let ts = at-clear-words .clear-words .ensures ∙ ap (λ (n : ℕ). replicate n 0) (size .tasks) in
@@ -98,6 +91,4 @@ lay-out-spec =
     element-write-head-6
     same-length
     same-length-2
-    same-length-3
-    same-length-4
     returns)

@@ -8,25 +8,25 @@ use Rattle.moves.proofs.become_ready.Tie as tie
 
 base-requires : tie.Need-base-requires
 base-requires c κs =
-    let entry = c .before .before .before .before .before in
+    let entry = c .before .before .before in
     writable (entry .pre .0) (entry .pre .1 .joins .there)
 
 cast-push-tail : tie.Need-cast-push-tail
 cast-push-tail c =
-    let entry = c .before .before .before .before .before .before .before .before in
+    let entry = c .before .before .before .before .before .before in
     omega (arith, writable (entry .pre .0) (entry .pre .1 .joins .there) .0)
 
 push-tail-requires : tie.Need-push-tail-requires
 push-tail-requires c κs =
     let at-base = c .before .before in
-    let entry = at-base .before .before .before .before .before .before in
+    let entry = at-base .before .before .before .before in
     let d = entry .pre .0 in
     let a = entry .pre .1 in
     open-queue d _ (a .joins) (base-level d _ _ (counted d (a .joins .there)) (a .bare) (at-base .base .ensures))
 
 set-place-requires : tie.Need-set-place-requires
 set-place-requires c κs =
-    let entry = c .before .before .before .before .before .before .before .before .before .before .before .before in
+    let entry = c .before .before .before .before .before .before .before .before .before .before in
     writable (entry .pre .0) (entry .pre .1 .joins .there)
 
 same-length : tie.Need-same-length
@@ -40,7 +40,7 @@ returns c =
     let at-set-place = c .before .before in
     let at-push-tail = at-set-place .before .before .before .before in
     let at-base = at-push-tail .before .before .before in
-    let entry = at-base .before .before .before .before .before .before in
+    let entry = at-base .before .before .before .before in
     let d = entry .pre .0 in
     let a = entry .pre .1 in
     let level = base-level d _ _ (counted d (a .joins .there)) (a .bare) (at-base .base .ensures) in

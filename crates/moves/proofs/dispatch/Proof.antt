@@ -23,7 +23,7 @@ returns : tie.Need-returns
 returns c =
     let at-if1 = c .before .before in
     let at-highest = at-if1 .before .before in
-    let entry = at-highest .before .before .before .before .before .before .before in
+    let entry = at-highest .before .before .before .before .before in
     let d = entry .pre .0 in
     means-by (as-laid d) (idle-way _ _ (at-highest .highest .ensures) (idle d (at-if1 .if1 .taken)) (c .if2 .taken))
 
@@ -31,7 +31,7 @@ start-requires : tie.Need-start-requires
 start-requires c κs =
     let at-if2 = c .before .before .before in
     let at-highest = at-if2 .before .before .before .before in
-    let entry = at-highest .before .before .before .before .before .before .before in
+    let entry = at-highest .before .before .before .before .before in
     (entry .pre .0, highest-starts _ _ (entry .pre .1) (at-highest .highest .ensures) (at-if2 .if2 .left))
 
 same-length-2 : tie.Need-same-length-2
@@ -46,7 +46,7 @@ returns-2 c =
     let at-if2 = at-start .before .before .before .before in
     let at-if1 = at-if2 .before .before in
     let at-highest = at-if1 .before .before in
-    let entry = at-highest .before .before .before .before .before .before .before in
+    let entry = at-highest .before .before .before .before .before in
     let d = entry .pre .0 in
     means-by (at-start .start .ensures) (start-way _ _ (at-highest .highest .ensures) (idle d (at-if1 .if1 .taken)) (at-if2 .if2 .left))
 
@@ -56,7 +56,7 @@ sub-t c = search needs
 active-inside-requires : tie.Need-active-inside-requires
 active-inside-requires c κs =
     let at-if1 = c .before .before .before in
-    let entry = at-if1 .before .before .before .before .before .before .before .before .before in
+    let entry = at-if1 .before .before .before .before .before .before .before in
     let d = entry .pre .0 in
     let e = busy d (at-if1 .if1 .left) in
     (d, (counted d (entry .pre .1 .runner _ e .there), entry .pre .1 .rises _ e))
@@ -72,7 +72,7 @@ returns-3 c =
     let at-active = c .before .before .before in
     let at-if1 = at-active .before .before .before .before in
     let at-highest = at-if1 .before .before in
-    let entry = at-highest .before .before .before .before .before .before .before in
+    let entry = at-highest .before .before .before .before .before in
     let d = entry .pre .0 in
     means-by (as-laid d)
     (stay-way _ _ (at-highest .highest .ensures) _ _ (busy d (at-if1 .if1 .left)) (at-active .active-inside .ensures) (c .if3 .taken))
@@ -81,7 +81,7 @@ preempt-requires : tie.Need-preempt-requires
 preempt-requires c κs =
     let at-active = c .before .before .before .before .before .before in
     let at-if1 = at-active .before .before .before .before in
-    let entry = at-if1 .before .before .before .before .before .before .before .before .before in
+    let entry = at-if1 .before .before .before .before .before .before .before in
     let d = entry .pre .0 in
     (d, (entry .pre .1 .runner _ (busy d (at-if1 .if1 .left)), at-active .active-inside .ensures))
 
@@ -92,7 +92,7 @@ start-requires-2 c κs =
     let at-active = at-if3 .before .before .before in
     let at-if1 = at-active .before .before .before .before in
     let at-highest = at-if1 .before .before in
-    let entry = at-highest .before .before .before .before .before .before .before in
+    let entry = at-highest .before .before .before .before .before in
     let d = entry .pre .0 in
     let joins = entry .pre .1 .runner _ (busy d (at-if1 .if1 .left)) in
     let starts = highest-starts _ _ (entry .pre .1) (at-highest .highest .ensures) (λ e. omega (arith, at-if3 .if3 .left)) in
@@ -114,7 +114,7 @@ returns-4 c =
     let at-active = at-if3 .before .before .before in
     let at-if1 = at-active .before .before .before .before in
     let at-highest = at-if1 .before .before in
-    let entry = at-highest .before .before .before .before .before .before .before in
+    let entry = at-highest .before .before .before .before .before in
     let d = entry .pre .0 in
     let p = at-highest .highest .result .0 in
     let x = then-means (λ (m : Model). start m p) (at-preempt .preempt .ensures) (at-start2 .start2 .ensures) in

@@ -8,17 +8,17 @@ use Rattle.moves.proofs.preempt.Tie as tie
 
 cast-push-head : tie.Need-cast-push-head
 cast-push-head c =
-    let entry = c .before .before .before .before .before .before in
+    let entry = c .before .before .before .before in
     omega (arith, writable (entry .pre .0) (entry .pre .1 .0 .there) .0)
 
 push-head-requires : tie.Need-push-head-requires
 push-head-requires c κs =
-    let entry = c .before .before .before .before .before .before in
+    let entry = c .before .before .before .before in
     open-queue (entry .pre .0) _ (entry .pre .1 .0) (entry .pre .1 .1)
 
 set-place-requires : tie.Need-set-place-requires
 set-place-requires c κs =
-    let entry = c .before .before .before .before .before .before .before .before .before .before in
+    let entry = c .before .before .before .before .before .before .before .before in
     writable (entry .pre .0) (entry .pre .1 .0 .there)
 
 element-write-head : tie.Need-element-write-head
@@ -34,7 +34,7 @@ returns : tie.Need-returns
 returns c =
     let at-set-place = c .before .before in
     let at-push-head = at-set-place .before .before .before .before in
-    let entry = at-push-head .before .before .before .before .before .before .before in
+    let entry = at-push-head .before .before .before .before .before in
     preempt-law (entry .pre .0) _ _ (entry .pre .1 .0 .there) (entry .pre .1 .1) (at-push-head .push-head .ensures)
     (at-set-place .set-place .ensures)
 

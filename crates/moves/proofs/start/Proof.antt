@@ -18,7 +18,7 @@ cast-set-place c = search needs
 
 set-place-requires : tie.Need-set-place-requires
 set-place-requires c κs =
-    let entry = c .before .before .before .before .before .before .before .before .before .before .before .before in
+    let entry = c .before .before .before .before .before .before .before .before .before .before in
     let s = entry .pre .1 in
     writable (entry .pre .0) (omega (arith, s .head))
 
@@ -42,7 +42,7 @@ returns c =
     let at-set-place = c .before .before in
     let at-pop = at-set-place .before .before .before .before in
     let at-head = at-pop .before .before .before in
-    let entry = at-head .before .before .before .before .before .before in
+    let entry = at-head .before .before .before .before in
     start-law (entry .pre .0) _ _ (entry .pre .1) (at-head .head .ensures) (at-pop .pop .ensures) (at-set-place .set-place .ensures)
 
 pub start-spec : {M : Type 1} → statement M

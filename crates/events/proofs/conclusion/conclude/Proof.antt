@@ -26,7 +26,7 @@ same-length-2 c = search needs
 returns : tie.Need-returns
 returns c =
     let at-dispatch = c .before .before .before .before .before .before in
-    let a = at-dispatch .before .before .before .before .before .before .before .before .before .args in
+    let a = at-dispatch .before .before .before .before .before .before .before .args in
     did-accepted (modelOf (a .head .now) (a .tasks .now) (a .held .now) (a .ceilings .now) (a .queues .now)) _ _
     (at-dispatch .dispatch .ensures) (c .accepted-by .ensures .0) (c .accepted-by .ensures .1)
 

@@ -16,7 +16,7 @@ base-requires c κs = search needs
 returns : tie.Need-returns
 returns c =
     let at-depth = c .before .before in
-    let entry = at-depth .before .before .before .before .before in
+    let entry = at-depth .before .before .before .before in
     active-bare (entry .pre .0) _ _ (entry .pre .1 .0) (ap (λ (p : Priority). p .0) (c .base .ensures))
     (sym (at-depth .depth .ensures) ∙ c .before .if1 .taken)
 
@@ -24,16 +24,18 @@ element-copy-out-n : tie.Need-element-copy-out-n
 element-copy-out-n c = search needs
 
 last-requires : tie.Need-last-requires
-last-requires c κs = search needs
+last-requires c κs =
+    let at-if1 = c .before .before .before in
+    (search needs, (search needs, omega (arith, at-if1 .before .depth .ensures, at-if1 .if1 .left)))
 
 ceiling-requires : tie.Need-ceiling-requires
 ceiling-requires c κs = search needs
 
 returns-2 : tie.Need-returns-2
 returns-2 c =
-    let at-if1 = c .before .before .before in
+    let at-if1 = c .before .before .before .before .before in
     let at-depth = at-if1 .before in
-    let entry = at-depth .before .before .before .before .before in
+    let entry = at-depth .before .before .before .before in
     active-rises (entry .pre .0) _ _ _ _ (entry .pre .1 .0) refl (entry .pre .1 .1)
     (omega (arith, at-depth .depth .ensures, at-if1 .if1 .left)) (c .before .last .ensures) (c .ceiling .ensures)
 

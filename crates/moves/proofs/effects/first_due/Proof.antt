@@ -28,7 +28,7 @@ loop-holds c = (search needs, omega arith, search-begins _)
 due-requires : tie.Need-due-requires Inv-loop μ-loop
 due-requires c κs =
     let at-loop = c .before in
-    let entry = at-loop .before .before .before .before .before .before in
+    let entry = at-loop .before .before .before .before in
     readable (entry .pre) (at-loop .loop .t) (omega arith)
 
 sooner-requires : tie.Need-sooner-requires Inv-loop μ-loop
@@ -44,7 +44,7 @@ loop-again : tie.Need-loop-again Inv-loop μ-loop
 loop-again c =
     let at-due = c .before in
     let at-loop = at-due .before .before in
-    let d = at-loop .before .before .before .before .before .before .pre in
+    let d = at-loop .before .before .before .before .pre in
     let l = at-loop .loop in
     let time = at-due .due .ensures ∙ ap dueTime (sym (place-is d (l .t) (omega arith))) in
     let is = c .sooner .ensures ∙ ap (λ (v : ℕ). soonerOf (l .best) (record { task = l .t; time = v })) time in
@@ -53,7 +53,7 @@ loop-again c =
 returns : tie.Need-returns Inv-loop μ-loop
 returns c =
     let at-loop = c .before in
-    let entry = at-loop .before .before .before .before .before .before in
+    let entry = at-loop .before .before .before .before in
     let l = at-loop .loop in
     search-end (l .t) _ _ (omega (arith, count-is (entry .pre))) (l .inv .1) (l .inv .2)
 

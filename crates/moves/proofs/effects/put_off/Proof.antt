@@ -32,11 +32,11 @@ add-due : tie.Need-add-due
 add-due c = search needs
 
 expect-requires : tie.Need-expect-requires
-expect-requires c κs = c .before .before .before .before .before .before .before .pre .0 .head
+expect-requires c κs = c .before .before .before .before .before .pre .0 .head
 
 set-place-requires : tie.Need-set-place-requires
 set-place-requires c κs =
-    let entry = c .before .before .before .before .before .before .before .before .before in
+    let entry = c .before .before .before .before .before .before .before in
     writable (entry .pre .0) (entry .pre .1 .0 .joins .there)
 
 same-length-3 : tie.Need-same-length-3
@@ -47,7 +47,7 @@ returns-2 c =
     let at-set-place = c .before .before in
     let at-expect = at-set-place .before .before in
     let at-if1 = at-expect .before .before .before in
-    let entry = at-if1 .before .before .before .before .before in
+    let entry = at-if1 .before .before .before in
     let d = entry .pre .0 in
     let g = counted d (entry .pre .1 .0 .joins .there) in
     means-by (until-law d _ _ g (at-expect .expect .ensures) (at-set-place .set-place .ensures))

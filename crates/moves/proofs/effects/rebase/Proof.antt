@@ -13,14 +13,14 @@ use Rattle.moves.proofs.effects.rebase.Tie as tie
 
 depth-requires : tie.Need-depth-requires
 depth-requires c κs =
-    let entry = c .before .before .before .before in
+    let entry = c .before .before .before in
     let d = entry .pre .0 in
     let g = counted d (entry .pre .1 .there) in
     holdable d _ g
 
 set-waiting-requires : tie.Need-set-waiting-requires
 set-waiting-requires c κs =
-    let entry = c .before .before .before .before .before .before .before in
+    let entry = c .before .before .before .before .before .before in
     let d = entry .pre .0 in
     let g = counted d (entry .pre .1 .there) in
     readable d _ g
@@ -33,7 +33,7 @@ returns c =
     let at-set-waiting = c .before .before in
     let at-if1 = at-set-waiting .before .before in
     let at-depth = at-if1 .before in
-    let entry = at-depth .before .before .before .before .before in
+    let entry = at-depth .before .before .before .before in
     let d = entry .pre .0 in
     let g = counted d (entry .pre .1 .there) in
     let in-action = inside-is d _ _ g (at-depth .depth .ensures) (at-if1 .if1 .taken) in
@@ -41,20 +41,20 @@ returns c =
 
 base-requires : tie.Need-base-requires
 base-requires c κs =
-    let entry = c .before .before .before .before .before .before .before in
+    let entry = c .before .before .before .before .before .before in
     let d = entry .pre .0 in
     readable d _ (counted d (entry .pre .1 .there))
 
 place-requires : tie.Need-place-requires
 place-requires c κs =
-    let entry = c .before .before .before .before .before .before .before .before .before in
+    let entry = c .before .before .before .before .before .before .before .before in
     let d = entry .pre .0 in
     let g = counted d (entry .pre .1 .there) in
     readable d _ g
 
 set-base-requires : tie.Need-set-base-requires
 set-base-requires c κs =
-    let entry = c .before .before .before .before .before .before .before .before .before .before .before in
+    let entry = c .before .before .before .before .before .before .before .before .before .before in
     let d = entry .pre .0 in
     let g = counted d (entry .pre .1 .there) in
     readable d _ g
@@ -66,7 +66,7 @@ requeue-requires c κs =
     let at-base = at-place .before .before in
     let at-if1 = at-base .before .before in
     let at-depth = at-if1 .before in
-    let entry = at-depth .before .before .before .before .before in
+    let entry = at-depth .before .before .before .before in
     let d = entry .pre .0 in
     let g = counted d (entry .pre .1 .there) in
     let bare = outside-is d _ _ g (at-depth .depth .ensures) (at-if1 .if1 .left) in
@@ -89,7 +89,7 @@ returns-2 c =
     let at-base = at-place .before .before in
     let at-if1 = at-base .before .before in
     let at-depth = at-if1 .before in
-    let entry = at-depth .before .before .before .before .before in
+    let entry = at-depth .before .before .before .before in
     let d = entry .pre .0 in
     let g = counted d (entry .pre .1 .there) in
     let bare = outside-is d _ _ g (at-depth .depth .ensures) (at-if1 .if1 .left) in

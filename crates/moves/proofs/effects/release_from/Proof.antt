@@ -12,7 +12,7 @@ use Rattle.moves.proofs.effects.release_from.Tie as tie
 
 place-requires : tie.Need-place-requires
 place-requires c κs =
-    let entry = c .before .before .before .before .before in
+    let entry = c .before .before .before in
     writable (entry .pre .0) (entry .pre .1 .there)
 
 is-suspended-requires : tie.Need-is-suspended-requires
@@ -23,7 +23,7 @@ become-ready-requires c κs =
     let at-if1 = c .before .before .before in
     let at-is-suspended = at-if1 .before in
     let at-place = at-is-suspended .before in
-    let entry = at-place .before .before .before .before .before .before in
+    let entry = at-place .before .before .before .before in
     let d = entry .pre .0 in
     let g = counted d (entry .pre .1 .there) in
     let place = place-is d _ g ∙ sym (at-place .place .ensures) in
@@ -42,7 +42,7 @@ returns c =
     let at-if1 = at-become-ready .before .before .before .before in
     let at-is-suspended = at-if1 .before in
     let at-place = at-is-suspended .before in
-    let entry = at-place .before .before .before .before .before .before in
+    let entry = at-place .before .before .before .before in
     let d = entry .pre .0 in
     let g = counted d (entry .pre .1 .there) in
     let place = place-is d _ g ∙ sym (at-place .place .ensures) in
@@ -51,7 +51,7 @@ returns c =
 
 set-permit-requires : tie.Need-set-permit-requires
 set-permit-requires c κs =
-    let entry = c .before .before .before .before .before .before .before .before .before in
+    let entry = c .before .before .before .before .before .before .before in
     writable (entry .pre .0) (entry .pre .1 .there)
 
 same-length-3 : tie.Need-same-length-3
@@ -63,7 +63,7 @@ returns-2 c =
     let at-if1 = at-set-permit .before .before in
     let at-is-suspended = at-if1 .before in
     let at-place = at-is-suspended .before in
-    let entry = at-place .before .before .before .before .before .before in
+    let entry = at-place .before .before .before .before in
     let d = entry .pre .0 in
     let g = counted d (entry .pre .1 .there) in
     let place = place-is d _ g ∙ sym (at-place .place .ensures) in

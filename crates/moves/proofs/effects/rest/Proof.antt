@@ -25,7 +25,7 @@ returns c =
     let at-set-permit = c .before .before in
     let at-if1 = at-set-permit .before .before in
     let at-permit = at-if1 .before in
-    let entry = at-permit .before .before .before .before .before .before in
+    let entry = at-permit .before .before .before .before in
     let d = entry .pre .0 in
     let on = permit-is d _ (entry .pre .1) ∙ (sym (at-permit .permit .ensures) ∙ at-if1 .if1 .taken) in
     (means-by (permit-law d _ false (entry .pre .1) (at-set-permit .set-permit .ensures)) (sym (rest-permit _ _ on)), sym on)
@@ -44,7 +44,7 @@ returns-2 c =
     let at-set-place = c .before .before in
     let at-if1 = at-set-place .before .before in
     let at-permit = at-if1 .before in
-    let entry = at-permit .before .before .before .before .before .before in
+    let entry = at-permit .before .before .before .before in
     let d = entry .pre .0 in
     let off = permit-is d _ (entry .pre .1) ∙ (sym (at-permit .permit .ensures) ∙ at-if1 .if1 .left) in
     (means-by (away-law d _ Suspended (entry .pre .1) (omega arith) (at-set-place .set-place .ensures)) (sym (rest-none _ _ off)), sym off)

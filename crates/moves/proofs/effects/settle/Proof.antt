@@ -12,13 +12,13 @@ use Rattle.moves.proofs.effects.settle.Tie as tie
 
 depth-requires : tie.Need-depth-requires
 depth-requires c κs =
-    let entry = c .before .before .before .before in
+    let entry = c .before .before .before in
     holdable (entry .pre .0) _ (counted (entry .pre .0) (entry .pre .1 .there))
 
 returns : tie.Need-returns
 returns c =
     let at-depth = c .before in
-    let entry = at-depth .before .before .before .before .before in
+    let entry = at-depth .before .before .before .before in
     let d = entry .pre .0 in
     let g = counted d (entry .pre .1 .there) in
     let in-action = inside-is d _ _ g (at-depth .depth .ensures) (c .if1 .taken) in
@@ -26,7 +26,7 @@ returns c =
 
 waiting-requires : tie.Need-waiting-requires
 waiting-requires c κs =
-    let entry = c .before .before .before .before .before .before .before in
+    let entry = c .before .before .before .before .before .before in
     readable (entry .pre .0) _ (counted (entry .pre .0) (entry .pre .1 .there))
 
 enum-told : tie.Need-enum-told
@@ -41,7 +41,7 @@ take-effect-requires c κs =
     let at-waiting = at-waiting2 .before .before in
     let at-if1 = at-waiting .before .before in
     let at-depth = at-if1 .before in
-    let entry = at-depth .before .before .before .before .before in
+    let entry = at-depth .before .before .before .before in
     let d = entry .pre .0 in
     let g = counted d (entry .pre .1 .there) in
     let bare = outside-is d _ _ g (at-depth .depth .ensures) (at-if1 .if1 .left) in
@@ -56,7 +56,7 @@ returns-2 c =
     let at-waiting = c .before .before in
     let at-if1 = at-waiting .before .before in
     let at-depth = at-if1 .before in
-    let entry = at-depth .before .before .before .before .before in
+    let entry = at-depth .before .before .before .before in
     let d = entry .pre .0 in
     let g = counted d (entry .pre .1 .there) in
     let bare = outside-is d _ _ g (at-depth .depth .ensures) (at-if1 .if1 .left) in
@@ -76,7 +76,7 @@ returns-3 c =
     let at-waiting = at-waiting2 .before .before in
     let at-if1 = at-waiting .before .before in
     let at-depth = at-if1 .before in
-    let entry = at-depth .before .before .before .before .before in
+    let entry = at-depth .before .before .before .before in
     let d = entry .pre .0 in
     let g = counted d (entry .pre .1 .there) in
     let bare = outside-is d _ _ g (at-depth .depth .ensures) (at-if1 .if1 .left) in

@@ -21,7 +21,7 @@ become-ready-requires : tie.Need-become-ready-requires
 become-ready-requires c κs =
     let at-set-waiting = c .before .before .before .before .before in
     let at-set-base = at-set-waiting .before .before .before .before in
-    let entry = at-set-base .before .before .before .before .before .before in
+    let entry = at-set-base .before .before .before .before in
     let x = effect-law (entry .pre .0) _ _ (entry .pre .1 .0) (at-set-base .set-base .ensures) (at-set-waiting .set-waiting .ensures) in
     (x .laid, rw (x .same) (entry .pre .1 .1))
 
@@ -36,7 +36,7 @@ returns c =
     let at-become-ready = c .before .before .before .before in
     let at-set-waiting = at-become-ready .before .before .before .before .before .before in
     let at-set-base = at-set-waiting .before .before .before .before in
-    let entry = at-set-base .before .before .before .before .before .before in
+    let entry = at-set-base .before .before .before .before in
     let x = effect-law (entry .pre .0) _ _ (entry .pre .1 .0) (at-set-base .set-base .ensures) (at-set-waiting .set-waiting .ensures) in
     then-means (λ (m : Model). becomeReady m (entry .args .t)) x (at-become-ready .become-ready .ensures)
 
