@@ -26,7 +26,7 @@ abbrev μ-loop : tie.MeasureT-loop
 
 loop-holds : tie.Need-loop-holds Inv-loop μ-loop
 loop-holds c =
-    (omega arith, refl, c .before .before .before .before .before .before .before .before .before .before .pre .1 .0, refl)
+    (omega arith, refl, c .before .before .before .before .before .before .before .before .pre .1 .0, refl)
 
 input-at-requires : tie.Need-input-at-requires Inv-loop μ-loop
 input-at-requires c κs = search needs
@@ -34,12 +34,12 @@ input-at-requires c κs = search needs
 happen-requires : tie.Need-happen-requires Inv-loop μ-loop
 happen-requires c κs =
     let c7 = c .before .before .before .before .before .before .before in
-    (c7 .loop .inv .2, c7 .before .before .before .before .before .before .before .before .before .before .before .pre .1 .1)
+    (c7 .loop .inv .2, c7 .before .before .before .before .before .before .before .before .before .pre .1 .1)
 
 mul-at : tie.Need-mul-at Inv-loop μ-loop
 mul-at c =
-    let c15 = c .before .before .before .before .before .before .before .before .before .before .before .before .before .before .before in
-    let c25 = c15 .before .before .before .before .before .before .before .before .before .before .before .before in
+    let c15 = c .before .before .before .before .before .before .before .before .before .before .before .before .before in
+    let c25 = c15 .before .before .before .before .before .before .before .before .before .before in
     omega (arith, c25 .good .1 .1 .0 .0, c15 .loop-test .taken)
 
 number-requires : tie.Need-number-requires Inv-loop μ-loop
@@ -50,13 +50,13 @@ slice-write-buffer c = omega arith
 
 running-byte-requires : tie.Need-running-byte-requires Inv-loop μ-loop
 running-byte-requires c κs =
-    runner-low (c .before .before .before .before .before .before .before .before .before .before .happen .ensures .going)
+    runner-low (c .before .before .before .before .before .before .before .before .happen .ensures .going)
 
 add-buffer : tie.Need-add-buffer Inv-loop μ-loop
 add-buffer c =
-    let c12 = c .before .before .before .before .before .before .before .before .before .before .before .before in
+    let c12 = c .before .before .before .before .before .before .before .before .before .before in
     let c18 = c12 .before .before .before .before .before .before in
-    let c28 = c18 .before .before .before .before .before .before .before .before .before .before .before .before in
+    let c28 = c18 .before .before .before .before .before .before .before .before .before .before in
     omega (arith, c28 .good .1 .1 .0 .0, c18 .loop-test .taken)
 
 slice-write-buffer-2 : tie.Need-slice-write-buffer-2 Inv-loop μ-loop
@@ -67,23 +67,23 @@ report-number-requires c κs = search needs
 
 add-buffer-2 : tie.Need-add-buffer-2 Inv-loop μ-loop
 add-buffer-2 c =
-    let at-turn = c .before .before .before .before .before .before .before .before .before .before .before .before .before in
+    let at-turn = c .before .before .before .before .before .before .before .before .before .before .before in
     let at-loop = at-turn .before .before .before .before .before .before in
-    let entry = at-loop .before .before .before .before .before .before .before .before .before .before .before .before in
+    let entry = at-loop .before .before .before .before .before .before .before .before .before .before in
     omega (arith, entry .good .1 .1 .0 .0, at-loop .loop-test .taken)
 
 slice-write-buffer-3 : tie.Need-slice-write-buffer-3 Inv-loop μ-loop
 slice-write-buffer-3 c =
-    let at-turn = c .before .before .before .before .before .before .before .before .before .before .before .before .before in
+    let at-turn = c .before .before .before .before .before .before .before .before .before .before .before in
     let at-loop = at-turn .before .before .before .before .before .before in
-    let entry = at-loop .before .before .before .before .before .before .before .before .before .before .before .before in
+    let entry = at-loop .before .before .before .before .before .before .before .before .before .before in
     simp length-set (omega (arith, entry .pre .0, at-loop .loop-test .taken, at-loop .before .loop .inv .1))
 
 add-i : tie.Need-add-i Inv-loop μ-loop
 add-i c =
-    let at-turn = c .before .before .before .before .before .before .before .before .before .before .before .before .before in
+    let at-turn = c .before .before .before .before .before .before .before .before .before .before .before in
     let at-loop = at-turn .before .before .before .before .before .before in
-    let entry = at-loop .before .before .before .before .before .before .before .before .before .before .before .before in
+    let entry = at-loop .before .before .before .before .before .before .before .before .before .before in
     omega (arith, entry .good .1 .1 .0 .0, at-loop .loop-test .taken)
 
 loop-less : tie.Need-loop-less Inv-loop μ-loop
@@ -93,7 +93,7 @@ loop-again : tie.Need-loop-again Inv-loop μ-loop
 loop-again c =
     let at-running = c .before in
     let at-number = at-running .before .before in
-    let at-happen = at-number .before .before .before .before .before .before .before .before .before in
+    let at-happen = at-number .before .before .before .before .before .before .before in
     let at-input = at-happen .before .before .before .before .before .before in
     let at-test = at-input .before in
     let loop = at-test .before .loop in
@@ -117,9 +117,6 @@ same-length-3 c = search needs
 
 same-length-4 : tie.Need-same-length-4 Inv-loop μ-loop
 same-length-4 c = search needs
-
-same-length-5 : tie.Need-same-length-5 Inv-loop μ-loop
-same-length-5 c = search needs
 
 returns : tie.Need-returns Inv-loop μ-loop
 returns c = replies-over _ _ _ _ _ _ (c .loop-test .left) (c .before .loop .inv .3)
@@ -149,5 +146,4 @@ pass-spec =
     same-length-2
     same-length-3
     same-length-4
-    same-length-5
     returns)

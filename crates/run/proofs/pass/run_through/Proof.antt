@@ -28,12 +28,6 @@ slice-aggregate-start c = search needs
 slice-aggregate-start-2 : tie.Need-slice-aggregate-start-2
 slice-aggregate-start-2 c = search needs
 
-slice-aggregate-start-3 : tie.Need-slice-aggregate-start-3
-slice-aggregate-start-3 c = search needs
-
-slice-aggregate-start-4 : tie.Need-slice-aggregate-start-4
-slice-aggregate-start-4 c = search needs
-
 start-requires : tie.Need-start-requires
 start-requires c κs = search needs
 
@@ -52,15 +46,9 @@ slice-aggregate-pass-4 c = search needs
 slice-aggregate-pass-5 : tie.Need-slice-aggregate-pass-5
 slice-aggregate-pass-5 c = search needs
 
-slice-aggregate-pass-6 : tie.Need-slice-aggregate-pass-6
-slice-aggregate-pass-6 c = search needs
-
-slice-aggregate-pass-7 : tie.Need-slice-aggregate-pass-7
-slice-aggregate-pass-7 c = search needs
-
 pass-requires : tie.Need-pass-requires
 pass-requires c κs =
-    let at-start = c .before .before .before .before .before .before .before .before .before .before .before .before .before in
+    let at-start = c .before .before .before .before .before .before .before .before .before .before .before in
     let at-scripts = at-start .before .before .before .before .before .before .before .before in
     let entry = at-scripts .before .before .before .before .before .before in
     (entry .pre .1, (started _ (entry .pre .0) (at-start .start .ensures), at-scripts .read-scripts .ensures))
@@ -70,8 +58,8 @@ same-length c = search needs
 
 returns : tie.Need-returns
 returns c =
-    let c6 = c .before .before .before .before .before .before in
-    let c18 = c6 .before .before .before .before .before .before .before .before .before .before .before .before .before .before in
+    let c6 = c .before .before .before .before .before in
+    let c18 = c6 .before .before .before .before .before .before .before .before .before .before .before .before in
     let c28 = c18 .before .before .before .before .before .before .before .before .before .before .before .before .before .before in
     let a = c28 .args in
     c6 .pass .ensures ∙
@@ -86,16 +74,12 @@ run-through-spec =
     read-scripts-requires
     slice-aggregate-start
     slice-aggregate-start-2
-    slice-aggregate-start-3
-    slice-aggregate-start-4
     start-requires
     slice-aggregate-pass
     slice-aggregate-pass-2
     slice-aggregate-pass-3
     slice-aggregate-pass-4
     slice-aggregate-pass-5
-    slice-aggregate-pass-6
-    slice-aggregate-pass-7
     pass-requires
     same-length
     returns)

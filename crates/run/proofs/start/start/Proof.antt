@@ -17,16 +17,16 @@ slice-aggregate-read-bases c = search needs
 
 read-bases-requires : tie.Need-read-bases-requires
 read-bases-requires c κs =
-    let s = c .before .before .before .before .before .before .args .roster .now in
-    tasks-few s (passes-form s (c .before .before .before .before .before .before .pre .0))
+    let s = c .before .before .before .before .args .roster .now in
+    tasks-few s (passes-form s (c .before .before .before .before .pre .0))
 
 slice-aggregate-read-ceilings : tie.Need-slice-aggregate-read-ceilings
 slice-aggregate-read-ceilings c = search needs
 
 read-ceilings-requires : tie.Need-read-ceilings-requires
 read-ceilings-requires c κs =
-    let s = c .before .before .before .before .before .before .before .before .before .args .roster .now in
-    objects-few s (passes-form s (c .before .before .before .before .before .before .before .before .before .pre .0))
+    let s = c .before .before .before .before .before .before .before .args .roster .now in
+    objects-few s (passes-form s (c .before .before .before .before .before .before .before .pre .0))
 
 task-count-requires : tie.Need-task-count-requires
 task-count-requires c κs = search needs
@@ -42,7 +42,7 @@ cast-m c = search needs
 
 array-share-prefix-bases : tie.Need-array-share-prefix-bases
 array-share-prefix-bases c =
-    let c12 = c .before .before .before .before .before .before .before .before .before .before .before .before in
+    let c12 = c .before .before .before .before .before .before .before .before .before .before in
     let c13 = c12 .before in
     let s = c13 .args .roster .now in
     omega (arith, tasks-few s (passes-form s (c13 .pre .0)), c .before .task-count .ensures)
@@ -51,14 +51,14 @@ slice-aggregate-fresh : tie.Need-slice-aggregate-fresh
 slice-aggregate-fresh c =
     let c2 = c .before .before in
     let c7 = c2 .before .before .before .before .before in
-    let c14 = c7 .before .before .before .before .before .before .before in
+    let c14 = c7 .before .before .before .before .before in
     let s = c14 .args .roster .now in
     let bases = ap (λ (n : ℕ). take n (c7 .read-bases .last .1 .0)) (c2 .task-count .ensures) ∙ c7 .read-bases .ensures in
     c2 .task-count .ensures ∙ (sym (base-count s) ∙ sym (ap length bases))
 
 array-share-prefix-given : tie.Need-array-share-prefix-given
 array-share-prefix-given c =
-    let c12 = c .before .before .before .before .before .before .before .before .before .before .before .before in
+    let c12 = c .before .before .before .before .before .before .before .before .before .before in
     let c14 = c12 .before .before in
     let s = c14 .args .roster .now in
     omega (arith, objects-few s (passes-form s (c14 .pre .0)), c .before .object-count .ensures)
@@ -67,7 +67,7 @@ slice-aggregate-fresh-2 : tie.Need-slice-aggregate-fresh-2
 slice-aggregate-fresh-2 c =
     let c2 = c .before .before in
     let c5 = c2 .before .before .before in
-    let c15 = c5 .before .before .before .before .before .before .before .before .before .before in
+    let c15 = c5 .before .before .before .before .before .before .before .before in
     let s = c15 .args .roster .now in
     let ceilings = ap (λ (n : ℕ). take n (c5 .read-ceilings .last .1 .0)) (c2 .object-count .ensures) ∙ c5 .read-ceilings .ensures in
     c2 .object-count .ensures ∙ (sym (ceiling-count s) ∙ sym (ap length ceilings))
@@ -78,7 +78,7 @@ fresh-requires c κs =
     let c8 = c7 .before in
     let c10 = c8 .before .before in
     let c13 = c10 .before .before .before in
-    let c20 = c13 .before .before .before .before .before .before .before in
+    let c20 = c13 .before .before .before .before .before in
     let s = c20 .args .roster .now in
     let bases = ap (λ (n : ℕ). take n (c13 .read-bases .last .1 .0)) (c8 .task-count .ensures) ∙ c13 .read-bases .ensures in
     let ceilings = ap (λ (n : ℕ). take n (c10 .read-ceilings .last .1 .0)) (c7 .object-count .ensures) ∙ c10 .read-ceilings .ensures in
@@ -90,20 +90,14 @@ same-length c = search needs
 same-length-2 : tie.Need-same-length-2
 same-length-2 c = search needs
 
-same-length-3 : tie.Need-same-length-3
-same-length-3 c = search needs
-
-same-length-4 : tie.Need-same-length-4
-same-length-4 c = search needs
-
 returns : tie.Need-returns
 returns c =
-    let c8 = c .before .before .before .before .before .before .before .before in
+    let c8 = c .before .before .before .before in
     let c16 = c8 .before .before .before .before .before .before .before .before in
     let c17 = c16 .before in
     let c19 = c17 .before .before in
     let c22 = c19 .before .before .before in
-    let c29 = c22 .before .before .before .before .before .before .before in
+    let c29 = c22 .before .before .before .before .before in
     let s = c29 .args .roster .now in
     let bases = ap (λ (n : ℕ). take n (c22 .read-bases .last .1 .0)) (c17 .task-count .ensures) ∙ c22 .read-bases .ensures in
     let ceilings = ap (λ (n : ℕ). take n (c19 .read-ceilings .last .1 .0)) (c16 .object-count .ensures) ∙ c19 .read-ceilings .ensures in
@@ -128,6 +122,4 @@ start-spec =
     fresh-requires
     same-length
     same-length-2
-    same-length-3
-    same-length-4
     returns)

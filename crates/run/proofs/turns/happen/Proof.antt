@@ -52,7 +52,7 @@ unfolding happen apply delayFits
 returns c =
     let c4 = c .before .before .before .before in
     let c10 = c4 .before .before .before .before .before .before in
-    let c18 = c10 .before .before .before .before .before .before .before .before .before .before in
+    let c18 = c10 .before .before .before .before .before .before .before .before in
     let g = c18 .pre .0 in
     happened-as g _ _ (c10 .x .given .1)
     (outside-happened g (count-kept _ (Clock _)) (moves-of _ (Clock _) (g .valid .sound) refl (c4 .clock .ensures)))
@@ -71,7 +71,7 @@ unfolding happen apply delayFits
 returns-2 c =
     let c4 = c .before .before .before .before in
     let c10 = c4 .before .before .before .before .before .before in
-    let c18 = c10 .before .before .before .before .before .before .before .before .before .before in
+    let c18 = c10 .before .before .before .before .before .before .before .before in
     let g = c18 .pre .0 in
     happened-as g _ _ (c10 .x2 .given .1)
     (outside-happened g (count-kept _ (Release _)) (moves-of _ (Release _) (g .valid .sound) refl (c4 .release .ensures)))
@@ -85,31 +85,19 @@ same-length-8 c = search needs
 same-length-9 : tie.Need-same-length-9
 same-length-9 c = search needs
 
-same-length-10 : tie.Need-same-length-10
-same-length-10 c = search needs
-
 returns-3 : tie.Need-returns-3
 returns-3 c =
-    let c8 = c .before .before .before .before .before .before .before .before in
+    let c8 = c .before .before .before .before .before .before in
     let c14 = c8 .before .before .before .before .before .before in
-    let c22 = c14 .before .before .before .before .before .before .before .before .before .before in
+    let c22 = c14 .before .before .before .before .before .before .before .before in
     happened-as (c22 .pre .0) _ _ (c14 .enum-told .given .1) (c8 .step .ensures)
-
-same-length-11 : tie.Need-same-length-11
-same-length-11 c = search needs
-
-same-length-12 : tie.Need-same-length-12
-same-length-12 c = search needs
-
-same-length-13 : tie.Need-same-length-13
-same-length-13 c = search needs
 
 returns-4 : tie.Need-returns-4
 unfolding happen apply delayFits
 returns-4 c =
     let c4 = c .before .before .before .before in
     let c10 = c4 .before .before .before .before .before .before in
-    let c18 = c10 .before .before .before .before .before .before .before .before .before .before in
+    let c18 = c10 .before .before .before .before .before .before .before .before in
     let g = c18 .pre .0 in
     let value = c10 .x3 .given .0 .1 .0 in
     happened-as g _ _ (c10 .x3 .given .1) (outside-happened g (count-kept _ (Set _ (record { 0 = value }))) (c4 .set-from .ensures))
@@ -129,18 +117,14 @@ happen-spec =
     set-from-requires
     same-length
     same-length-2
-    same-length-3
     returns
+    same-length-3
     same-length-4
+    returns-2
     same-length-5
     same-length-6
-    returns-2
     same-length-7
+    returns-3
     same-length-8
     same-length-9
-    same-length-10
-    returns-3
-    same-length-11
-    same-length-12
-    same-length-13
     returns-4)

@@ -89,9 +89,9 @@ same-length-3 c = search needs
 returns : tie.Need-returns
 unfolding perform answerTo eventOf apply delayFits
 returns c =
-    let c2 = c .before .before in
+    let c2 = c in
     let c8 = c2 .before .before .before .before .before .before in
-    let c14 = c8 .before .before .before .before .before .before in
+    let c14 = c8 .before .before .before .before in
     step-moves _ _ _ (Event.the-variants.Enter _) (c8 .x .given .1) refl (c14 .pre .sound) refl (c2 .enter .ensures)
 
 same-length-4 : tie.Need-same-length-4
@@ -106,9 +106,9 @@ same-length-6 c = search needs
 returns-2 : tie.Need-returns-2
 unfolding perform answerTo eventOf apply delayFits
 returns-2 c =
-    let c6 = c .before .before .before .before .before .before in
+    let c6 = c .before .before .before .before in
     let c12 = c6 .before .before .before .before .before .before in
-    let c18 = c12 .before .before .before .before .before .before in
+    let c18 = c12 .before .before .before .before in
     step-moves _ _ _ (Event.the-variants.Leave _) (c12 .x2 .given .1) refl (c18 .pre .sound) refl (c6 .leave .ensures)
 
 same-length-7 : tie.Need-same-length-7
@@ -127,7 +127,7 @@ returns-3 c =
     let fits : d ≤ lastDelay = omega arith in
     let c4 = c .before .before .before .before in
     let c10 = c4 .before .before .before .before .before .before in
-    let c16 = c10 .before .before .before .before .before .before in
+    let c16 = c10 .before .before .before .before in
     step-moves _ _ _ (Event.the-variants.Delay d) (c10 .x3 .given .1) refl (c16 .pre .sound) (le-leb d lastDelay fits)
     (c4 .delay .ensures)
 
@@ -144,7 +144,7 @@ returns-4 : tie.Need-returns-4
 unfolding perform answerTo eventOf apply delayFits
 returns-4 c =
     let c5 = c .before .before .before .before .before in
-    let c11 = c5 .before .before .before .before .before .before in
+    let c11 = c5 .before .before .before .before in
     step-moves _ _ _ Event.the-variants.Work (c5 .enum-told .given .1) refl (c11 .pre .sound) refl (c .work .ensures)
 
 same-length-13 : tie.Need-same-length-13
@@ -161,62 +161,38 @@ unfolding perform answerTo eventOf apply delayFits
 returns-5 c =
     let c4 = c .before .before .before .before in
     let c9 = c4 .before .before .before .before .before in
-    let c15 = c9 .before .before .before .before .before .before in
+    let c15 = c9 .before .before .before .before in
     step-moves _ _ _ Event.the-variants.Suspend (c9 .enum-told2 .given .1) refl (c15 .pre .sound) refl (c4 .suspend .ensures)
 
 same-length-16 : tie.Need-same-length-16
 same-length-16 c = search needs
-
-same-length-17 : tie.Need-same-length-17
-same-length-17 c = search needs
-
-same-length-18 : tie.Need-same-length-18
-same-length-18 c = search needs
 
 returns-6 : tie.Need-returns-6
 unfolding perform answerTo eventOf apply delayFits
 returns-6 c =
     let c4 = c .before .before .before .before in
     let c10 = c4 .before .before .before .before .before .before in
-    let c16 = c10 .before .before .before .before .before .before in
+    let c16 = c10 .before .before .before .before in
     step-moves _ _ _ (Event.the-variants.Release _) (c10 .x4 .given .1) refl (c16 .pre .sound) refl (c4 .release .ensures)
-
-same-length-19 : tie.Need-same-length-19
-same-length-19 c = search needs
-
-same-length-20 : tie.Need-same-length-20
-same-length-20 c = search needs
-
-same-length-21 : tie.Need-same-length-21
-same-length-21 c = search needs
 
 returns-7 : tie.Need-returns-7
 unfolding perform answerTo eventOf apply delayFits
 returns-7 c =
     let c4 = c .before .before .before .before in
     let c10 = c4 .before .before .before .before .before .before in
-    let c16 = c10 .before .before .before .before .before .before in
+    let c16 = c10 .before .before .before .before in
     step-moves _ _ _ (Event.the-variants.Set _ _) (c10 .x5 .given .1) refl (c16 .pre .sound) refl (c4 .set .ensures)
 
 returns-8 : tie.Need-returns-8
 returns-8 c =
-    again-moves _ (c .enum-told3 .given .1) (c .before .before .before .before .before .before .pre)
-
-same-length-22 : tie.Need-same-length-22
-same-length-22 c = search needs
-
-same-length-23 : tie.Need-same-length-23
-same-length-23 c = search needs
-
-same-length-24 : tie.Need-same-length-24
-same-length-24 c = search needs
+    again-moves _ (c .enum-told3 .given .1) (c .before .before .before .before .pre)
 
 returns-9 : tie.Need-returns-9
 unfolding perform answerTo eventOf apply delayFits
 returns-9 c =
     let c4 = c .before .before .before .before in
     let c9 = c4 .before .before .before .before .before in
-    let c15 = c9 .before .before .before .before .before .before in
+    let c15 = c9 .before .before .before .before in
     step-moves _ _ _ Event.the-variants.Finish (c9 .enum-told4 .given .1) refl (c15 .pre .sound) refl (c4 .finish .ensures)
 
 pub perform-spec : {M : Type 1} → statement M
@@ -246,34 +222,26 @@ perform-spec =
     finish-requires
     same-length
     same-length-2
-    same-length-3
     returns
+    same-length-3
     same-length-4
+    returns-2
     same-length-5
     same-length-6
-    returns-2
+    returns-3
     same-length-7
     same-length-8
+    returns-4
     same-length-9
-    returns-3
     same-length-10
+    returns-5
     same-length-11
     same-length-12
-    returns-4
+    returns-6
     same-length-13
     same-length-14
-    same-length-15
-    returns-5
-    same-length-16
-    same-length-17
-    same-length-18
-    returns-6
-    same-length-19
-    same-length-20
-    same-length-21
     returns-7
     returns-8
-    same-length-22
-    same-length-23
-    same-length-24
+    same-length-15
+    same-length-16
     returns-9)

@@ -31,7 +31,7 @@ returns c =
     let c4 = c .before .before .before .before in
     let c9 = c4 .before .before .before .before .before in
     let c11 = c9 .before .before in
-    let c16 = c11 .before .before .before .before .before in
+    let c16 = c11 .before .before .before in
     set-moves _ _ _ _ (c11 .checked .ensures) (c16 .pre .sound) _ (c9 .p .given .1) (c4 .set .ensures)
 
 same-length-3 : tie.Need-same-length-3
@@ -45,7 +45,7 @@ returns-2 c =
     let c4 = c .before .before .before .before in
     let c8 = c4 .before .before .before .before in
     let c10 = c8 .before .before in
-    let c15 = c10 .before .before .before .before .before in
+    let c15 = c10 .before .before .before in
     other-moves _ _ _ _ (c10 .checked .ensures) (c15 .pre .sound) _ refl (c8 .enum-told .given .1) (c4 .set2 .ensures)
 
 pub set-from-spec : {M : Type 1} → statement M

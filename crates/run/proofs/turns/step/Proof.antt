@@ -15,7 +15,7 @@ element-copy-out-running c = search needs
 
 returns : tie.Need-returns
 returns c =
-    let entry = c .before .before .before .before .before .before .before .before .before .before in
+    let entry = c .before .before .before .before .before .before .before .before in
     idle-happened (entry .pre .0) (c .if1 .taken)
 
 sub-t : tie.Need-sub-t
@@ -23,19 +23,19 @@ sub-t c = search needs
 
 mul-k : tie.Need-mul-k
 mul-k c =
-    let entry = c .before .before .before .before .before .before .before .before .before .before in
+    let entry = c .before .before .before .before .before .before .before .before in
     omega (arith, runner-placed (entry .pre .0) _ (c .if1 .left) refl)
 
 slice-read-k : tie.Need-slice-read-k
 slice-read-k c =
     let at-if1 = c .before in
-    let entry = at-if1 .before .before .before .before .before .before .before .before .before .before in
+    let entry = at-if1 .before .before .before .before .before .before .before .before in
     runner-placed (entry .pre .0) _ (at-if1 .if1 .left) refl
 
 step-in-requires : tie.Need-step-in-requires
 step-in-requires c κs =
     let at-if1 = c .before in
-    let entry = at-if1 .before .before .before .before .before .before .before .before .before .before in
+    let entry = at-if1 .before .before .before .before .before .before .before .before in
     let g = entry .pre .0 in
     (entry .pre .1, (runner-listed g _ (at-if1 .if1 .left) refl, script-here g _ (at-if1 .if1 .left) refl))
 
@@ -43,10 +43,10 @@ position-after-requires : tie.Need-position-after-requires
 position-after-requires c κs =
     let at-k = c .before in
     let at-if1 = at-k .before in
-    let entry = at-if1 .before .before .before .before .before .before .before .before .before .before in
+    let entry = at-if1 .before .before .before .before .before .before .before .before in
     let a = entry .args in
     let t = getD (a .head .now) runningCell 0 - 1 in
-    let small : getD (a .positions .now) t 0 < 65536 = omega (arith, at-k .slice-known5 .given t) in
+    let small : getD (a .positions .now) t 0 < 65536 = omega (arith, at-k .slice-known4 .given t) in
     position-fits (a .roster .now) t _ _ (entry .pre .0 .form) small (c .step-in .ensures)
 
 perform-requires : tie.Need-perform-requires
@@ -66,25 +66,25 @@ same-length-3 c = search needs
 
 returns-2 : tie.Need-returns-2
 returns-2 c =
-    let at-perform = c .before .before .before .before .before .before .before .before in
+    let at-perform = c .before .before .before .before .before .before in
     let at-step = at-perform .before .before .before .before .before .before in
     let at-if1 = at-step .before .before in
-    let entry = at-if1 .before .before .before .before .before .before .before .before .before .before in
+    let entry = at-if1 .before .before .before .before .before .before .before .before in
     step-refused (entry .pre .0) _ (at-if1 .if1 .left) refl refl (at-step .step-in .ensures) _ (c .before .number .ensures)
     (c .if2 .taken) (at-perform .perform .ensures)
 
 mul-positions : tie.Need-mul-positions
 mul-positions c =
-    let at-perform = c .before .before .before .before .before .before .before .before in
+    let at-perform = c .before .before .before .before .before .before in
     let at-if1 = at-perform .before .before .before .before .before .before .before .before in
-    let entry = at-if1 .before .before .before .before .before .before .before .before .before .before in
+    let entry = at-if1 .before .before .before .before .before .before .before .before in
     omega (arith, runner-placed (entry .pre .0) _ (at-if1 .if1 .left) refl)
 
 slice-write-positions : tie.Need-slice-write-positions
 slice-write-positions c =
-    let at-perform = c .before .before .before .before .before .before .before .before in
+    let at-perform = c .before .before .before .before .before .before in
     let at-if1 = at-perform .before .before .before .before .before .before .before .before in
-    let entry = at-if1 .before .before .before .before .before .before .before .before .before .before in
+    let entry = at-if1 .before .before .before .before .before .before .before .before in
     runner-placed (entry .pre .0) _ (at-if1 .if1 .left) refl
 
 same-length-4 : tie.Need-same-length-4
@@ -93,19 +93,13 @@ same-length-4 c = search needs
 same-length-5 : tie.Need-same-length-5
 same-length-5 c = search needs
 
-same-length-6 : tie.Need-same-length-6
-same-length-6 c = search needs
-
-same-length-7 : tie.Need-same-length-7
-same-length-7 c = search needs
-
 returns-3 : tie.Need-returns-3
 returns-3 c =
-    let at-perform = c .before .before .before .before .before .before .before .before in
+    let at-perform = c .before .before .before .before .before .before in
     let at-after = at-perform .before .before .before .before .before in
     let at-step = at-after .before in
     let at-if1 = at-step .before .before in
-    let entry = at-if1 .before .before .before .before .before .before .before .before .before .before in
+    let entry = at-if1 .before .before .before .before .before .before .before .before in
     step-accepted (entry .pre .0) _ (at-if1 .if1 .left) refl refl (at-step .step-in .ensures) _ _ (c .before .number .ensures)
     (c .if2 .left) (at-after .position-after .ensures) (at-perform .perform .ensures)
 
@@ -124,12 +118,10 @@ step-spec =
     number-requires
     same-length
     same-length-2
-    same-length-3
     returns-2
     mul-positions
     slice-write-positions
+    same-length-3
     same-length-4
     same-length-5
-    same-length-6
-    same-length-7
     returns-3)
