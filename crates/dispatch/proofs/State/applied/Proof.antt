@@ -57,12 +57,6 @@ slice-aggregate-apply c = search needs
 slice-aggregate-apply-2 : tie.Need-slice-aggregate-apply-2
 slice-aggregate-apply-2 c = search needs
 
-slice-aggregate-apply-3 : tie.Need-slice-aggregate-apply-3
-slice-aggregate-apply-3 c = search needs
-
-slice-aggregate-apply-4 : tie.Need-slice-aggregate-apply-4
-slice-aggregate-apply-4 c = search needs
-
 apply-requires : tie.Need-apply-requires
 apply-requires c κs =
     let at-sound = c .before .before .before .before .before .before in
@@ -85,7 +79,7 @@ report-requires c κs = search needs
 returns-3 : tie.Need-returns-3
 returns-3 c =
     let at-if3 = c .before .before in
-    let at-apply = at-if3 .before .before .before .before .before in
+    let at-apply = at-if3 .before .before .before .before in
     let at-if2 = at-apply .before .before .before .before .before .before in
     let at-sound = at-if2 .before in
     let at-load = at-sound .before .before .before .before .before .before .before .before .before .before .before in
@@ -109,7 +103,7 @@ store-requires c κs = search needs
 returns-4 : tie.Need-returns-4
 returns-4 c =
     let at-if3 = c .before .before .before in
-    let at-apply = at-if3 .before .before .before .before .before in
+    let at-apply = at-if3 .before .before .before .before in
     let at-if2 = at-apply .before .before .before .before .before .before in
     let at-sound = at-if2 .before in
     let at-load = at-sound .before .before .before .before .before .before .before .before .before .before .before in
@@ -138,8 +132,6 @@ applied-spec =
     returns-2
     slice-aggregate-apply
     slice-aggregate-apply-2
-    slice-aggregate-apply-3
-    slice-aggregate-apply-4
     apply-requires
     number-requires
     answer-requires

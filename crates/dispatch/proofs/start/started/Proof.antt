@@ -12,23 +12,17 @@ slice-aggregate-fresh c = search needs
 slice-aggregate-fresh-2 : tie.Need-slice-aggregate-fresh-2
 slice-aggregate-fresh-2 c = search needs
 
-slice-aggregate-fresh-3 : tie.Need-slice-aggregate-fresh-3
-slice-aggregate-fresh-3 c = search needs
-
-slice-aggregate-fresh-4 : tie.Need-slice-aggregate-fresh-4
-slice-aggregate-fresh-4 c = search needs
-
 fresh-requires : tie.Need-fresh-requires
 fresh-requires c κs = search needs
 
 store-requires : tie.Need-store-requires
 store-requires c κs =
-    let a = c .before .before .before .before .before .before .before .before .before .before .before .before in
+    let a = c .before .before .before .before .before .before .before .before .before .before in
     fresh-valid (record { bases = a .args .bases .now; ceilings = a .args .given .now }) (a .pre)
-    (c .before .before .before .before .fresh .ensures)
+    (c .before .before .fresh .ensures)
 
 returns : tie.Need-returns
-returns c = c .store .ensures ∙ ap encode (c .before .before .before .before .before .fresh .ensures .same)
+returns c = c .store .ensures ∙ ap encode (c .before .before .before .fresh .ensures .same)
 
 pub started-spec : {M : Type 1} → statement M
 started-spec =
@@ -36,8 +30,6 @@ started-spec =
     (tie.spec
     slice-aggregate-fresh
     slice-aggregate-fresh-2
-    slice-aggregate-fresh-3
-    slice-aggregate-fresh-4
     fresh-requires
     store-requires
     returns)

@@ -95,12 +95,6 @@ slice-aggregate-apply c = search needs
 slice-aggregate-apply-2 : tie.Need-slice-aggregate-apply-2
 slice-aggregate-apply-2 c = search needs
 
-slice-aggregate-apply-3 : tie.Need-slice-aggregate-apply-3
-slice-aggregate-apply-3 c = search needs
-
-slice-aggregate-apply-4 : tie.Need-slice-aggregate-apply-4
-slice-aggregate-apply-4 c = search needs
-
 apply-requires : tie.Need-apply-requires
 apply-requires c κs =
     let i = c .before .before .before .before .before in
@@ -127,7 +121,7 @@ returns-3 : tie.Need-returns-3
 returns-3 c =
     let n = c .before in
     let at-report = n .before in
-    let at-apply = at-report .before .before .before .before in
+    let at-apply = at-report .before .before .before in
     let i = at-apply .before .before .before .before .before .before in
     let at-sound = i .before in
     let at-marks = at-sound .before .before .before .before .before .before in
@@ -154,7 +148,7 @@ slice-aggregate-store-4 c = search needs
 
 store-requires : tie.Need-store-requires
 store-requires c κs =
-    let at-apply = c .before .before .before .before .before .before .before .before .before .before .before .before in
+    let at-apply = c .before .before .before .before .before .before .before .before .before .before .before in
     let at-sound = at-apply .before .before .before .before .before .before .before in
     let at-load = at-sound .before .before .before .before .before .before .before .before .before .before .before .before in
     let j = at-load .before .before .before .before .before .before in
@@ -172,7 +166,7 @@ returns-4 c =
     let k = w .before .before .before .before .before .before .before in
     let n = k .before in
     let at-report = n .before in
-    let at-apply = at-report .before .before .before .before in
+    let at-apply = at-report .before .before .before in
     let i = at-apply .before .before .before .before .before .before in
     let at-sound = i .before in
     let at-marks = at-sound .before .before .before .before .before .before in
@@ -210,8 +204,6 @@ apply-spec =
     returns-2
     slice-aggregate-apply
     slice-aggregate-apply-2
-    slice-aggregate-apply-3
-    slice-aggregate-apply-4
     apply-requires
     report-number-requires
     number-requires-4
