@@ -1,5 +1,5 @@
 -- Laws of the moves: what they may do to the slices, and what they have done.
-use mathlib.Core.Path.{_≡_, ap, _∙_, sym, subst}
+use mathlib.Core.Path.{_≡_, refl, ap, _∙_, sym, subst}
 use mathlib.Core.List.{List, [], _∷_, _++_}
 use Prim.Native.Nat.{ℕ, _+_, _-_, _≤_, _<_}
 use native.Mathlib.Numerals.{add-one}
@@ -12,13 +12,14 @@ use Rattle.rules.specs.Model.{Model, active, taskAt, queue, withPlace, withTask
 use Rattle.rules.specs.Moves.{highestTo, highest, headOf, becomeReady, stopped, preempt, start, dispatch}
 use Rattle.rules.specs.declared.Priority.{Priority}
 use Rattle.rules.specs.declared.Place.the-variants.{Running, Ready}
+use Rattle.rules.specs.declared.Runner.{Runner}
 use Rattle.rules.specs.declared.Runner.the-variants.{Nobody, Task as Runs}
 use Rattle.rules.proofs.Levels.{highest-top, highest-full}
 use Rattle.rules.proofs.MoveLaws.{dispatch-idle, dispatch-start, dispatch-stay, dispatch-switch}
 use Rattle.memory.specs.Rows.{HasQueue, queueIn, Queues}
 use Rattle.memory.specs.Tasks.{taskIn, Tasks, TaskBecame, placed}
 use Rattle.memory.specs.Memory.{runningCell, taskCountIn, runnerOf, modelOf, Marked, ReadyBecame, LaidOut, Means}
-use Rattle.moves.specs.Room.{Joins, Starts, Dispatches}
+use Rattle.moves.specs.Room.{Joins, Starts, Dispatches, levelBy, levelOf, vacatedBy, vacated}
 use Rattle.memory.proofs.PriorityLaws.{active-bare}
 use Rattle.memory.proofs.MemoryLaws.{then-means, means-by, as-laid, count-is, held-is, run-law, marked, queue-law, place-law}
 
@@ -84,7 +85,7 @@ highest-starts m p d e n =
     let full : 0 < length (queue m p) = rw e (highest-full (m .ready) lastPriority (omega (arith, n))) in
     record { level = level; full = full; head = d .heads p level full }
 
-pub preempted-starts : (m : Model) (t p : ℕ) → Starts m p → active m t < p → 1 ≤ active m t → Starts (preempt m t) p
+preempted-starts : (m : Model) (t p : ℕ) → Starts m p → active m t < p → 1 ≤ active m t → Starts (preempt m t) p
 unfolding preempt stopped
 preempted-starts m t p s l h =
     let other : queue (preempt m t) p ≡ queue m p =
@@ -96,21 +97,66 @@ preempted-starts m t p s l h =
       head = subst (λ (q : List ℕ). getD q 0 0 < length (preempt m t .tasks)) (sym other) (omega (arith, count, s .head));
     }
 
--- the four ways of a dispatch, p being the highest queue
+pub vacated-starts : (m : Model) (p : ℕ) → Dispatches m → Starts m p → levelOf m < p → Starts (vacated m) p
+unfolding levelBy vacatedBy
+vacated-starts m p d s = by (m .running) refl
+  where
+    by : (w : Runner) → m .running ≡ w → levelBy m w < p → Starts (vacatedBy m w) p
+    by Nobody e l = s
+    by (Runs t) e l = preempted-starts m t p s l (d .runner t e .level .low)
+
+-- the two ways of a dispatch, p being the highest queue: by who runs
 module _ (m : Model) (p : ℕ) (e : p ≡ highestTo (m .ready) lastPriority) where
-  pub idle-way : m .running ≡ Nobody → p ≡ 0 → m ≡ dispatch m
+  idle-way : m .running ≡ Nobody → p ≡ 0 → m ≡ dispatch m
   unfolding highest
   idle-way w z = sym (dispatch-idle m w (eq-eqb (highest m) 0 (sym e ∙ z)))
 
-  pub start-way : m .running ≡ Nobody → (p ≡ 0 → ⊥) → start m p ≡ dispatch m
+  start-way : m .running ≡ Nobody → (p ≡ 0 → ⊥) → start m p ≡ dispatch m
   unfolding highest
   start-way w n = ap (start m) e ∙ sym (dispatch-start m w (ne-eqb (highest m) 0 (λ z. n (e ∙ z))))
 
-  pub stay-way : (t a : ℕ) → m .running ≡ Runs t → a ≡ active m t → p ≤ a → m ≡ dispatch m
+  stay-way : (t : ℕ) → m .running ≡ Runs t → p ≤ active m t → m ≡ dispatch m
   unfolding highest
-  stay-way t a w f l = sym (dispatch-stay m t w (le-leb (highest m) (active m t) (omega (arith, e, f))))
+  stay-way t w l = sym (dispatch-stay m t w (le-leb (highest m) (active m t) (omega (arith, e))))
 
-  pub switch-way : (t a : ℕ) → m .running ≡ Runs t → a ≡ active m t → a < p → start (preempt m t) p ≡ dispatch m
+  switch-way : (t : ℕ) → m .running ≡ Runs t → active m t < p → start (preempt m t) p ≡ dispatch m
   unfolding highest
-  switch-way t a w f l =
-      ap (start (preempt m t)) e ∙ sym (dispatch-switch m t w (lt-leb (highest m) (active m t) (omega (arith, e, f))))
+  switch-way t w l = ap (start (preempt m t)) e ∙ sym (dispatch-switch m t w (lt-leb (highest m) (active m t) (omega (arith, e))))
+
+  pub stays : p ≤ levelOf m → m ≡ dispatch m
+  unfolding levelBy
+  stays = by (m .running) refl
+    where
+      by : (w : Runner) → m .running ≡ w → p ≤ levelBy m w → m ≡ dispatch m
+      by Nobody w l = idle-way w (omega arith)
+      by (Runs t) w l = stay-way t w l
+
+  pub changes : levelOf m < p → start (vacated m) p ≡ dispatch m
+  unfolding levelBy vacatedBy
+  changes = by (m .running) refl
+    where
+      by : (w : Runner) → m .running ≡ w → levelBy m w < p → start (vacatedBy m w) p ≡ dispatch m
+      by Nobody w l = start-way w (λ z. omega (arith, z))
+      by (Runs t) w l = switch-way t w l
+
+-- the level, and who is sent back, by who runs
+module _ (m : Model) where
+  pub level-idle : m .running ≡ Nobody → 0 ≡ levelOf m
+  unfolding levelBy
+  level-idle e = sym (ap (levelBy m) e)
+
+  pub level-busy : (t a : ℕ) → m .running ≡ Runs t → a ≡ active m t → a ≡ levelOf m
+  unfolding levelBy
+  level-busy t a e f = f ∙ sym (ap (levelBy m) e)
+
+  pub vacated-idle : m .running ≡ Nobody → m ≡ vacated m
+  unfolding vacatedBy
+  vacated-idle e = sym (ap (vacatedBy m) e)
+
+  pub vacated-busy : (t : ℕ) → m .running ≡ Runs t → preempt m t ≡ vacated m
+  unfolding vacatedBy
+  vacated-busy t e = sym (ap (vacatedBy m) e)
+
+  pub busy-level : (t a : ℕ) → m .running ≡ Runs t → a ≡ levelOf m → a ≡ active m t
+  unfolding levelBy
+  busy-level t a e f = f ∙ ap (levelBy m) e

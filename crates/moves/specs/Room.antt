@@ -7,11 +7,12 @@ use lib.Dec.{leb, ltb}
 use lib.ListN.{length}
 use Rattle.rules.specs.Limits.{taskLimit}
 use Rattle.rules.specs.Model.{Model, TaskRecord, none, waits, withBase, withWaiting, taskAt, withTask, queue, withQueue, active}
-use Rattle.rules.specs.Moves.{stopped, headOf}
+use Rattle.rules.specs.Moves.{stopped, preempt, headOf}
 use Rattle.rules.specs.Events.{Due as RuleDue, inside, nobody, task, firstDue, wakeUp}
 use Rattle.rules.specs.declared.Place.{Place}
 use Rattle.rules.specs.declared.Place.the-variants.{Running, Ready, Delayed, Suspended, Ended}
-use Rattle.rules.specs.declared.Runner.the-variants.{Task as Runs}
+use Rattle.rules.specs.declared.Runner.{Runner}
+use Rattle.rules.specs.declared.Runner.the-variants.{Nobody, Task as Runs}
 use Rattle.rules.specs.Lists.{without}
 use Rattle.moves.specs.declared.effects.Due.{Due}
 use Rattle.memory.specs.Tasks.{noDue}
@@ -40,6 +41,22 @@ pub record Dispatches (m : Model) : Type 0 where
   pub runner : (t : ℕ) → m .running ≡ Runs t → Joins m t
   pub rises : (t : ℕ) → m .running ≡ Runs t → Rises m t
   pub heads : (p : ℕ) → HasQueue p → 0 < length (queue m p) → headOf m p < length (m .tasks)
+
+-- what a ready queue has to be higher than: the running task, or nothing
+unfoldable pub levelBy : Model → Runner → ℕ
+levelBy m Nobody = 0
+levelBy m (Runs t) = active m t
+
+abbrev pub levelOf : Model → ℕ
+levelOf m = levelBy m (m .running)
+
+-- the running task, if there is one, at the head of its queue
+unfoldable pub vacatedBy : Model → Runner → Model
+vacatedBy m Nobody = m
+vacatedBy m (Runs t) = preempt m t
+
+abbrev pub vacated : Model → Model
+vacated m = vacatedBy m (m .running)
 
 -- the task t stopped, its base p, which waited, having taken effect
 abbrev pub settled : Model → ℕ → ℕ → Model

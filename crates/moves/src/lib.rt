@@ -5,7 +5,7 @@ ghost use Prim.Native.Nat.{_<_};
 ghost use Rattle.rules.specs.Model.{active};
 ghost use Rattle.rules.specs.Moves.{becomeReady, preempt, start, dispatch};
 ghost use Rattle.memory.specs.Memory.{modelOf, LaidOut, Means};
-ghost use Rattle.moves.specs.Room.{Joins, Arrives, Starts, Dispatches};
+ghost use Rattle.moves.specs.Room.{Joins, Arrives, Starts, Dispatches, levelOf, vacated};
 use memory::priorities;
 use memory::queues;
 use memory::sizes::HEAD_WIDTH;
@@ -87,6 +87,60 @@ pub fn start(
     head[RUNNING_CELL] = t as u64 + 1;
 }
 
+// The active priority of the running task; 0, which is below every queue's, where nobody runs.
+fn level(
+    head: &[u64; HEAD_WIDTH],
+    tasks: &[u64],
+    held: &[u8; HELD_CELLS],
+    ceilings: &[u8; OBJECT_LIMIT],
+    queues: &[u8],
+) -> Priority
+    requires { ⌜ LaidOut (now head) (now tasks) (now held) (now ceilings) (now queues) ⌝ }
+    requires { ⌜ Dispatches (modelOf (now head) (now tasks) (now held) (now ceilings) (now queues)) ⌝ }
+    ensures { λ r.
+        ⌜ r .0 ≡
+        levelOf
+        (modelOf (now (head .entry)) (now (tasks .entry)) (now (held .entry)) (now (ceilings .entry)) (now (queues .entry))) ⌝ }
+{
+    let running = head[RUNNING_CELL];
+    if running == 0 {
+        return Priority(0);
+    }
+    priorities::active_inside(head, tasks, held, ceilings, queues, (running - 1) as usize)
+}
+
+// The running task, if there is one, whose active priority is p, goes to the head of its queue.
+fn vacate(
+    head: &mut [u64; HEAD_WIDTH],
+    tasks: &mut [u64],
+    held: &[u8; HELD_CELLS],
+    ceilings: &[u8; OBJECT_LIMIT],
+    queues: &mut [u8],
+    p: Priority,
+)
+    requires { ⌜ LaidOut (now head) (now tasks) (now held) (now ceilings) (now queues) ⌝ }
+    requires { ⌜ Dispatches (modelOf (now head) (now tasks) (now held) (now ceilings) (now queues)) ⌝ }
+    requires { ⌜ p .0 ≡ levelOf (modelOf (now head) (now tasks) (now held) (now ceilings) (now queues)) ⌝ }
+    ensures { λ u.
+        ⌜ Means (now (head .exit)) (now (tasks .exit)) (now (held .entry)) (now (ceilings .entry)) (now (queues .exit))
+        (vacated
+        (modelOf (now (head .entry)) (now (tasks .entry)) (now (held .entry)) (now (ceilings .entry)) (now (queues .entry)))) ⌝ }
+{
+    let running = head[RUNNING_CELL];
+    if running == 0 {
+        return;
+    }
+    preempt(
+        head,
+        tasks,
+        held,
+        ceilings,
+        queues,
+        (running - 1) as usize,
+        p,
+    );
+}
+
 // The head of the highest queue runs, if it is higher than the running task or nobody runs.
 pub fn dispatch(
     head: &mut [u64; HEAD_WIDTH],
@@ -103,19 +157,10 @@ pub fn dispatch(
         (modelOf (now (head .entry)) (now (tasks .entry)) (now (held .entry)) (now (ceilings .entry)) (now (queues .entry)))) ⌝ }
 {
     let p = queues::highest(head, queues);
-    let running = head[RUNNING_CELL];
-    if running == 0 {
-        if p.0 == 0 {
-            return;
-        }
-        start(head, tasks, held, ceilings, queues, p);
-        return;
-    }
-    let t = (running - 1) as usize;
-    let a = priorities::active_inside(head, tasks, held, ceilings, queues, t);
+    let a = level(head, tasks, held, ceilings, queues);
     if p.0 <= a.0 {
         return;
     }
-    preempt(head, tasks, held, ceilings, queues, t, a);
+    vacate(head, tasks, held, ceilings, queues, a);
     start(head, tasks, held, ceilings, queues, p);
 }
