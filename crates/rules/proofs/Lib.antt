@@ -10,6 +10,7 @@ pub mod Room
 pub mod HeldLaws
 pub mod WakingLaws
 pub mod WakeOrder
+pub mod WakingList
 pub mod Pending
 pub mod Ways
 pub mod Refusals

@@ -154,11 +154,11 @@ Finds r i ks nobody = dues r ks ≡ 0
 Finds r i ks (task t d) = Soonest r i ks t d
 
 -- what is found at one place
-abbrev FindsAt : ℕ → ℕ → Place → Due → Type 0
+abbrev pub FindsAt : ℕ → ℕ → Place → Due → Type 0
 FindsAt r i x nobody = isDue r x ≡ 0
 FindsAt r i x (task t d) = (t ≡ i) × (x ≡ Delayed d) × (d ≤ r)
 
-finds-at : (r i : ℕ) (x : Place) → FindsAt r i x (dueAt r i x)
+pub finds-at : (r i : ℕ) (x : Place) → FindsAt r i x (dueAt r i x)
 unfolding dueAt isDue
 finds-at r i Running = refl
 finds-at r i Ready = refl
