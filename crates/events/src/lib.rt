@@ -21,6 +21,7 @@ use memory::sizes::RUNNING_CELL;
 use memory::sizes::TASKS_CELL;
 use memory::tasks;
 use moves::effects;
+use moves::waking;
 use rules::Place;
 use rules::Priority;
 
@@ -214,7 +215,7 @@ pub fn clock(
     }
     let running = head[RUNNING_CELL];
     head[NOW_CELL] = r;
-    if !effects::wake_up(head, tasks, held, ceilings, queues, r) {
+    if !waking::wake_up(head, tasks, held, ceilings, queues, r) {
         return rulings::UNCHANGED;
     }
     conclude(head, tasks, held, ceilings, queues, running)

@@ -3,16 +3,15 @@ use mathlib.Core.Path.{_≡_, ap, _∙_, sym}
 use mathlib.Core.Bool.{true, false}
 use mathlib.Core.List.{List, [], _∷_, _++_}
 use Prim.Native.Nat.{ℕ, _+_, _-_, _≤_, _<_, min}
-use native.Mathlib.Numerals.{add-one}
 use native.Mathlib.Omega.{arith}
 use borrow.Author.Tests.{lt-ltb, le-ltb, eq-eqb, ne-eqb}
-use lib.ListN.{length, take, drop, getD, set, drop-of-length-le}
-use lib.Seq.{drop-cons, getD-set-same, getD-set-other}
+use lib.ListN.{length, take, getD, set}
+use lib.Seq.{getD-set-same, getD-set-other}
 use Rattle.rules.specs.Limits.{taskLimit}
-use Rattle.rules.specs.Model.{Model, TaskRecord, none, waits, blank, withPlace, withWaiting}
+use Rattle.rules.specs.Model.{Model, none, waits, withPlace, withWaiting}
 use Rattle.rules.specs.Model.{withNow, withRunning, taskAt, withTask, queue, withQueue, active}
 use Rattle.rules.specs.Moves.{becomeReady, stopped}
-use Rattle.rules.specs.Events.{inside, innermost, Due, nobody, earlier, dueAt, firstDue, wakeUp, requeue, takeHold, giveUp}
+use Rattle.rules.specs.Events.{inside, innermost, nobody, firstDue, wakeUp, requeue, takeHold, giveUp}
 use Rattle.rules.specs.Events.{takeReading}
 use Rattle.rules.specs.declared.Priority.{Priority}
 use Rattle.rules.specs.declared.Place.{Place}
@@ -22,18 +21,15 @@ use Rattle.rules.specs.declared.WaitingBase.the-variants.{Nothing, Base}
 use Rattle.rules.specs.declared.Runner.the-variants.{Nobody}
 use Rattle.rules.specs.declared.Task.{Task}
 use Rattle.rules.specs.Lists.{without}
-use Rattle.moves.specs.declared.effects.Due.{Due as Found}
 use Rattle.memory.specs.Rows.{heldBy, Held, HeldBecame}
-use Rattle.memory.specs.Tasks.{delayedKind, kindCode, noDue, dueTime, taskIn, Tasks, TaskBecame, placed, based, waited}
+use Rattle.memory.specs.Tasks.{delayedKind, kindCode, taskIn, Tasks, TaskBecame, placed, based, waited}
 use Rattle.memory.specs.Memory.{nowCell, runningCell, tasksCell, nextCell, taskCountIn, nextIn, runnerOf, waitingIn, modelOf}
 use Rattle.memory.specs.Memory.{NobodyBefore, LaidOut, Means}
-use Rattle.moves.specs.Room.{settled, soonerOf, dueBy, First, someDue}
-use Rattle.rules.proofs.Choices.{compare}
+use Rattle.moves.specs.Room.{settled, someDue}
 use Rattle.memory.proofs.TaskLaws.{then-became}
 use Rattle.memory.proofs.MemoryLaws.{then-means, means-by, count-is, task-is, held-is, waiting-is, run-law, now-law}
 use Rattle.memory.proofs.MemoryLaws.{next-law, stays, task-law, place-law, delay-law, waiting-law, held-law}
 use Rattle.moves.proofs.MoveLaws.{base-level}
-use Rattle.moves.proofs.EventLaws.{due-later, first-of-two, due-there}
 
 -- the head's counts stay where the running task changes
 pub still-counted : (h : List ℕ) (v : ℕ) → taskCountIn (set h runningCell v) ≡ taskCountIn h
@@ -162,39 +158,6 @@ module _ {h ts hd cs qs : List ℕ} (d : LaidOut h ts hd cs qs) where
       HeldBecame hd hd' t (take (length (heldBy hd t) - 1) (heldBy hd t)) →
       Means h ts hd' cs qs (giveUp (modelOf h ts hd cs qs) t)
   give-up-law t g b = means-by (held-law d t _ g b) (rw (held-is d t g))
-
--- a search over the tasks from t on, at any reading
-abbrev pub Searched : Found → ℕ → List TaskRecord → Type 0
-Searched best t ks = (r : ℕ) → r < noDue → firstDue r nobody 0 ks ≡ firstDue r (dueBy r best) t (drop t ks)
-
-pub search-begins : (ks : List TaskRecord) → Searched (record { task = 0; time = noDue }) 0 ks
-search-begins ks r h = rw (due-later r (record { task = 0; time = noDue }) h)
-
-pub search-more : (t : ℕ) (best x : Found) (ks : List TaskRecord) → t < length ks →
-    x ≡ soonerOf best (record { task = t; time = dueTime (getD ks t blank .place) }) →
-    Searched best t ks → Searched x (t + 1) ks
-unfolding firstDue
-search-more t best x ks h e f r g =
-    let next : Found = record { task = t; time = dueTime (getD ks t blank .place) } in
-    let x-is : dueBy r x ≡ earlier (dueBy r best) (dueAt r t (getD ks t blank .place)) =
-    ap (dueBy r) e ∙ first-of-two r best next ∙ ap (earlier (dueBy r best)) (sym (due-there r t (getD ks t blank .place) g)) in
-    f r g ∙ rw (x-is, add-one, drop-cons ks t blank h)
-
-pub search-time : (best next x : Found) → x ≡ soonerOf best next → best .time ≤ noDue → x .time ≤ noDue
-unfolding soonerOf
-search-time best next x e h =
-    let go : soonerOf best next .time ≤ noDue =
-    compare (best .time) (next .time) (λ k. rw (le-ltb (next .time) (best .time) k) h)
-    (λ k. rw (lt-ltb (next .time) (best .time) k) (omega arith)) in
-    omega (arith, go, ap (λ (v : Found). v .time) e)
-
-pub search-end : (t : ℕ) (best : Found) (ks : List TaskRecord) → length ks ≤ t → best .time ≤ noDue → Searched best t ks → First best ks
-unfolding firstDue
-search-end t best ks h g f = record { time = g; wakes = λ r k. f r k ∙ rw (drop-of-length-le ks {i = t} h) }
-
--- what the search has found, in the Model that the slices mean
-pub found-due : (r : ℕ) (x : Found) (n m : Model) → n ≡ m → r < noDue → First x (n .tasks) → firstDue r nobody 0 (m .tasks) ≡ dueBy r x
-found-due r x n m e h f = sym (ap (λ (z : Model). firstDue r nobody 0 (z .tasks)) e) ∙ f .wakes r h
 
 -- the ways of a requeue
 module _ (m : Model) (t p : ℕ) (x : Place) where

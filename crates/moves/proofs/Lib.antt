@@ -2,3 +2,4 @@ pub mod MoveLaws
 pub mod RoomLaws
 pub mod EventLaws
 pub mod EffectLaws
+pub mod WakingLaws

@@ -1,21 +1,17 @@
 -- What a move needs of a Model beside the layout of the slices: tasks that are there, priorities in range, room in a queue.
 use mathlib.Core.Path.{_≡_}
-use mathlib.Core.Bool.{Bool, true, false, cond}
-use mathlib.Core.List.{List}
-use Prim.Native.Nat.{ℕ, _≤_, _<_}
-use lib.Dec.{leb, ltb}
+use mathlib.Core.Bool.{Bool, true, false}
+use Prim.Native.Nat.{ℕ, _<_}
 use lib.ListN.{length}
 use Rattle.rules.specs.Limits.{taskLimit}
-use Rattle.rules.specs.Model.{Model, TaskRecord, none, waits, withBase, withWaiting, taskAt, withTask, queue, withQueue, active}
+use Rattle.rules.specs.Model.{Model, none, waits, withBase, withWaiting, taskAt, withTask, queue, withQueue, active}
 use Rattle.rules.specs.Moves.{stopped, preempt, headOf}
-use Rattle.rules.specs.Events.{Due as RuleDue, inside, nobody, task, firstDue, wakeUp}
+use Rattle.rules.specs.Events.{Due, inside, nobody, task, firstDue, wakeUp}
 use Rattle.rules.specs.declared.Place.{Place}
 use Rattle.rules.specs.declared.Place.the-variants.{Running, Ready, Delayed, Suspended, Ended}
 use Rattle.rules.specs.declared.Runner.{Runner}
 use Rattle.rules.specs.declared.Runner.the-variants.{Nobody, Task as Runs}
 use Rattle.rules.specs.Lists.{without}
-use Rattle.moves.specs.declared.effects.Due.{Due}
-use Rattle.memory.specs.Tasks.{noDue}
 use Rattle.memory.specs.Rows.{HasQueue}
 use Rattle.memory.specs.Memory.{Rises}
 
@@ -79,21 +75,8 @@ pub record Releases (m : Model) (t : ℕ) : Type 0 where
   pub there : t < length (m .tasks)
   pub suspended : isSuspended (taskAt m t .place) ≡ true → Arrives m t
 
--- of two delayed tasks the former, having the lower number, unless the latter is due earlier
-unfoldable pub soonerOf : Due → Due → Due
-soonerOf x y = cond (ltb (y .time) (x .time)) y x
-
--- what a delayed task is at the reading r, as the rules have it: due, or not yet
-unfoldable pub dueBy : ℕ → Due → RuleDue
-dueBy r x = cond (leb (x .time) r) (task (x .task) (x .time)) nobody
-
--- x is due first of the tasks ks: at any reading it is who wakes first, if it is due then
-pub record First (x : Due) (ks : List TaskRecord) : Type 0 where
-  pub time : x .time ≤ noDue
-  pub wakes : (r : ℕ) → r < noDue → firstDue r nobody 0 ks ≡ dueBy r x
-
 -- whether anybody is due
-abbrev pub someDue : RuleDue → Bool
+abbrev pub someDue : Due → Bool
 someDue nobody = false
 someDue (task t d) = true
 

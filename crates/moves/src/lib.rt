@@ -17,6 +17,7 @@ use rules::Place;
 use rules::Priority;
 
 pub mod effects;
+pub mod waking;
 
 // The task t, which holds nothing, becomes ready, at the tail of the queue for its base.
 pub fn become_ready(
