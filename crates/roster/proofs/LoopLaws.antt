@@ -13,10 +13,11 @@ use Rattle.rules.specs.Sound.{rising}
 use Rattle.rules.proofs.HeldLaws.{rising-push, rising-take}
 use Rattle.format.specs.Answers.{first}
 use Rattle.format.specs.Format.{taskCount, objectCount, partAt}
-use Rattle.format.specs.Steps.{stepsOf, stepIn}
+use Rattle.format.specs.Limits.{workCode}
+use Rattle.format.specs.Steps.{codeAt, aAt, bAt, stepOf, stepAt, stepCount, stepsOf, stepIn}
 use Rattle.format.specs.Roster.{rosterOf}
 use Rattle.format.specs.Form.{namesListed, formOf}
-use Rattle.format.specs.Check.{heldAfter, heldBefore, lowCeiling}
+use Rattle.format.specs.Check.{heldAfter, heldBefore, whileHeld, lowCeiling, notInnermost, otherTask}
 use Rattle.format.specs.Check.{faultOf, faultIn, stepsFault}
 use Rattle.roster.specs.Held.{Stacked}
 use Rattle.roster.specs.Listed.{AllListed}
@@ -25,6 +26,7 @@ use Rattle.format.specs.declared.Step.the-variants.{Enter, Leave, Delay, Work, 
 use Rattle.format.specs.declared.Verdict.{Verdict}
 use Rattle.format.specs.declared.Verdict.the-variants.{Passed}
 use Rattle.format.proofs.TestLaws.{first-new, first-below}
+use Rattle.format.proofs.StepLaws.{steps-at}
 use Rattle.format.proofs.FormatLaws.{ceiling-count}
 use Rattle.format.proofs.FormedLaws.{objects-few, part-listed}
 use Rattle.format.proofs.WalkLaws.{Clean, clean, held-room}
@@ -80,6 +82,24 @@ module _ (cs : List ℕ) (top t : ℕ) (steps : List Step) where
       let g : heldAfter held x ≡ heldBefore steps (suc k) = cc in
       let q = subst (λ (j : ℕ). first j (faultIn cs top t steps) ≡ Passed) (add-one k) p in
       omega (arith, ap length g, held-room (listed .0) (length cs) cs top t steps (listed .1) (suc k) q)
+
+-- Work breaks nothing and leaves held what it found
+module _ (part : List ℕ) (k : ℕ) (low : k < stepCount part) (code : codeAt part k ≡ workCode) where
+  is-work : stepIn (stepsOf part) k ≡ Work
+  unfolding stepAt stepOf
+  is-work = steps-at part k low ∙ ap (λ (n : ℕ). stepOf n (aAt part k) (bAt part k)) code
+
+  pub work-passes : (cs : List ℕ) (top t : ℕ) → Passed ≡ faultIn cs top t (stepsOf part) k
+  unfolding faultIn faultOf whileHeld lowCeiling notInnermost otherTask
+  work-passes cs top t = sym (ap (faultOf cs top (heldBefore (stepsOf part) k) t k) is-work)
+
+  pub work-keeps : (cells : List ℕ) (depth : ℕ) → Stacked cells depth (heldBefore (stepsOf part) k) →
+      Stacked cells depth (heldBefore (stepsOf part) (k + 1))
+  unfolding heldBefore heldAfter
+  work-keeps cells depth own =
+      let same : heldBefore (stepsOf part) (suc k) ≡ heldBefore (stepsOf part) k =
+      ap (heldAfter (heldBefore (stepsOf part) k)) is-work in
+      subst (Stacked cells depth) (sym same ∙ ap (heldBefore (stepsOf part)) (sym (add-one k))) own
 
 pub held-after : (steps : List Step) (k : ℕ) (cells : List ℕ) (depth : ℕ) (held : List ℕ) (x : Step) → held ≡ heldBefore steps k →
     x ≡ stepIn steps k → Stacked cells depth (heldAfter held x) → Stacked cells depth (heldBefore steps (k + 1))

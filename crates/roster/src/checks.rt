@@ -129,7 +129,8 @@ fn step_fault(ceilings: &[u8], held: &[u8], top: Priority, t: u8, k: usize, x: S
     }
 }
 
-// 17 to 20, of one script: the first fault, the script's end counting as a step.
+// 17 to 20, of one script: the first fault, the script's end counting as a step. Work, the most frequent step, breaks nothing and
+// leaves held what it found, so only its code is read.
 fn steps_fault(ceilings: &[u8], part: &[u8], top: Priority, t: u8) -> Verdict
     requires { ⌜ length (now ceilings) ≤ objectLimit ⌝ }
     requires { ⌜ AllListed (length (now ceilings)) (stepsOf (now part)) ⌝ }
@@ -140,12 +141,14 @@ fn steps_fault(ceilings: &[u8], part: &[u8], top: Priority, t: u8) -> Verdict
     let mut depth: usize = 0;
     let mut k: usize = 0;
     while k < n {
-        let x = steps::step_at(part, k);
-        let v = step_fault(ceilings, &held[..depth], top, t, k, x);
-        if !v.passed() {
-            return v;
+        if part[Limits::STEP * k] != Step::WORK {
+            let x = steps::step_at(part, k);
+            let v = step_fault(ceilings, &held[..depth], top, t, k, x);
+            if !v.passed() {
+                return v;
+            }
+            depth = held::after(&mut held, depth, x);
         }
-        depth = held::after(&mut held, depth, x);
         k += 1;
     }
     step_fault(ceilings, &held[..depth], top, t, n, Step::Finish)

@@ -1,19 +1,21 @@
 -- `roster::checks::steps_fault` meets its contract.
 use native.Mathlib.Omega.{arith}
 use borrow.Author.Tests.{not-true, not-false}
+use mathlib.Core.Logic.{⊎-elim}
 use mathlib.Core.Path.{_≡_, refl, sym}
 use Prim.Native.Nat.{suc, _≤_, _<_, _-_}
 use lib.ListN.{length}
 use lib.Seq.{length-take-le}
 use borrow.Author.Needs.{needs}
 use Rattle.format.specs.Answers.{first}
-use Rattle.format.specs.Steps.{stepsOf, stepCount}
+use Rattle.format.specs.Steps.{codeAt, stepsOf, stepCount}
 use Rattle.format.specs.Check.{heldBefore, faultIn, stepsFault}
 use Rattle.roster.specs.Held.{Stacked}
 use Rattle.format.specs.declared.Verdict.the-variants.{Passed}
 use Rattle.format.proofs.TestLaws.{turn-finds, turn-passes}
 use Rattle.format.proofs.StepLaws.{steps-length, steps-past}
-use Rattle.roster.proofs.LoopLaws.{rising-held, fault-here, fault-end, held-after, after-room}
+use Rattle.roster.proofs.LoopLaws.{rising-held, fault-here, fault-end, held-after, after-room, work-passes, work-keeps}
+use Rattle.roster.proofs.StackLaws.{stacked-as}
 use Rattle.roster.proofs.checks.steps_fault.Statement.{statement}
 use Rattle.roster.proofs.checks.steps_fault.Tie as tie
 
@@ -29,22 +31,28 @@ loop-holds : tie.Need-loop-holds Inv-loop μ-loop
 unfolding heldBefore first
 loop-holds c = (omega arith, record { same = refl; fits = omega arith; room = refl }, refl)
 
+mul-if1 : tie.Need-mul-if1 Inv-loop μ-loop
+mul-if1 c = search needs
+
+shared-slice-read-if1 : tie.Need-shared-slice-read-if1 Inv-loop μ-loop
+shared-slice-read-if1 c = search needs
+
 step-at-requires : tie.Need-step-at-requires Inv-loop μ-loop
 step-at-requires c κs = search needs
 
 array-share-prefix-held : tie.Need-array-share-prefix-held Inv-loop μ-loop
-array-share-prefix-held c = let l = c .before .before .loop in omega (arith, l .inv .1 .fits, l .inv .1 .room)
+array-share-prefix-held c = let l = c .before .before .before .before .loop in omega (arith, l .inv .1 .fits, l .inv .1 .room)
 
 slice-aggregate-step-fault : tie.Need-slice-aggregate-step-fault Inv-loop μ-loop
 slice-aggregate-step-fault c =
-    let l = c .before .before .before .loop in
+    let l = c .before .before .before .before .before .loop in
     sym (length-take-le (l .depth) (l .held) (omega (arith, l .inv .1 .fits, l .inv .1 .room)))
 
 step-fault-requires : tie.Need-step-fault-requires Inv-loop μ-loop
 step-fault-requires c κs =
-    let c3 = c .before .before .before in
-    let a = c3 .before .before .before .args in
-    rising-held (a .ceilings .now) (a .top .0) (a .t) (stepsOf (a .part .now)) _ _ (c3 .loop .inv .1 .same) (c3 .loop .inv .2)
+    let c5 = c .before .before .before .before .before in
+    let a = c5 .before .before .before .args in
+    rising-held (a .ceilings .now) (a .top .0) (a .t) (stepsOf (a .part .now)) _ _ (c5 .loop .inv .1 .same) (c5 .loop .inv .2)
 
 passed-requires : tie.Need-passed-requires Inv-loop μ-loop
 passed-requires c κs = search needs
@@ -53,32 +61,32 @@ returns : tie.Need-returns Inv-loop μ-loop
 unfolding stepsFault
 returns c =
     let c4 = c .before .before .before .before in
-    let c6 = c4 .before .before in
-    let a = c6 .before .before .before .args in
+    let c8 = c4 .before .before .before .before in
+    let a = c8 .before .before .before .args in
     let cs = a .ceilings .now in
     let steps = stepsOf (a .part .now) in
-    let v = fault-here cs (a .top .0) (a .t) steps _ _ _ _ (c6 .loop .inv .1 .same) (c4 .step-at .ensures)
+    let v = fault-here cs (a .top .0) (a .t) steps _ _ _ _ (c8 .loop .inv .1 .same) (c4 .step-at .ensures)
     (c .before .before .step-fault .ensures) in
-    let low : c6 .loop .k < suc (length steps) = omega (arith, steps-length (a .part .now)) in
-    turn-finds (faultIn cs (a .top .0) (a .t) steps) _ _ _ _ _ refl low (c6 .loop .inv .2) v (c .before .passed .ensures)
-    (not-true _ (c .if1 .taken))
+    let low : c8 .loop .k < suc (length steps) = omega (arith, steps-length (a .part .now)) in
+    turn-finds (faultIn cs (a .top .0) (a .t) steps) _ _ _ _ _ refl low (c8 .loop .inv .2) v (c .before .passed .ensures)
+    (not-true _ (c .if2 .taken))
 
 slice-aggregate-after : tie.Need-slice-aggregate-after Inv-loop μ-loop
-slice-aggregate-after c = sym (c .before .before .before .before .before .before .before .loop .inv .1 .room)
+slice-aggregate-after c = sym (c .before .before .before .before .before .before .before .before .before .loop .inv .1 .room)
 
 after-requires : tie.Need-after-requires Inv-loop μ-loop
 after-requires c κs =
     let c5 = c .before .before .before .before .before in
-    let c7 = c5 .before .before in
-    let s = c7 .before .before .before in
+    let c9 = c5 .before .before .before .before in
+    let s = c9 .before .before .before in
     let a = s .args in
     let cs = a .ceilings .now in
     let steps = stepsOf (a .part .now) in
-    let own = c7 .loop .inv .1 in
+    let own = c9 .loop .inv .1 in
     let v = fault-here cs (a .top .0) (a .t) steps _ _ _ _ (own .same) (c5 .step-at .ensures)
     (c .before .before .before .step-fault .ensures) in
-    let p = turn-passes (faultIn cs (a .top .0) (a .t) steps) _ _ _ (c7 .loop .inv .2) v (c .before .before .passed .ensures)
-    (not-false _ (c .before .if1 .left)) in (
+    let p = turn-passes (faultIn cs (a .top .0) (a .t) steps) _ _ _ (c9 .loop .inv .2) v (c .before .before .passed .ensures)
+    (not-false _ (c .before .if2 .left)) in (
       record { same = refl; fits = own .fits; room = own .room },
       after-room cs (a .top .0) (a .t) steps _ _ _ (s .pre .1) (s .pre .0) (own .same) (c5 .step-at .ensures) p,
     )
@@ -90,19 +98,27 @@ loop-less : tie.Need-loop-less Inv-loop μ-loop
 loop-less c = omega arith
 
 loop-again : tie.Need-loop-again Inv-loop μ-loop
+unfolding codeAt
 loop-again c =
-    let c4 = c .before .before .before .before in
-    let c7 = c4 .before .before .before in
-    let c9 = c7 .before .before in
-    let a = c9 .before .before .before .args in
+    let c3 = c .before .before .before in
+    let a = c3 .before .before .before .args in
     let cs = a .ceilings .now in
-    let steps = stepsOf (a .part .now) in
-    let v = fault-here cs (a .top .0) (a .t) steps _ _ _ _ (c9 .loop .inv .1 .same) (c7 .step-at .ensures)
-    (c4 .before .step-fault .ensures) in (
+    let part = a .part .now in
+    let steps = stepsOf part in
+    let fault = faultIn cs (a .top .0) (a .t) steps in
+    let own = c3 .loop .inv .1 in (
       omega arith,
-      held-after steps _ _ _ _ _ (c9 .loop .inv .1 .same) (c7 .step-at .ensures) (c .before .after .ensures),
-      turn-passes (faultIn cs (a .top .0) (a .t) steps) _ _ _ (c9 .loop .inv .2) v (c4 .passed .ensures)
-          (not-false _ (c .before .before .before .if1 .left)),
+      ⊎-elim
+          (λ w. stacked-as _ _ _ _ _ (w .9) (w .10) (held-after steps _ _ _ _ _ (own .same) (w .1 .ensures) (w .7 .ensures)))
+          (λ w. stacked-as _ _ _ _ _ (w .1) (w .2) (work-keeps part (c3 .loop .k) (omega arith) (w .0 .left) _ _ own)) (c .if1 .came),
+      ⊎-elim
+          (λ w.
+          let v = fault-here cs (a .top .0) (a .t) steps _ _ _ _ (own .same) (w .1 .ensures) (w .3 .ensures) in
+          turn-passes fault _ _ _ (c3 .loop .inv .2) v (w .4 .ensures) (not-false _ (w .5 .left)))
+          (λ w.
+          turn-passes fault (c3 .loop .k) _ _ (c3 .loop .inv .2) (work-passes part (c3 .loop .k) (omega arith) (w .0 .left) cs (a .top .0) (a .t))
+          refl refl)
+          (c .if1 .came),
     )
 
 array-share-prefix-held-2 : tie.Need-array-share-prefix-held-2 Inv-loop μ-loop
@@ -136,6 +152,8 @@ steps-fault-spec =
     Inv-loop
     μ-loop
     loop-holds
+    mul-if1
+    shared-slice-read-if1
     step-at-requires
     array-share-prefix-held
     slice-aggregate-step-fault
