@@ -18,15 +18,20 @@ use Rattle.format.proofs.TestLaws.{truth, by-test, passed-is}
 use Rattle.format.proofs.FormatLaws.{base-listed, script-listed}
 
 module _ (s : List ℕ) where
-  pub script-fault : (t : ℕ) (part : List ℕ) (base top : ℕ) (v : Verdict) → t < taskCount s → part ≡ partAt s t → base ≡ baseAt s t →
-      top ≡ topOf t base (stepsOf part) → v ≡ stepsFault (rosterOf s .ceilings) top t (stepsOf part) → v ≡ scriptFault (rosterOf s) t
-  unfolding scriptFault topAt
-  script-fault t part base top v h e f g i =
+  pub script-top : (t : ℕ) (part : List ℕ) (base top : ℕ) → t < taskCount s → part ≡ partAt s t → base ≡ baseAt s t →
+      top ≡ topOf t base (stepsOf part) → top ≡ topAt (rosterOf s) t
+  unfolding topAt
+  script-top t part base top h e f g =
       let steps : stepsOf part ≡ scriptOf (rosterOf s) t = ap stepsOf e ∙ sym (script-listed s t h) in
-      let own : top ≡ topOf t (baseOf (rosterOf s) t) (scriptOf (rosterOf s) t) =
-      g ∙ (ap (λ (b : ℕ). topOf t b (stepsOf part)) (f ∙ sym (base-listed s t h)) ∙ ap (topOf t (baseOf (rosterOf s) t)) steps) in
-      i ∙ (ap (λ (p : ℕ). stepsFault (rosterOf s .ceilings) p t (stepsOf part)) own ∙
-      ap (stepsFault (rosterOf s .ceilings) (topOf t (baseOf (rosterOf s) t) (scriptOf (rosterOf s) t)) t) steps)
+      g ∙ (ap (λ (b : ℕ). topOf t b (stepsOf part)) (f ∙ sym (base-listed s t h)) ∙ ap (topOf t (baseOf (rosterOf s) t)) steps)
+
+  pub script-fault : (t : ℕ) (part : List ℕ) (top : ℕ) (v : Verdict) → t < taskCount s → part ≡ partAt s t → top ≡ topAt (rosterOf s) t →
+      v ≡ stepsFault (rosterOf s .ceilings) top t (stepsOf part) → v ≡ scriptFault (rosterOf s) t
+  unfolding scriptFault
+  script-fault t part top v h e f g =
+      let steps : stepsOf part ≡ scriptOf (rosterOf s) t = ap stepsOf e ∙ sym (script-listed s t h) in
+      g ∙ (ap (λ (p : ℕ). stepsFault (rosterOf s .ceilings) p t (stepsOf part)) f ∙
+      ap (stepsFault (rosterOf s .ceilings) (topAt (rosterOf s) t) t) steps)
 
   -- the form's answer, as it was read
   module _ (v : Verdict) (b : Bool) (e : v ≡ formOf s) (f : b ≡ passed v) where

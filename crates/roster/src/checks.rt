@@ -5,14 +5,14 @@ ghost use Prim.Native.Nat.{_≤_, _<_};
 ghost use lib.Dec.{eqb};
 ghost use lib.ListN.{length, take};
 ghost use Rattle.rules.specs.Limits.{objectLimit};
-ghost use Rattle.rules.specs.Priorities.{checkedOf};
 ghost use Rattle.rules.specs.Sound.{rising};
 ghost use Rattle.format.specs.Format.{taskCount, objectCount};
-ghost use Rattle.format.specs.Steps.{setStep, stepAt, stepCount, stepsOf};
+ghost use Rattle.format.specs.Steps.{stepsOf};
 ghost use Rattle.format.specs.Roster.{rosterOf};
 ghost use Rattle.format.specs.Form.{formOf};
-ghost use Rattle.format.specs.Check.{something, isInnermost, ownSet, topOf, faultOf, stepsFault, scriptFault, rosterFault, checkOf};
+ghost use Rattle.format.specs.Check.{something, isInnermost, topAt, faultOf, stepsFault, scriptFault, rosterFault, checkOf};
 ghost use Rattle.roster.specs.Listed.{AllListed};
+ghost use Rattle.roster.specs.Tops.{Topped};
 ghost use Rattle.format.specs.declared.Step.the-variants.{Enter};
 ghost use Rattle.format.specs.declared.Verdict.the-variants.{Passed, WhileHeld, NotInnermost, OtherTask};
 use crate::forms;
@@ -22,48 +22,7 @@ use fields::steps;
 use format::Limits;
 use format::Step;
 use format::Verdict;
-use rules::Checked;
 use rules::Priority;
-
-// What a Set of task u to b sets the base of its own task t to, or 0.
-fn own_value(t: u8, u: u8, b: u16) -> Priority
-    ensures { λ r. ⌜ r .0 ≡ ownSet t (setStep u (checkedOf b)) ⌝ }
-{
-    if u != t {
-        return Priority(0);
-    }
-    match Priority::checked(b as u64) {
-        Checked::Good(p) => p,
-        Checked::OutOfRange => Priority(0),
-    }
-}
-
-// What the step at position k sets the base of its own task t to, or 0: past the code only a Set is read.
-fn own_set(part: &[u8], k: usize, t: u8) -> Priority
-    requires { ⌜ k < stepCount (now part) ⌝ }
-    ensures { λ r. ⌜ r .0 ≡ ownSet t (stepAt (now (part .entry)) k) ⌝ }
-{
-    let at = Limits::STEP * k;
-    if part[at] != Step::SET {
-        return Priority(0);
-    }
-    own_value(t, part[at + 1], words::word_in(part, at + 2))
-}
-
-// The highest of a base and all own Set values of a script, found once for the whole script.
-fn top_of(part: &[u8], t: u8, base: Priority) -> Priority
-    ensures { λ r. ⌜ r .0 ≡ topOf t (base .0) (stepsOf (now (part .entry))) ⌝ }
-{
-    let n = part.len() / Limits::STEP;
-    let mut top = base;
-    let mut k: usize = 0;
-    while k < n {
-        let value = own_set(part, k, t);
-        top = top.higher(value);
-        k += 1;
-    }
-    top
-}
 
 // 17 of Enter, then 18.
 fn enter_fault(ceilings: &[u8], held: &[u8], top: Priority, t: u8, k: usize, o: u8) -> Verdict
@@ -154,15 +113,14 @@ fn steps_fault(ceilings: &[u8], part: &[u8], top: Priority, t: u8) -> Verdict
     step_fault(ceilings, &held[..depth], top, t, n, Step::Finish)
 }
 
-fn script_fault(roster: &[u8], ceilings: &[u8], t: u8) -> Verdict
+fn script_fault(roster: &[u8], ceilings: &[u8], top: Priority, t: u8) -> Verdict
     requires { ⌜ formOf (now roster) ≡ Passed ⌝ }
     requires { ⌜ now ceilings ≡ rosterOf (now roster) .ceilings ⌝ }
     requires { ⌜ t < taskCount (now roster) ⌝ }
+    requires { ⌜ top .0 ≡ topAt (rosterOf (now roster)) t ⌝ }
     ensures { λ r. ⌜ r ≡ scriptFault (rosterOf (now (roster .entry))) t ⌝ }
 {
     let part = script_part(roster, t);
-    let base = fields::base_at(roster, t);
-    let top = top_of(part, t, base);
     steps_fault(ceilings, part, top, t)
 }
 
@@ -183,15 +141,17 @@ fn read_ceilings(roster: &[u8], cells: &mut [u8]) -> usize
 }
 
 // 17 to 20, in task and step order.
-fn scripts_fault(roster: &[u8], ceilings: &[u8]) -> Verdict
+fn scripts_fault(roster: &[u8], ceilings: &[u8], tops: &[u8]) -> Verdict
     requires { ⌜ formOf (now roster) ≡ Passed ⌝ }
     requires { ⌜ now ceilings ≡ rosterOf (now roster) .ceilings ⌝ }
+    requires { ⌜ Topped (now roster) (now tops) ⌝ }
     ensures { λ r. ⌜ r ≡ rosterFault (rosterOf (now (roster .entry))) ⌝ }
 {
     let n = fields::task_count(roster);
     let mut t: u8 = 0;
     while t < n {
-        let v = script_fault(roster, ceilings, t);
+        let top = Priority(tops[t as usize]);
+        let v = script_fault(roster, ceilings, top, t);
         if !v.passed() {
             return v;
         }
@@ -200,22 +160,24 @@ fn scripts_fault(roster: &[u8], ceilings: &[u8]) -> Verdict
     Verdict::Passed
 }
 
-fn roster_fault(roster: &[u8]) -> Verdict
+fn roster_fault(roster: &[u8], tops: &[u8]) -> Verdict
     requires { ⌜ formOf (now roster) ≡ Passed ⌝ }
+    requires { ⌜ Topped (now roster) (now tops) ⌝ }
     ensures { λ r. ⌜ r ≡ rosterFault (rosterOf (now (roster .entry))) ⌝ }
 {
     let mut cells = [0u8; Limits::OBJECTS];
     let n = read_ceilings(roster, &mut cells);
-    scripts_fault(roster, &cells[..n])
+    scripts_fault(roster, &cells[..n], tops)
 }
 
 // The check of a roster: 11 to 20, or Passed.
 pub fn check(roster: &[u8]) -> Verdict
     ensures { λ r. ⌜ r ≡ checkOf (now (roster .entry)) ⌝ }
 {
-    let v = forms::form(roster);
+    let mut tops = [0u8; Limits::TASKS];
+    let v = forms::form_and_tops(roster, &mut tops);
     if !v.passed() {
         return v;
     }
-    roster_fault(roster)
+    roster_fault(roster, &tops)
 }

@@ -1,14 +1,22 @@
 // The form of a roster: answers 11 to 16.
 ghost use mathlib.Core.Path.{_≡_};
 ghost use mathlib.Core.Bool.{true, _&&_};
-ghost use Prim.Native.Nat.{suc, _<_};
+ghost use Prim.Native.Nat.{suc, _≤_, _<_};
 ghost use lib.Dec.{eqb};
+ghost use lib.ListN.{length};
+ghost use Rattle.rules.specs.Limits.{taskLimit};
 ghost use Rattle.rules.specs.Lists.{below};
 ghost use Rattle.format.specs.Format.{taskCount, objectCount};
 ghost use Rattle.format.specs.Form.{lengthGood, markGood, countsKept, tablesGood, laidFrom, scriptsLaid};
 ghost use Rattle.format.specs.Form.{layoutGood, taskRowGood, objectRowGood, valuesGood};
 ghost use Rattle.format.specs.Form.{isStep, unusedZero, namesListed, standsRight, stepGood, stepsForm, scriptsForm, formOf};
-ghost use Rattle.format.specs.Steps.{aAt, bAt, stepAt, stepCount};
+ghost use Rattle.format.specs.Steps.{aAt, bAt, stepAt, stepCount, stepsOf};
+ghost use Rattle.format.specs.Check.{topOf};
+ghost use Rattle.format.specs.declared.Verdict.the-variants.{Passed};
+ghost use Rattle.roster.specs.Limited.{Limited};
+ghost use Rattle.roster.specs.Tops.{Topped};
+use crate::limits;
+use crate::own;
 use crate::parts::script_part;
 use fields::steps;
 use format::Limits;
@@ -239,18 +247,38 @@ fn good_step_at(tasks: u8, objects: u8, part: &[u8], k: usize) -> bool
     step_good(tasks, objects, last, a, b, x)
 }
 
-fn steps_form(tasks: u8, objects: u8, t: u8, part: &[u8]) -> Verdict
-    ensures { λ r. ⌜ r ≡ stepsForm tasks objects t (now (part .entry)) ⌝ }
+// What the form finds in one script: 16 or Passed, and with that the highest of the task's base and its own Set values.
+struct Formed {
+    verdict: Verdict,
+    top: Priority,
+}
+
+// 16, of one script.
+fn steps_form(limits: &[u8], tasks: u8, objects: u8, t: u8, base: Priority, part: &[u8]) -> Formed
+    requires { ⌜ Limited tasks objects (now limits) ⌝ }
+    ensures { λ r. ⌜ r .verdict ≡ stepsForm tasks objects t (now (part .entry)) ⌝ }
+    ensures { λ r. ⌜ (r .verdict ≡ Passed → r .top .0 ≡ topOf t (base .0) (stepsOf (now (part .entry)))) ⌝ }
 {
     let n = part.len() / Limits::STEP;
+    let mut top = base;
     let mut k: usize = 0;
     while k < n {
-        if !good_step_at(tasks, objects, part, k) {
-            return Verdict::BadStep(t, k);
+        if !limits::within(limits, part, k) {
+            if !good_step_at(tasks, objects, part, k) {
+                return Formed {
+                    verdict: Verdict::BadStep(t, k),
+                    top: top,
+                };
+            }
+            let value = own::own_set(part, k, t);
+            top = top.higher(value);
         }
         k += 1;
     }
-    Verdict::Passed
+    Formed {
+        verdict: Verdict::Passed,
+        top: top,
+    }
 }
 
 fn layout_good(s: &[u8]) -> bool
@@ -271,28 +299,37 @@ fn values_good(s: &[u8]) -> bool
     object_rows_good(s)
 }
 
-// 16, in task and step order.
-fn scripts_form(s: &[u8]) -> Verdict
+// 16, in task and step order; where all pass, the highest of each task's base and its own Set values is left in `tops`.
+fn scripts_form(s: &[u8], tops: &mut [u8]) -> Verdict
     requires { ⌜ layoutGood (now s) ≡ true ⌝ }
+    requires { ⌜ taskCount (now s) ≤ length (now tops) ⌝ }
     ensures { λ r. ⌜ r ≡ scriptsForm (now (s .entry)) ⌝ }
+    ensures { λ r. ⌜ (r ≡ Passed → Topped (now (s .entry)) (now (tops .exit))) ⌝ }
 {
     let n = fields::task_count(s);
     let m = fields::object_count(s);
+    let limits = limits::limits_of(n, m);
     let mut t: u8 = 0;
     while t < n {
         let part = script_part(s, t);
-        let v = steps_form(n, m, t, part);
+        let base = fields::base_at(s, t);
+        let found = steps_form(&limits, n, m, t, base, part);
+        let v = found.verdict;
         if !v.passed() {
             return v;
         }
+        let top = found.top;
+        tops[t as usize] = top.0;
         t += 1;
     }
     Verdict::Passed
 }
 
-// The form of a roster: 11 to 16, or Passed.
-pub fn form(s: &[u8]) -> Verdict
+// The form of a roster: 11 to 16, or Passed, and then the tops of the tasks for the check.
+pub fn form_and_tops(s: &[u8], tops: &mut [u8]) -> Verdict
+    requires { ⌜ length (now tops) ≡ taskLimit ⌝ }
     ensures { λ r. ⌜ r ≡ formOf (now (s .entry)) ⌝ }
+    ensures { λ r. ⌜ (r ≡ Passed → Topped (now (s .entry)) (now (tops .exit))) ⌝ }
 {
     if !length_good(s) {
         return Verdict::BadLength;
@@ -309,5 +346,13 @@ pub fn form(s: &[u8]) -> Verdict
     if !values_good(s) {
         return Verdict::BadValues;
     }
-    scripts_form(s)
+    scripts_form(s, tops)
+}
+
+// The form of a roster: 11 to 16, or Passed.
+pub fn form(s: &[u8]) -> Verdict
+    ensures { λ r. ⌜ r ≡ formOf (now (s .entry)) ⌝ }
+{
+    let mut tops = [0u8; Limits::TASKS];
+    form_and_tops(s, &mut tops)
 }

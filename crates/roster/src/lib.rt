@@ -2,6 +2,8 @@
 mod checks;
 mod forms;
 mod held;
+mod limits;
+mod own;
 mod parts;
 mod readers;
 mod scripts;

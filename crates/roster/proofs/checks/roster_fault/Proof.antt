@@ -10,7 +10,7 @@ slice-aggregate-read-ceilings : tie.Need-slice-aggregate-read-ceilings
 slice-aggregate-read-ceilings c = search needs
 
 read-ceilings-requires : tie.Need-read-ceilings-requires
-read-ceilings-requires c κs = objects-few (c .before .before .args .roster .now) (c .before .before .pre)
+read-ceilings-requires c κs = objects-few (c .before .before .before .args .roster .now) (c .before .before .before .pre .0)
 
 array-share-prefix-cells : tie.Need-array-share-prefix-cells
 array-share-prefix-cells c = search needs

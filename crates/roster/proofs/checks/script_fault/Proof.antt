@@ -14,29 +14,20 @@ use Rattle.roster.proofs.checks.script_fault.Tie as tie
 script-part-requires : tie.Need-script-part-requires
 script-part-requires c κs =
     let s = c .before .before in
-    part-inside (s .args .roster .now) (s .pre .0) _ (s .pre .1 .1)
-
-base-at-requires : tie.Need-base-at-requires
-base-at-requires c κs = search needs
-
-top-of-requires : tie.Need-top-of-requires
-top-of-requires c κs = search needs
+    part-inside (s .args .roster .now) (s .pre .0) _ (s .pre .1 .1 .0)
 
 steps-fault-requires : tie.Need-steps-fault-requires
 steps-fault-requires c κs =
-    let s = c .before .before .before .before .before in
-    walk-given (s .args .roster .now) (s .pre .0) _ _ _ (s .pre .1 .1) (c .before .before .script-part .ensures) (s .pre .1 .0)
+    let s = c .before .before .before in
+    walk-given (s .args .roster .now) (s .pre .0) _ _ _ (s .pre .1 .1 .0) (c .script-part .ensures) (s .pre .1 .0)
 
 returns : tie.Need-returns
 returns c =
-    let s = c .before .before .before .before .before .before in
-    let steps = stepsOf (c .before .before .before .script-part .result .now) in
+    let s = c .before .before .before .before in
+    let steps = stepsOf (c .before .script-part .result .now) in
     let fault = c .steps-fault .ensures ∙
-    ap (λ (cs : List ℕ). stepsFault cs (c .before .top-of .result .0) (s .args .t) steps) (s .pre .1 .0) in
-    script-fault (s .args .roster .now) _ _ _ _ _ (s .pre .1 .1) (c .before .before .before .script-part .ensures)
-    (c .before .before .base-at .ensures) (c .before .top-of .ensures) fault
+    ap (λ (cs : List ℕ). stepsFault cs (s .args .top .0) (s .args .t) steps) (s .pre .1 .0) in
+    script-fault (s .args .roster .now) _ _ _ _ (s .pre .1 .1 .0) (c .before .script-part .ensures) (s .pre .1 .1 .1) fault
 
 pub script-fault-spec : {M : Type 1} → statement M
-script-fault-spec =
-    tie.close
-    (tie.spec script-part-requires base-at-requires top-of-requires steps-fault-requires returns)
+script-fault-spec = tie.close (tie.spec script-part-requires steps-fault-requires returns)

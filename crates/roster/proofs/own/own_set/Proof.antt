@@ -1,9 +1,9 @@
--- `roster::checks::own_set` meets its contract.
+-- `roster::own::own_set` meets its contract.
 use Rattle.format.specs.Steps.{codeAt, aAt, bAt, stepAt}
 use Rattle.roster.proofs.CheckLaws.{own-set, own-none}
 use borrow.Author.Needs.{needs}
-use Rattle.roster.proofs.checks.own_set.Statement.{statement}
-use Rattle.roster.proofs.checks.own_set.Tie as tie
+use Rattle.roster.proofs.own.own_set.Statement.{statement}
+use Rattle.roster.proofs.own.own_set.Tie as tie
 
 mul-at : tie.Need-mul-at
 mul-at c = search needs

@@ -1,10 +1,10 @@
--- `roster::checks::own_value` meets its contract.
+-- `roster::own::own_value` meets its contract.
 use mathlib.Core.Path.{sym, _∙_}
 use Rattle.rules.specs.Priorities.{checkedOf}
 use Rattle.roster.proofs.CheckLaws.{own-other, own-good, own-bad}
 use borrow.Author.Needs.{needs}
-use Rattle.roster.proofs.checks.own_value.Statement.{statement}
-use Rattle.roster.proofs.checks.own_value.Tie as tie
+use Rattle.roster.proofs.own.own_value.Statement.{statement}
+use Rattle.roster.proofs.own.own_value.Tie as tie
 
 returns : tie.Need-returns
 returns c = own-other _ _ (checkedOf (c .before .args .b)) (c .if1 .taken)
