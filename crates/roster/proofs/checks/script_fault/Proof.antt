@@ -4,7 +4,7 @@ use mathlib.Core.List.{List}
 use Prim.Native.Nat.{ℕ}
 use Rattle.format.specs.Steps.{stepsOf}
 use Rattle.format.specs.Check.{stepsFault}
-use Rattle.format.proofs.FormedLaws.{part-inside}
+use Rattle.format.proofs.FormedLaws.{part-inside, row-inside}
 use Rattle.format.proofs.AnswerLaws.{script-fault}
 use Rattle.roster.proofs.LoopLaws.{walk-given}
 use borrow.Author.Needs.{needs}
@@ -14,7 +14,8 @@ use Rattle.roster.proofs.checks.script_fault.Tie as tie
 script-part-requires : tie.Need-script-part-requires
 script-part-requires c κs =
     let s = c .before .before in
-    part-inside (s .args .roster .now) (s .pre .0) _ (s .pre .1 .1 .0)
+    let low = s .pre .1 .1 .0 in
+    (row-inside (s .args .roster .now) (s .pre .0) _ low, part-inside (s .args .roster .now) (s .pre .0) _ low)
 
 steps-fault-requires : tie.Need-steps-fault-requires
 steps-fault-requires c κs =

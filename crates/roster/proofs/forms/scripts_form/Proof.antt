@@ -9,7 +9,7 @@ use Rattle.format.specs.Answers.{first}
 use Rattle.format.specs.Form.{scriptForm, scriptsForm}
 use Rattle.format.specs.declared.Verdict.the-variants.{Passed}
 use Rattle.format.proofs.TestLaws.{turn-finds, turn-passes, turns-pass, passed-is}
-use Rattle.format.proofs.FormLaws.{script-form, script-inside}
+use Rattle.format.proofs.FormLaws.{script-form, script-inside, task-row-inside}
 use Rattle.format.proofs.AnswerLaws.{script-top}
 use Rattle.roster.specs.Tops.{ToppedTo}
 use Rattle.roster.proofs.CheckLaws.{unpassed}
@@ -40,7 +40,9 @@ loop-holds c = (omega arith, refl, refl, topped-none _ _)
 script-part-requires : tie.Need-script-part-requires Inv-loop μ-loop
 script-part-requires c κs =
     let c7 = c .before .before .before .before .before .before .before in
-    script-inside (c7 .args .s .now) (c7 .pre .0) (c .before .loop .t) (omega arith)
+    let s = c7 .args .s .now in
+    let t = c .before .loop .t in
+    (task-row-inside s (c7 .pre .0) t (omega arith), script-inside s (c7 .pre .0) t (omega arith))
 
 base-at-requires : tie.Need-base-at-requires Inv-loop μ-loop
 base-at-requires c κs = search needs

@@ -1,6 +1,6 @@
 -- `roster::readers::step` meets its contract.
 use native.Mathlib.Omega.{arith}
-use Rattle.format.proofs.FormedLaws.{tasks-few, part-inside}
+use Rattle.format.proofs.FormedLaws.{tasks-few, part-inside, row-inside}
 use Rattle.format.proofs.AnswerLaws.{answered-form, answered-task, answered}
 use Rattle.format.proofs.ReaderLaws.{step-found, step-refused}
 use borrow.Author.Needs.{needs}
@@ -27,7 +27,8 @@ script-part-requires c κs =
     let s = c2 .before .before .args .roster .now in
     let t = c2 .before .before .args .t in
     let ok = answered s t _ _ (c2 .script-answer .ensures) (c .before .passed .ensures) (c .if1 .taken) in
-    part-inside s (answered-form s t ok) t (answered-task s t ok)
+    let form = answered-form s t ok in
+    (row-inside s form t (answered-task s t ok), part-inside s form t (answered-task s t ok))
 
 step-at-requires : tie.Need-step-at-requires
 step-at-requires c κs = search needs
