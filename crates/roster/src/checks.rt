@@ -11,7 +11,7 @@ ghost use Rattle.format.specs.Steps.{stepsOf};
 ghost use Rattle.format.specs.Roster.{rosterOf};
 ghost use Rattle.format.specs.Form.{formOf};
 ghost use Rattle.format.specs.Check.{something, isInnermost, topAt, faultOf, stepsFault, scriptFault, rosterFault, checkOf};
-ghost use Rattle.roster.specs.Listed.{AllListed};
+ghost use Rattle.roster.specs.Listed.{Listed, AllListed};
 ghost use Rattle.roster.specs.Tops.{Topped};
 ghost use Rattle.format.specs.declared.Step.the-variants.{Enter};
 ghost use Rattle.format.specs.declared.Verdict.the-variants.{Passed, WhileHeld, NotInnermost, OtherTask};
@@ -27,12 +27,13 @@ use rules::Priority;
 // 17 of Enter, then 18.
 fn enter_fault(ceilings: &[u8], held: &[u8], top: Priority, t: u8, k: usize, o: u8) -> Verdict
     requires { ⌜ rising (now ceilings) (top .0) (now held) ≡ true ⌝ }
+    requires { ⌜ o < length (now ceilings) ⌝ }
     ensures { λ r. ⌜ r ≡ faultOf (now (ceilings .entry)) (top .0) (now (held .entry)) t k (Enter o) ⌝ }
 {
     if held::is_held(held, o) {
         return Verdict::WhileHeld(t, k);
     }
-    let ceiling = words::byte_at(ceilings, o as usize);
+    let ceiling = ceilings[o as usize];
     let active = held::highest(ceilings, held, top);
     if ceiling < active.0 {
         return Verdict::LowCeiling(t, k);
@@ -73,6 +74,7 @@ fn rest_fault(held: &[u8], t: u8, k: usize) -> Verdict
 // 17 to 20, of the step x at position k of task t.
 fn step_fault(ceilings: &[u8], held: &[u8], top: Priority, t: u8, k: usize, x: Step) -> Verdict
     requires { ⌜ rising (now ceilings) (top .0) (now held) ≡ true ⌝ }
+    requires { ⌜ Listed (length (now ceilings)) x ⌝ }
     ensures { λ r. ⌜ r ≡ faultOf (now (ceilings .entry)) (top .0) (now (held .entry)) t k x ⌝ }
 {
     match x {

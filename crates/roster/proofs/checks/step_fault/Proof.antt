@@ -1,7 +1,8 @@
 -- `roster::checks::step_fault` meets its contract.
 use mathlib.Core.Path.{refl}
+use lib.ListN.{length}
 use Rattle.format.specs.Check.{faultOf, whileHeld, lowCeiling, notInnermost, otherTask}
-use Rattle.roster.proofs.CheckLaws.{same-fault, leave-fault, set-fault, rest-fault, no-fault}
+use Rattle.roster.proofs.CheckLaws.{enter-listed, same-fault, leave-fault, set-fault, rest-fault, no-fault}
 use borrow.Author.Needs.{needs}
 use Rattle.roster.proofs.checks.step_fault.Statement.{statement}
 use Rattle.roster.proofs.checks.step_fault.Tie as tie
@@ -10,7 +11,9 @@ enum-known-x : tie.Need-enum-known-x
 enum-known-x c = search needs
 
 enter-fault-requires : tie.Need-enter-fault-requires
-enter-fault-requires c κs = search needs
+enter-fault-requires c κs =
+    let s = c .before .before .before .before .before in
+    (s .pre .0, enter-listed (length (s .args .ceilings .now)) _ _ (c .before .x .given .1) (s .pre .1))
 
 enum-known-x-2 : tie.Need-enum-known-x-2
 enum-known-x-2 c = search needs

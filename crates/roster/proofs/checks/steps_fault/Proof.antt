@@ -14,7 +14,7 @@ use Rattle.roster.specs.Held.{Stacked}
 use Rattle.format.specs.declared.Verdict.the-variants.{Passed}
 use Rattle.format.proofs.TestLaws.{turn-finds, turn-passes}
 use Rattle.format.proofs.StepLaws.{steps-length, steps-past}
-use Rattle.roster.proofs.LoopLaws.{rising-held, fault-here, fault-end, held-after, after-room, work-passes, work-keeps}
+use Rattle.roster.proofs.LoopLaws.{rising-held, fault-here, fault-end, held-after, after-room, work-passes, work-keeps, listed-at, end-listed}
 use Rattle.roster.proofs.StackLaws.{stacked-as}
 use Rattle.roster.proofs.checks.steps_fault.Statement.{statement}
 use Rattle.roster.proofs.checks.steps_fault.Tie as tie
@@ -51,8 +51,12 @@ slice-aggregate-step-fault c =
 step-fault-requires : tie.Need-step-fault-requires Inv-loop μ-loop
 step-fault-requires c κs =
     let c5 = c .before .before .before .before .before in
-    let a = c5 .before .before .before .args in
-    rising-held (a .ceilings .now) (a .top .0) (a .t) (stepsOf (a .part .now)) _ _ (c5 .loop .inv .1 .same) (c5 .loop .inv .2)
+    let s = c5 .before .before .before in
+    let a = s .args in
+    let steps = stepsOf (a .part .now) in (
+      rising-held (a .ceilings .now) (a .top .0) (a .t) steps _ _ (c5 .loop .inv .1 .same) (c5 .loop .inv .2),
+      listed-at (length (a .ceilings .now)) steps _ _ (s .pre .1) (c .before .step-at .ensures),
+    )
 
 passed-requires : tie.Need-passed-requires Inv-loop μ-loop
 passed-requires c κs = search needs
@@ -132,8 +136,10 @@ slice-aggregate-step-fault-2 c =
 step-fault-requires-2 : tie.Need-step-fault-requires-2 Inv-loop μ-loop
 step-fault-requires-2 c κs =
     let c2 = c .before .before in
-    let a = c2 .before .before .before .args in
-    rising-held (a .ceilings .now) (a .top .0) (a .t) (stepsOf (a .part .now)) _ _ (c2 .loop .inv .1 .same) (c2 .loop .inv .2)
+    let a = c2 .before .before .before .args in (
+      rising-held (a .ceilings .now) (a .top .0) (a .t) (stepsOf (a .part .now)) _ _ (c2 .loop .inv .1 .same) (c2 .loop .inv .2),
+      end-listed _,
+    )
 
 returns-2 : tie.Need-returns-2 Inv-loop μ-loop
 returns-2 c =
