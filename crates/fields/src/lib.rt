@@ -1,6 +1,7 @@
 // Internal: pub only for our own crates. The numbers and steps of a roster, read from its bytes.
 ghost use mathlib.Core.Path.{_≡_};
-ghost use Prim.Native.Nat.{_+_, _<_};
+ghost use Prim.Native.Nat.{_+_, _≤_, _<_};
+ghost use lib.ListN.{length, take};
 ghost use Rattle.rules.specs.Model.{ceilingOf};
 ghost use Rattle.format.specs.Format.{trailer, taskCount, objectCount, taskTable, objectTable};
 ghost use Rattle.format.specs.Format.{taskRow, objectRow, baseAt, startAt, lengthAt};
@@ -105,4 +106,18 @@ pub fn ceiling_of(s: &[u8], o: u8) -> Priority
         return Priority(words::byte_at(s, row));
     }
     Priority(0)
+}
+
+// The ceilings, in the first cells.
+pub fn read_ceilings(s: &[u8], ceilings: &mut [u8])
+    requires { ⌜ objectCount (now s) ≤ length (now ceilings) ⌝ }
+    ensures { λ u. ⌜ take (objectCount (now (s .entry))) (now (ceilings .exit)) ≡ rosterOf (now (s .entry)) .ceilings ⌝ }
+{
+    let n = object_count(s);
+    let mut o: u8 = 0;
+    while o < n {
+        let ceiling = ceiling_of(s, o);
+        ceilings[o as usize] = ceiling.0;
+        o += 1;
+    }
 }

@@ -108,13 +108,9 @@ held-after steps k cells depth held x a e b =
     let f : heldAfter held x ≡ heldBefore steps (suc k) = cc in
     subst (Stacked cells depth) (f ∙ ap (heldBefore steps) (sym (add-one k))) b
 
--- what a script names is listed at each step and at its end
+-- what a script names is listed at each step
 pub listed-at : (m : ℕ) (steps : List Step) (k : ℕ) (x : Step) → AllListed m steps → x ≡ stepIn steps k → Listed m x
 listed-at m steps k x listed e = (listed .0, ap (namesListed (listed .0) m) e ∙ listed .1 k)
-
-pub end-listed : (m : ℕ) → Listed m Finish
-unfolding namesListed
-end-listed m = (0, refl)
 
 -- what the form gives the walk: as many ceilings as fit, and steps that name what is listed
 pub walk-given : (s : List ℕ) → formOf s ≡ Passed → (t : ℕ) (part cs : List ℕ) → t < taskCount s → part ≡ partAt s t →

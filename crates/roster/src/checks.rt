@@ -3,10 +3,10 @@ ghost use mathlib.Core.Path.{_≡_};
 ghost use mathlib.Core.Bool.{true, cond};
 ghost use Prim.Native.Nat.{_≤_, _<_};
 ghost use lib.Dec.{eqb};
-ghost use lib.ListN.{length, take};
+ghost use lib.ListN.{length};
 ghost use Rattle.rules.specs.Limits.{objectLimit};
 ghost use Rattle.rules.specs.Sound.{rising};
-ghost use Rattle.format.specs.Format.{taskCount, objectCount};
+ghost use Rattle.format.specs.Format.{taskCount};
 ghost use Rattle.format.specs.Steps.{stepsOf};
 ghost use Rattle.format.specs.Roster.{rosterOf};
 ghost use Rattle.format.specs.Form.{formOf};
@@ -126,22 +126,6 @@ fn script_fault(roster: &[u8], ceilings: &[u8], top: Priority, t: u8) -> Verdict
     steps_fault(ceilings, part, top, t)
 }
 
-// The ceilings, read once for all scripts: how many, at the start of the cells.
-fn read_ceilings(roster: &[u8], cells: &mut [u8]) -> usize
-    requires { ⌜ objectCount (now roster) ≤ length (now cells) ⌝ }
-    ensures { λ r. ⌜ r ≤ length (now (cells .exit)) ⌝ }
-    ensures { λ r. ⌜ take r (now (cells .exit)) ≡ rosterOf (now (roster .entry)) .ceilings ⌝ }
-{
-    let n = fields::object_count(roster);
-    let mut o: u8 = 0;
-    while o < n {
-        let ceiling = fields::ceiling_of(roster, o);
-        cells[o as usize] = ceiling.0;
-        o += 1;
-    }
-    n as usize
-}
-
 // 17 to 20, in task and step order.
 fn scripts_fault(roster: &[u8], ceilings: &[u8], tops: &[u8]) -> Verdict
     requires { ⌜ formOf (now roster) ≡ Passed ⌝ }
@@ -162,13 +146,15 @@ fn scripts_fault(roster: &[u8], ceilings: &[u8], tops: &[u8]) -> Verdict
     Verdict::Passed
 }
 
+// The ceilings are read once for all scripts.
 fn roster_fault(roster: &[u8], tops: &[u8]) -> Verdict
     requires { ⌜ formOf (now roster) ≡ Passed ⌝ }
     requires { ⌜ Topped (now roster) (now tops) ⌝ }
     ensures { λ r. ⌜ r ≡ rosterFault (rosterOf (now (roster .entry))) ⌝ }
 {
     let mut cells = [0u8; Limits::OBJECTS];
-    let n = read_ceilings(roster, &mut cells);
+    fields::read_ceilings(roster, &mut cells);
+    let n = fields::object_count(roster) as usize;
     scripts_fault(roster, &cells[..n], tops)
 }
 

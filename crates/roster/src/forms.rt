@@ -108,6 +108,16 @@ fn scripts_laid(s: &[u8]) -> bool
     end == table
 }
 
+// 14
+fn layout_good(s: &[u8]) -> bool
+    ensures { λ r. ⌜ r ≡ layoutGood (now (s .entry)) ⌝ }
+{
+    if !tables_good(s) {
+        return false;
+    }
+    scripts_laid(s)
+}
+
 fn task_row_good(s: &[u8], t: u8) -> bool
     ensures { λ r. ⌜ r ≡ taskRowGood (now (s .entry)) t ⌝ }
 {
@@ -160,6 +170,16 @@ fn object_rows_good(s: &[u8]) -> bool
         o += 1;
     }
     true
+}
+
+// 15
+fn values_good(s: &[u8]) -> bool
+    ensures { λ r. ⌜ r ≡ valuesGood (now (s .entry)) ⌝ }
+{
+    if !task_rows_good(s) {
+        return false;
+    }
+    object_rows_good(s)
 }
 
 fn both_zero(a: u8, b: u16) -> bool
@@ -279,24 +299,6 @@ fn steps_form(limits: &[u8], tasks: u8, objects: u8, t: u8, base: Priority, part
         verdict: Verdict::Passed,
         top: top,
     }
-}
-
-fn layout_good(s: &[u8]) -> bool
-    ensures { λ r. ⌜ r ≡ layoutGood (now (s .entry)) ⌝ }
-{
-    if !tables_good(s) {
-        return false;
-    }
-    scripts_laid(s)
-}
-
-fn values_good(s: &[u8]) -> bool
-    ensures { λ r. ⌜ r ≡ valuesGood (now (s .entry)) ⌝ }
-{
-    if !task_rows_good(s) {
-        return false;
-    }
-    object_rows_good(s)
 }
 
 // 16, in task and step order; where all pass, the highest of each task's base and its own Set values is left in `tops`.

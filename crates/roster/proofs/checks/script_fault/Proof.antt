@@ -7,7 +7,6 @@ use Rattle.format.specs.Check.{stepsFault}
 use Rattle.format.proofs.FormedLaws.{part-inside, row-inside}
 use Rattle.format.proofs.AnswerLaws.{script-fault}
 use Rattle.roster.proofs.LoopLaws.{walk-given}
-use borrow.Author.Needs.{needs}
 use Rattle.roster.proofs.checks.script_fault.Statement.{statement}
 use Rattle.roster.proofs.checks.script_fault.Tie as tie
 

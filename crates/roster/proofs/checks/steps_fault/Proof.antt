@@ -9,12 +9,14 @@ use lib.Seq.{length-take-le}
 use borrow.Author.Needs.{needs}
 use Rattle.format.specs.Answers.{first}
 use Rattle.format.specs.Steps.{codeAt, stepsOf, stepCount}
+use Rattle.format.specs.Form.{namesListed}
 use Rattle.format.specs.Check.{heldBefore, faultIn, stepsFault}
 use Rattle.roster.specs.Held.{Stacked}
 use Rattle.format.specs.declared.Verdict.the-variants.{Passed}
 use Rattle.format.proofs.TestLaws.{turn-finds, turn-passes}
 use Rattle.format.proofs.StepLaws.{steps-length, steps-past}
-use Rattle.roster.proofs.LoopLaws.{rising-held, fault-here, fault-end, held-after, after-room, work-passes, work-keeps, listed-at, end-listed}
+use Rattle.roster.proofs.LoopLaws.{rising-held, fault-here, fault-end, held-after, after-room, work-passes, work-keeps}
+use Rattle.roster.proofs.LoopLaws.{listed-at}
 use Rattle.roster.proofs.StackLaws.{stacked-as}
 use Rattle.roster.proofs.checks.steps_fault.Statement.{statement}
 use Rattle.roster.proofs.checks.steps_fault.Tie as tie
@@ -108,20 +110,23 @@ loop-again c =
     let a = c3 .before .before .before .args in
     let cs = a .ceilings .now in
     let part = a .part .now in
+    let k = c3 .loop .k in
     let steps = stepsOf part in
-    let fault = faultIn cs (a .top .0) (a .t) steps in
-    let own = c3 .loop .inv .1 in (
+    let own = c3 .loop .inv .1 in
+    let turn = turn-passes (faultIn cs (a .top .0) (a .t) steps) k in
+    let before = c3 .loop .inv .2 in
+    let keeps = work-keeps part k (omega arith) in
+    let passes = work-passes part k (omega arith) in (
       omega arith,
       ⊎-elim
           (λ w. stacked-as _ _ _ _ _ (w .9) (w .10) (held-after steps _ _ _ _ _ (own .same) (w .1 .ensures) (w .7 .ensures)))
-          (λ w. stacked-as _ _ _ _ _ (w .1) (w .2) (work-keeps part (c3 .loop .k) (omega arith) (w .0 .left) _ _ own)) (c .if1 .came),
+          (λ w. stacked-as _ _ _ _ _ (w .1) (w .2) (keeps (w .0 .left) _ _ own))
+          (c .if1 .came),
       ⊎-elim
           (λ w.
           let v = fault-here cs (a .top .0) (a .t) steps _ _ _ _ (own .same) (w .1 .ensures) (w .3 .ensures) in
-          turn-passes fault _ _ _ (c3 .loop .inv .2) v (w .4 .ensures) (not-false _ (w .5 .left)))
-          (λ w.
-          turn-passes fault (c3 .loop .k) _ _ (c3 .loop .inv .2) (work-passes part (c3 .loop .k) (omega arith) (w .0 .left) cs (a .top .0) (a .t))
-          refl refl)
+          turn _ _ before v (w .4 .ensures) (not-false _ (w .5 .left)))
+          (λ w. turn _ _ before (passes (w .0 .left) cs (a .top .0) (a .t)) refl refl)
           (c .if1 .came),
     )
 
@@ -134,11 +139,12 @@ slice-aggregate-step-fault-2 c =
     sym (length-take-le (l .depth) (l .held) (omega (arith, l .inv .1 .fits, l .inv .1 .room)))
 
 step-fault-requires-2 : tie.Need-step-fault-requires-2 Inv-loop μ-loop
+unfolding namesListed
 step-fault-requires-2 c κs =
     let c2 = c .before .before in
     let a = c2 .before .before .before .args in (
       rising-held (a .ceilings .now) (a .top .0) (a .t) (stepsOf (a .part .now)) _ _ (c2 .loop .inv .1 .same) (c2 .loop .inv .2),
-      end-listed _,
+      (0, refl),
     )
 
 returns-2 : tie.Need-returns-2 Inv-loop μ-loop

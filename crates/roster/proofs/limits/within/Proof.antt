@@ -3,7 +3,6 @@ use mathlib.Core.Path.{refl, sym, _∙_}
 use Prim.Native.Nat.{_*_}
 use native.Mathlib.Omega.{arith}
 use borrow.Author.Tests.{eq-eqb}
-use lib.ListN.{getD}
 use Rattle.format.specs.Steps.{codeAt, aAt, bAt}
 use Rattle.format.proofs.TestLaws.{and-yes}
 use Rattle.roster.proofs.LimitLaws.{beyond}
