@@ -3,7 +3,7 @@ ghost use mathlib.Core.Path.{_≡_};
 ghost use Prim.Native.Nat.{_≤_};
 ghost use lib.ListN.{length, take};
 ghost use Rattle.rules.specs.Fresh.{freshModel};
-ghost use Rattle.format.specs.Format.{taskCount, objectCount};
+ghost use Rattle.format.specs.Format.{taskCount};
 ghost use Rattle.format.specs.Roster.{rosterOf, setupOf};
 ghost use Rattle.format.specs.Check.{checkOf};
 ghost use Rattle.format.specs.declared.Verdict.the-variants.{Passed};
@@ -28,20 +28,6 @@ fn read_bases(roster: &[u8], bases: &mut [u8])
     }
 }
 
-// The ceilings, in the first cells.
-fn read_ceilings(roster: &[u8], ceilings: &mut [u8])
-    requires { ⌜ objectCount (now roster) ≤ length (now ceilings) ⌝ }
-    ensures { λ u. ⌜ take (objectCount (now (roster .entry))) (now (ceilings .exit)) ≡ rosterOf (now (roster .entry)) .ceilings ⌝ }
-{
-    let n = fields::object_count(roster);
-    let mut o: u8 = 0;
-    while o < n {
-        let ceiling = fields::ceiling_of(roster, o);
-        ceilings[o as usize] = ceiling.0;
-        o += 1;
-    }
-}
-
 pub fn start(
     roster: &[u8],
     head: &mut [u64; HEAD_WIDTH],
@@ -59,7 +45,7 @@ pub fn start(
     let mut bases = [0u8; TASK_LIMIT];
     let mut given = [0u8; OBJECT_LIMIT];
     read_bases(roster, &mut bases);
-    read_ceilings(roster, &mut given);
+    fields::read_ceilings(roster, &mut given);
     let n = fields::task_count(roster) as usize;
     let m = fields::object_count(roster) as usize;
     fresh::fresh(
