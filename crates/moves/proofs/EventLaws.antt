@@ -19,7 +19,7 @@ use Rattle.rules.proofs.EventLaws.{rest-permit}
 use Rattle.rules.proofs.Pending.{Good}
 use Rattle.rules.proofs.ReportLaws.{same-report}
 use Rattle.rules.proofs.WakingLaws.{Finds, finds}
-use Rattle.rules.proofs.WakingList.{none-moves}
+use Rattle.moves.proofs.WakingList.{none-moves}
 use Rattle.rules.proofs.StillLaws.{still, still-enter, still-now, still-permit}
 use Rattle.moves.specs.Room.{isSuspended, someDue}
 use Rattle.memory.specs.Memory.{modelOf, NobodyBefore, LaidOut, Means, Did}

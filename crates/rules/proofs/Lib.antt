@@ -10,7 +10,6 @@ pub mod Room
 pub mod HeldLaws
 pub mod WakingLaws
 pub mod WakeOrder
-pub mod WakingList
 pub mod Pending
 pub mod Ways
 pub mod Refusals
