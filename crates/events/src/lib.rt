@@ -14,6 +14,7 @@ use memory::sizes::HEAD_WIDTH;
 use memory::sizes::HELD_CELLS;
 use memory::sizes::LAST_READING;
 use memory::sizes::LONGEST_ADVANCE;
+use memory::sizes::NEXT_CELL;
 use memory::sizes::NOW_CELL;
 use memory::sizes::OBJECT_LIMIT;
 use memory::sizes::OBJECTS_CELL;
@@ -193,7 +194,7 @@ fn bad_reading(at: u64, r: u64) -> bool
     false
 }
 
-// No dispatch follows where nobody is due: the reading moves nobody then.
+// No task is looked at, and no dispatch follows, where the reading is before the bound: it moves nobody then.
 pub fn clock(
     head: &mut [u64; HEAD_WIDTH],
     tasks: &mut [u64],
@@ -215,9 +216,10 @@ pub fn clock(
     }
     let running = head[RUNNING_CELL];
     head[NOW_CELL] = r;
-    if !waking::wake_up(head, tasks, held, ceilings, queues, r) {
+    if r < head[NEXT_CELL] {
         return rulings::UNCHANGED;
     }
+    waking::wake_up(head, tasks, held, ceilings, queues, r);
     conclude(head, tasks, held, ceilings, queues, running)
 }
 

@@ -25,7 +25,7 @@ use Rattle.memory.specs.Rows.{heldBy, Held, HeldBecame}
 use Rattle.memory.specs.Tasks.{delayedKind, kindCode, taskIn, Tasks, TaskBecame, placed, based, waited}
 use Rattle.memory.specs.Memory.{nowCell, runningCell, tasksCell, nextCell, taskCountIn, nextIn, runnerOf, waitingIn, modelOf}
 use Rattle.memory.specs.Memory.{NobodyBefore, LaidOut, Means}
-use Rattle.moves.specs.Room.{settled, someDue}
+use Rattle.moves.specs.Room.{settled}
 use Rattle.memory.proofs.TaskLaws.{then-became}
 use Rattle.memory.proofs.MemoryLaws.{then-means, means-by, count-is, task-is, held-is, waiting-is, run-law, now-law}
 use Rattle.memory.proofs.MemoryLaws.{next-law, stays, task-law, place-law, delay-law, waiting-law, held-law}
@@ -145,9 +145,8 @@ module _ {h ts hd cs qs : List ℕ} (d : LaidOut h ts hd cs qs) where
 
   -- who is due does not depend on the reading in the slices
   pub due-now : (r : ℕ) →
-      someDue (firstDue r nobody 0 (modelOf h ts hd cs qs .tasks)) ≡
-      someDue (firstDue r nobody 0 (modelOf (set h nowCell r) ts hd cs qs .tasks))
-  due-now r = sym (ap (λ (m : Model). someDue (firstDue r nobody 0 (m .tasks))) (now-law d r .same))
+      firstDue r nobody 0 (modelOf h ts hd cs qs .tasks) ≡ firstDue r nobody 0 (modelOf (set h nowCell r) ts hd cs qs .tasks)
+  due-now r = sym (ap (λ (m : Model). firstDue r nobody 0 (m .tasks)) (now-law d r .same))
 
   -- one object more, one object less
   pub hold-law : {hd' : List ℕ} (t o : ℕ) → t < taskCountIn h → HeldBecame hd hd' t (heldBy hd t ++ (o ∷ [])) →

@@ -4,10 +4,11 @@ use mathlib.Core.Bool.{true, false}
 use mathlib.Core.List.{List}
 use Prim.Native.Nat.{ℕ, _/_, _<_}
 use native.Mathlib.Omega.{arith}
+use lib.ListN.{length, set}
 use Rattle.rules.specs.Model.{Model, withNow, taskAt}
 use Rattle.rules.specs.Moves.{becomeReady, dispatch}
 use Rattle.rules.specs.Moved.{Moved, refused, accepted}
-use Rattle.rules.specs.Events.{takeHold, Due, rest, permitOn, releaseFrom, nobody, task, firstDue, wakeUp}
+use Rattle.rules.specs.Events.{takeHold, Due, rest, permitOn, releaseFrom, nobody, task, firstDue, takeReading}
 use Rattle.rules.specs.declared.Place.{Place}
 use Rattle.rules.specs.declared.Place.the-variants.{Running, Ready, Delayed, Suspended, Ended}
 use Rattle.rules.specs.declared.Runner.{Runner}
@@ -21,8 +22,9 @@ use Rattle.rules.proofs.ReportLaws.{same-report}
 use Rattle.rules.proofs.WakingLaws.{Finds, finds}
 use Rattle.moves.proofs.WakingList.{none-moves}
 use Rattle.rules.proofs.StillLaws.{still, still-enter, still-now, still-permit}
-use Rattle.moves.specs.Room.{isSuspended, someDue}
-use Rattle.memory.specs.Memory.{modelOf, NobodyBefore, LaidOut, Means, Did}
+use Rattle.moves.specs.Room.{isSuspended}
+use Rattle.memory.specs.Memory.{nowCell, modelOf, NobodyBefore, LaidOut, Means, Did}
+use Rattle.memory.proofs.MemoryLaws.{means-by, now-law}
 
 -- refused; accepted, the dispatch being of the Model n
 pub did-not : {h ts hd cs qs : List ℕ} {r : Moved} (x : Ruling) → x < 10 → LaidOut h ts hd cs qs →
@@ -86,20 +88,17 @@ nobody-due r v m b h = go (firstDue r nobody 0 (m .tasks)) (finds r 0 (m .tasks)
     go nobody s = refl
     go (task t d) s = absurd (omega (arith, s .come, b .due (s .at) d (s .place)))
 
--- nobody is due: nobody wakes
-pub none-wakes : (r n : ℕ) (m : Model) → someDue (firstDue r nobody 0 (m .tasks)) ≡ false → m ≡ wakeUp r n m
-none-wakes r n m e = sym (none-moves r n m (none-is (firstDue r nobody 0 (m .tasks)) e))
-  where
-    none-is : (x : Due) → someDue x ≡ false → x ≡ nobody
-    none-is nobody f = refl
-    none-is (task t d) f = clash f
+-- nobody is due: nobody wakes, and the reading alone moves nobody
+pub quiet-clock : (m : Model) (r : ℕ) → Good false m → firstDue r nobody 0 (m .tasks) ≡ nobody → Quiet m (takeReading m r)
+quiet-clock m r h e =
+    let w : takeReading m r ≡ withNow m r = none-moves r (length (m .tasks)) (withNow m r) e in
+    record { still = ap dispatch w ∙ still-now m r h ∙ sym w; runner = ap (λ (v : Model). v .running) w }
 
--- .. and a dispatch moves nobody
-pub quiet-clock : (m : Model) (r n : ℕ) → Good false m → someDue (firstDue r nobody 0 (m .tasks)) ≡ false →
-    Quiet m (wakeUp r n (withNow m r))
-quiet-clock m r n h e =
-    let w : withNow m r ≡ wakeUp r n (withNow m r) = none-wakes r n (withNow m r) e in
-    record { still = ap dispatch (sym w) ∙ still-now m r h ∙ w; runner = ap (λ (v : Model). v .running) (sym w) }
+pub reading-law : {h ts hd cs qs : List ℕ} (d : LaidOut h ts hd cs qs) (r : ℕ) → firstDue r nobody 0 (modelOf h ts hd cs qs .tasks) ≡ nobody →
+    Means (set h nowCell r) ts hd cs qs (takeReading (modelOf h ts hd cs qs) r)
+reading-law {h} {ts} {hd} {cs} {qs} d r e =
+    let m : Model = modelOf h ts hd cs qs in
+    means-by (now-law d r) (sym (none-moves r (length (m .tasks)) (withNow m r) e))
 
 -- a Release of a task that is not suspended, and a Suspend with a permit
 pub quiet-release : (m : Model) (t : ℕ) (x : Place) → Good false m → isSuspended x ≡ false → Quiet m (releaseFrom m t x)

@@ -75,11 +75,6 @@ pub record Releases (m : Model) (t : ℕ) : Type 0 where
   pub there : t < length (m .tasks)
   pub suspended : isSuspended (taskAt m t .place) ≡ true → Arrives m t
 
--- whether anybody is due
-abbrev pub someDue : Due → Bool
-someDue nobody = false
-someDue (task t d) = true
-
 -- after any number of wakings, who is the next to wake can join its queue
 pub record Wakes (m : Model) (r : ℕ) : Type 0 where
   pub next : (n t d : ℕ) → firstDue r nobody 0 (wakeUp r n m .tasks) ≡ task t d → Arrives (wakeUp r n m) t

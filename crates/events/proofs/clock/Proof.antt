@@ -3,13 +3,12 @@ use mathlib.Core.Path.{refl, _∙_, sym}
 use Prim.Native.Nat.{_-_}
 use native.Mathlib.Omega.{arith}
 use borrow.Author.Needs.{needs}
-use borrow.Author.Tests.{not-true}
 use Rattle.memory.specs.Rulings as Ruling
 use Rattle.rules.proofs.EventLaws.{clock-4, clock-0}
 use Rattle.rules.proofs.Readings.{reading-early, reading-low}
 use Rattle.rules.proofs.Pending.{pending-clock}
 use Rattle.moves.proofs.EffectLaws.{clock-law, due-now}
-use Rattle.moves.proofs.EventLaws.{did-not, did, did-quiet, quiet-clock}
+use Rattle.moves.proofs.EventLaws.{did-not, did, did-quiet, nobody-due, quiet-clock, reading-law}
 use Rattle.memory.proofs.MemoryLaws.{now-law}
 use Rattle.moves.proofs.RoomLaws.{clock-wakes}
 use Rattle.events.proofs.ValidLaws.{dispatchable, good}
@@ -34,9 +33,24 @@ element-copy-out-running c = search needs
 element-write-head : tie.Need-element-write-head
 element-write-head c = search needs
 
+element-copy-out-if2 : tie.Need-element-copy-out-if2
+element-copy-out-if2 c = search needs
+
+returns-2 : tie.Need-returns-2
+returns-2 c =
+    let at-if1 = c .before .before .before in
+    let at-test = at-if1 .before in
+    let entry = at-test .before .before .before .before in
+    let taken = sym (at-test .bad-reading .ensures) ∙ at-if1 .if1 .left in
+    let v = entry .pre in
+    let d = v .laid in
+    let x = now-law d (entry .args .r) in
+    let none = due-now d _ ∙ nobody-due (entry .args .r) _ _ (x .laid .next) (omega (arith, c .if2 .taken)) in
+    did-quiet (reading-law d _ none) (quiet-clock _ _ (good v) none) (clock-0 _ _ taken)
+
 wake-up-requires : tie.Need-wake-up-requires
 wake-up-requires c κs =
-    let at-if1 = c .before .before .before .before in
+    let at-if1 = c .before .before .before .before .before .before in
     let at-test = at-if1 .before in
     let entry = at-test .before .before .before .before in
     let taken = sym (at-test .bad-reading .ensures) ∙ at-if1 .if1 .left in
@@ -45,53 +59,35 @@ wake-up-requires c κs =
     let x = now-law d (entry .args .r) in
     (x .laid, (rw (x .same) (clock-wakes _ _ (good v .pending .core)), omega (arith, reading-low _ _ taken)))
 
+conclude-requires : tie.Need-conclude-requires
+conclude-requires c κs =
+    let at-wake-up = c .before .before .before .before .before .before .before in
+    let at-if1 = at-wake-up .before .before .before .before .before .before .before in
+    let at-test = at-if1 .before in
+    let entry = at-test .before .before .before .before in
+    let taken = sym (at-test .bad-reading .ensures) ∙ at-if1 .if1 .left in
+    let v = entry .pre in
+    let d = v .laid in
+    let x = clock-law d _ (at-wake-up .wake-up .ensures) in
+    dispatchable x (pending-clock _ _ (good v .pending) (reading-early _ _ taken) (reading-low _ _ taken))
+
 same-length : tie.Need-same-length
 same-length c = search needs
 
 same-length-2 : tie.Need-same-length-2
 same-length-2 c = search needs
 
-returns-2 : tie.Need-returns-2
-returns-2 c =
-    let at-wake-up = c .before .before .before .before .before in
-    let at-if1 = at-wake-up .before .before .before .before .before in
-    let at-test = at-if1 .before in
-    let entry = at-test .before .before .before .before in
-    let taken = sym (at-test .bad-reading .ensures) ∙ at-if1 .if1 .left in
-    let v = entry .pre in
-    let d = v .laid in
-    let none = due-now d _ ∙ (sym (at-wake-up .wake-up .ensures .1) ∙ not-true _ (c .if2 .taken)) in
-    did-quiet (clock-law d _ (at-wake-up .wake-up .ensures .0)) (quiet-clock _ _ _ (good v) none) (clock-0 _ _ taken)
-
-conclude-requires : tie.Need-conclude-requires
-conclude-requires c κs =
-    let at-wake-up = c .before .before .before .before .before .before .before .before in
-    let at-if1 = at-wake-up .before .before .before .before .before in
-    let at-test = at-if1 .before in
-    let entry = at-test .before .before .before .before in
-    let taken = sym (at-test .bad-reading .ensures) ∙ at-if1 .if1 .left in
-    let v = entry .pre in
-    let d = v .laid in
-    let x = clock-law d _ (at-wake-up .wake-up .ensures .0) in
-    dispatchable x (pending-clock _ _ (good v .pending) (reading-early _ _ taken) (reading-low _ _ taken))
-
-same-length-3 : tie.Need-same-length-3
-same-length-3 c = search needs
-
-same-length-4 : tie.Need-same-length-4
-same-length-4 c = search needs
-
 returns-3 : tie.Need-returns-3
 returns-3 c =
     let at-conclude = c .before .before .before .before in
-    let at-wake-up = at-conclude .before .before .before .before .before .before .before .before .before in
-    let at-if1 = at-wake-up .before .before .before .before .before in
+    let at-wake-up = at-conclude .before .before .before .before .before .before .before .before in
+    let at-if1 = at-wake-up .before .before .before .before .before .before .before in
     let at-test = at-if1 .before in
     let entry = at-test .before .before .before .before in
     let taken = sym (at-test .bad-reading .ensures) ∙ at-if1 .if1 .left in
     let v = entry .pre in
     let d = v .laid in
-    did _ (clock-law d _ (at-wake-up .wake-up .ensures .0)) (at-conclude .conclude .ensures) (clock-0 _ _ taken)
+    did _ (clock-law d _ (at-wake-up .wake-up .ensures)) (at-conclude .conclude .ensures) (clock-0 _ _ taken)
 
 pub clock-spec : {M : Type 1} → statement M
 clock-spec =
@@ -102,11 +98,10 @@ clock-spec =
     returns
     element-copy-out-running
     element-write-head
+    element-copy-out-if2
+    returns-2
     wake-up-requires
+    conclude-requires
     same-length
     same-length-2
-    returns-2
-    conclude-requires
-    same-length-3
-    same-length-4
     returns-3)
