@@ -21,8 +21,8 @@ use Rattle.trace.specs.Limits.{replySize, nobodyByte}
 use Rattle.trace.specs.Config.{Config, happen}
 use Rattle.trace.specs.Inputs.{eventCount, inputAt, inputsOf}
 use Rattle.trace.specs.Run.{runningByte, replyOf, repliesFrom}
-use Rattle.run.specs.Slices.{Going}
-use Rattle.run.proofs.StepLaws.{runner-listed}
+use Rattle.turns.specs.Slices.{Going}
+use Rattle.turns.proofs.StepLaws.{runner-listed}
 
 -- the events that are left
 pub inputs-next : (s : List ℕ) (i : ℕ) → i < eventCount s → drop i (inputsOf s) ≡ inputAt s i ∷ drop (i + 1) (inputsOf s)

@@ -22,7 +22,7 @@ use Rattle.memory.proofs.MemoryLaws.{means-by}
 use Rattle.trace.specs.Config.{Config, startOf}
 use Rattle.trace.specs.Inputs.{inputsOf}
 use Rattle.trace.specs.Run.{repliesFrom, repliesOf}
-use Rattle.run.specs.Slices.{configOf, Going}
+use Rattle.turns.specs.Slices.{configOf, Going}
 
 -- positions at the start
 abbrev pub zeros : ℕ → List ℕ

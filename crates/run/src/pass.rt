@@ -11,10 +11,8 @@ ghost use Rattle.memory.specs.Memory.{runningCell, runnerOf};
 ghost use Rattle.trace.specs.Limits.{replySize};
 ghost use Rattle.trace.specs.Inputs.{eventCount, inputsOf};
 ghost use Rattle.trace.specs.Run.{answerOf, runningByte, repliesFrom, repliesOf, bufferOf};
-ghost use Rattle.run.specs.Slices.{configOf, Going, ScriptsRead};
-use crate::scripts::read_scripts;
+ghost use Rattle.turns.specs.Slices.{configOf, Going, ScriptsRead};
 use crate::start::start;
-use crate::turns::happen;
 use inputs::events_good;
 use inputs::input_at;
 use memory::rulings;
@@ -30,6 +28,8 @@ use trace::RunAnswer;
 use trace::sizes::EVENT_SIZE;
 use trace::sizes::NOBODY;
 use trace::sizes::REPLY_SIZE;
+use turns::happen;
+use turns::read_scripts;
 
 // The running task, or NOBODY.
 fn running_byte(head: &[u64; HEAD_WIDTH]) -> u8

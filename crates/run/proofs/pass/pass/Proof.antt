@@ -9,7 +9,7 @@ use Rattle.format.specs.Roster.{rosterOf}
 use Rattle.trace.specs.Limits.{replySize}
 use Rattle.trace.specs.Inputs.{inputsOf}
 use Rattle.trace.specs.Run.{repliesFrom}
-use Rattle.run.specs.Slices.{configOf, Going}
+use Rattle.turns.specs.Slices.{configOf, Going}
 use Rattle.run.proofs.PassLaws.{replies-turn, replies-over, runner-low}
 use Rattle.run.proofs.pass.pass.Statement.{statement}
 use Rattle.run.proofs.pass.pass.Tie as tie

@@ -1,4 +1,4 @@
--- `run::scripts::step_in` meets its contract.
+-- `turns::scripts::step_in` meets its contract.
 use mathlib.Core.Path.{ap, _∙_}
 use mathlib.Core.List.{List}
 use Prim.Native.Nat.{ℕ}
@@ -6,9 +6,9 @@ use native.Mathlib.Omega.{arith}
 use borrow.Author.Needs.{needs}
 use Rattle.format.specs.Steps.{stepsOf, stepIn}
 use Rattle.format.proofs.FormatLaws.{part-between}
-use Rattle.run.proofs.ScriptLaws.{table-read}
-use Rattle.run.proofs.scripts.step_in.Statement.{statement}
-use Rattle.run.proofs.scripts.step_in.Tie as tie
+use Rattle.turns.proofs.ScriptLaws.{table-read}
+use Rattle.turns.proofs.scripts.step_in.Statement.{statement}
+use Rattle.turns.proofs.scripts.step_in.Tie as tie
 
 mul-start : tie.Need-mul-start
 mul-start c = search needs

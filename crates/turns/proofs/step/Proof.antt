@@ -1,14 +1,14 @@
--- `run::turns::step` meets its contract.
+-- `turns::step` meets its contract.
 use mathlib.Core.Path.{refl}
 use Prim.Native.Nat.{_-_, _<_}
 use native.Mathlib.Omega.{arith}
 use borrow.Author.Needs.{needs}
 use lib.ListN.{getD}
 use Rattle.memory.specs.Memory.{runningCell}
-use Rattle.run.proofs.StepLaws.{position-fits, idle-happened, runner-listed, runner-placed, script-here}
-use Rattle.run.proofs.StepLaws.{step-refused, step-accepted}
-use Rattle.run.proofs.turns.step.Statement.{statement}
-use Rattle.run.proofs.turns.step.Tie as tie
+use Rattle.turns.proofs.StepLaws.{position-fits, idle-happened, runner-listed, runner-placed, script-here}
+use Rattle.turns.proofs.StepLaws.{step-refused, step-accepted}
+use Rattle.turns.proofs.step.Statement.{statement}
+use Rattle.turns.proofs.step.Tie as tie
 
 element-copy-out-running : tie.Need-element-copy-out-running
 element-copy-out-running c = search needs

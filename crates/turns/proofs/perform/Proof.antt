@@ -1,7 +1,7 @@
--- `run::turns::perform` meets its contract.
+-- `turns::perform` meets its contract.
 use Prim.Native.Nat.{_≤_}
 use Rattle.rules.specs.Limits.{lastDelay}
-use Rattle.run.proofs.MoveLaws.{again-moves}
+use Rattle.turns.proofs.MoveLaws.{again-moves}
 use mathlib.Core.Path.{refl}
 use borrow.Author.Tests.{le-leb}
 use native.Mathlib.Omega.{arith}
@@ -9,10 +9,10 @@ use Rattle.rules.specs.Events.{apply}
 use Rattle.rules.specs.Histories.{delayFits}
 use Rattle.rules.specs.declared.Event as Event
 use Rattle.trace.specs.Config.{eventOf, answerTo, perform}
-use Rattle.run.proofs.MoveLaws.{step-moves}
+use Rattle.turns.proofs.MoveLaws.{step-moves}
 use borrow.Author.Needs.{needs}
-use Rattle.run.proofs.turns.perform.Statement.{statement}
-use Rattle.run.proofs.turns.perform.Tie as tie
+use Rattle.turns.proofs.perform.Statement.{statement}
+use Rattle.turns.proofs.perform.Tie as tie
 
 enum-known-x : tie.Need-enum-known-x
 enum-known-x c = search needs

@@ -1,9 +1,9 @@
--- `run::turns::set_from` meets its contract.
+-- `turns::set_from` meets its contract.
 use mathlib.Core.Path.{refl}
-use Rattle.run.proofs.MoveLaws.{set-moves, other-moves}
+use Rattle.turns.proofs.MoveLaws.{set-moves, other-moves}
 use borrow.Author.Needs.{needs}
-use Rattle.run.proofs.turns.set_from.Statement.{statement}
-use Rattle.run.proofs.turns.set_from.Tie as tie
+use Rattle.turns.proofs.set_from.Statement.{statement}
+use Rattle.turns.proofs.set_from.Tie as tie
 
 checked-requires : tie.Need-checked-requires
 checked-requires c κs = search needs

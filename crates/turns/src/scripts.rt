@@ -4,7 +4,7 @@ ghost use Prim.Native.Nat.{_+_, _≤_, _<_};
 ghost use lib.ListN.{length};
 ghost use Rattle.format.specs.Format.{taskCount, startAt, lengthAt, partAt};
 ghost use Rattle.format.specs.Steps.{stepsOf, stepIn};
-ghost use Rattle.run.specs.Slices.{ScriptsRead};
+ghost use Rattle.turns.specs.Slices.{ScriptsRead};
 use fields::steps;
 use format::Step;
 

@@ -38,7 +38,7 @@ use Rattle.trace.specs.declared.Input.{Input}
 use Rattle.trace.specs.declared.Input.the-variants.{Step as Stepped}
 use Rattle.trace.specs.Config.{Config, Outcome, Asked, event, nothing, eventOf, answerTo, perform, positionAfter, isDone}
 use Rattle.trace.specs.Config.{advance, nextStep, positionAt, stepBy, outside, happen}
-use Rattle.run.specs.Slices.{configOf, Going, Happened}
+use Rattle.turns.specs.Slices.{configOf, Going, Happened}
 
 -- a step moves a position on by one at most
 after-low : (k : ℕ) (x : Step) → positionAfter k x ≤ suc k

@@ -1,10 +1,10 @@
--- `run::turns::position_after` meets its contract.
+-- `turns::position_after` meets its contract.
 use native.Mathlib.Omega.{arith}
 use mathlib.Core.Path.{ap, sym}
 use Rattle.trace.specs.Config.{positionAfter}
 use borrow.Author.Needs.{needs}
-use Rattle.run.proofs.turns.position_after.Statement.{statement}
-use Rattle.run.proofs.turns.position_after.Tie as tie
+use Rattle.turns.proofs.position_after.Statement.{statement}
+use Rattle.turns.proofs.position_after.Tie as tie
 
 enum-told : tie.Need-enum-told
 enum-told c = search needs

@@ -1,4 +1,4 @@
--- `run::turns::happen` meets its contract.
+-- `turns::happen` meets its contract.
 use mathlib.Core.Path.{refl}
 use Rattle.rules.specs.Events.{apply}
 use Rattle.rules.specs.declared.Event.the-variants.{Clock, Release, Set}
@@ -6,10 +6,10 @@ use Rattle.rules.specs.Histories.{delayFits}
 use Rattle.rules.proofs.Unchanged.{count-kept}
 use Rattle.trace.specs.Config.{happen}
 use Rattle.events.proofs.ApplyLaws.{moves-of}
-use Rattle.run.proofs.StepLaws.{outside-happened, happened-as}
+use Rattle.turns.proofs.StepLaws.{outside-happened, happened-as}
 use borrow.Author.Needs.{needs}
-use Rattle.run.proofs.turns.happen.Statement.{statement}
-use Rattle.run.proofs.turns.happen.Tie as tie
+use Rattle.turns.proofs.happen.Statement.{statement}
+use Rattle.turns.proofs.happen.Tie as tie
 
 enum-known-x : tie.Need-enum-known-x
 enum-known-x c = search needs

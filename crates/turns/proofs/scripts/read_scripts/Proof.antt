@@ -1,4 +1,4 @@
--- `run::scripts::read_scripts` meets its contract.
+-- `turns::scripts::read_scripts` meets its contract.
 use mathlib.Core.Path.{_≡_, refl}
 use Prim.Native.Nat.{_-_, _≤_}
 use native.Mathlib.Omega.{arith}
@@ -6,9 +6,9 @@ use borrow.Author.Needs.{needs}
 use lib.ListN.{length, take, length-set}
 use Rattle.words.specs.Words.{tabulate}
 use Rattle.format.specs.Format.{startAt, lengthAt}
-use Rattle.run.proofs.ScriptLaws.{table-more, table-all}
-use Rattle.run.proofs.scripts.read_scripts.Statement.{statement}
-use Rattle.run.proofs.scripts.read_scripts.Tie as tie
+use Rattle.turns.proofs.ScriptLaws.{table-more, table-all}
+use Rattle.turns.proofs.scripts.read_scripts.Statement.{statement}
+use Rattle.turns.proofs.scripts.read_scripts.Tie as tie
 
 abbrev Inv-loop : tie.InvT-loop
 Inv-loop s starts₀ lengths₀ n t₀ starts lengths t =

@@ -1,4 +1,4 @@
-// One event of a run, in place on the engine's slices and the script positions.
+// Internal: pub only for our own crates. One event of a run, in place on the engine's slices and the script positions.
 ghost use mathlib.Core.Path.{_≡_};
 ghost use Prim.Native.Nat.{_<_};
 ghost use Rattle.rules.specs.Events.{setBase};
@@ -6,7 +6,10 @@ ghost use Rattle.format.specs.Roster.{rosterOf};
 ghost use Rattle.memory.specs.Memory.{modelOf, Valid, Moves};
 ghost use Rattle.trace.specs.declared.Input.the-variants.{Step as Stepped};
 ghost use Rattle.trace.specs.Config.{perform, positionAfter, happen};
-ghost use Rattle.run.specs.Slices.{configOf, Going, ScriptsRead, Happened};
+ghost use Rattle.turns.specs.Slices.{configOf, Going, ScriptsRead, Happened};
+
+mod scripts;
+
 use crate::scripts::step_in;
 use format::Step;
 use memory::rulings;
@@ -16,6 +19,7 @@ use memory::sizes::OBJECT_LIMIT;
 use memory::sizes::RUNNING_CELL;
 use rules::Checked;
 use rules::Priority;
+pub use scripts::read_scripts;
 use trace::Input;
 
 // What one step of a script does.
