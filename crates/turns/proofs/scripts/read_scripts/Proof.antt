@@ -62,8 +62,10 @@ loop-again c =
       omega (arith, at-test .loop-test .taken),
       simp length-set (l .inv .1),
       simp length-set (l .inv .2),
-      table-more _ _ _ (l .t) _ (omega (arith, at-test .loop-test .taken)) (omega arith) (at-start .start-at .ensures) (l .inv .3),
-      table-more _ _ _ (l .t) _ (omega (arith, at-test .loop-test .taken)) (omega arith) (c .length-at .ensures) (l .inv .4),
+      table-more _ _ _ (l .t) _ (omega (arith, at-test .loop-test .taken)) (omega arith)
+          (omega (arith, at-start .start-at .ensures)) (l .inv .3),
+      table-more _ _ _ (l .t) _ (omega (arith, at-test .loop-test .taken)) (omega arith)
+          (omega (arith, c .length-at .ensures)) (l .inv .4),
     )
 
 same-length : tie.Need-same-length Inv-loop μ-loop
