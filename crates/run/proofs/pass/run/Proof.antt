@@ -36,8 +36,9 @@ returns-3 c =
     let c3 = c2 .before in
     let c4 = c3 .before in
     let c5 = c4 .before in
-    run-short _ _ _ _ _ (c5 .check .ensures) (c4 .passed .ensures) (not-false _ (c3 .if1 .left)) _ (c2 .events-good .ensures)
-    (not-false _ (c .before .if2 .left)) (c .if3 .taken)
+    let a = c5 .before .before .before .before .args in
+    run-short (a .roster .now) (a .events .now) (a .buffer .now) _ _ (c5 .check .ensures) (c4 .passed .ensures)
+    (not-false _ (c3 .if1 .left)) _ (c2 .events-good .ensures) (not-false _ (c .before .if2 .left)) (omega (arith, c .if3 .taken))
 
 run-through-requires : tie.Need-run-through-requires
 run-through-requires c κs =
@@ -63,8 +64,10 @@ returns-4 c =
     let c7 = c6 .before in
     let c8 = c7 .before in
     let c9 = c8 .before in
-    run-done _ _ _ _ _ (c9 .check .ensures) (c8 .passed .ensures) (not-false _ (c7 .if1 .left)) _ _ (c6 .events-good .ensures)
-    (not-false _ (c5 .if2 .left)) (c4 .if3 .left) (c2 .run-through .ensures)
+    let a = c9 .before .before .before .before .args in
+    run-done (a .roster .now) (a .events .now) (a .buffer .now) _ _ (c9 .check .ensures) (c8 .passed .ensures)
+    (not-false _ (c7 .if1 .left)) _ _ (c6 .events-good .ensures) (not-false _ (c5 .if2 .left)) (omega (arith, c4 .if3 .left))
+    (c2 .run-through .ensures)
 
 pub run-spec : {M : Type 1} → statement M
 run-spec =
