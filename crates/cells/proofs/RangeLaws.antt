@@ -10,12 +10,14 @@ use lib.Dec.{leb}
 use lib.ListN.{length, length-append}
 use Rattle.rules.specs.Limits.{taskLimit}
 use Rattle.rules.specs.Lists.{below}
+use Rattle.rules.specs.Answers.{numberOf}
+use Rattle.rules.specs.declared.Answer.the-variants.{Unsound}
 use Rattle.rules.specs.declared.Place.{Place}
 use Rattle.rules.specs.declared.Place.the-variants.{Running, Ready, Delayed, Suspended, Ended}
 use Rattle.rules.specs.declared.WaitingBase.{WaitingBase}
 use Rattle.rules.specs.declared.WaitingBase.the-variants.{Nothing, Base}
 use Rattle.rules.specs.declared.Task.{Task}
-use Rattle.rules.proofs.Choices.{and-left}
+use Rattle.rules.proofs.Choices.{and-left, cond-true, cond-false}
 use Rattle.rules.proofs.SoundLaws.{below-make}
 use Rattle.memory.specs.Tasks.{bit}
 use Rattle.memory.proofs.TestLaws.{fails-first, holds-first, below-more, below-fails}
@@ -25,7 +27,7 @@ use Rattle.dispatch.proofs.Known.{Shaped}
 use Rattle.words.specs.Words.{byteAt}
 use Rattle.cells.specs.Sizes.{taskCountAt, tasksStart, taskSize, kindOffset, waitsOffset, permitOffset, endedCode, stateSize}
 use Rattle.cells.specs.Decode.{stateOfBytes}
-use Rattle.cells.specs.InRange.{rowInRange, rowsInRange, readable}
+use Rattle.cells.specs.InRange.{rowInRange, rowsInRange, readable, unlessUnreadable}
 use Rattle.cells.specs.Encode.{lowBytes, kindByte, waitsByte, taskTail, taskBytes, headBytes, bytesOfState, Fits}
 use Rattle.cells.proofs.PutLaws.{task-length}
 use Rattle.cells.proofs.WriteLaws.{head-length, state-length}
@@ -155,3 +157,10 @@ module _ (s : State) (r : List ℕ) (d : Shaped s) (g : Fits s) (few : s .«task
       sym (read-rows whole long) ∙
       sym (rows-all whole (s .«task_count») count-byte (s .«task_count») few (omega arith) (omega arith)
       (below-make (s .«task_count») (rowAt whole) each-row))
+
+-- unreadable bytes, or readable
+pub unread-answer : (b : List ℕ) (n : ℕ) → readable b ≡ false → unlessUnreadable b n ≡ numberOf Unsound
+unread-answer b n h = cond-false (readable b) n (numberOf Unsound) h
+
+pub read-answer : (b : List ℕ) (n : ℕ) → readable b ≡ true → unlessUnreadable b n ≡ n
+read-answer b n h = cond-true (readable b) n (numberOf Unsound) h

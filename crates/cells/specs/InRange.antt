@@ -1,11 +1,13 @@
 -- "a count or number out of range", of bytes: the numbers that no State can hold, since Decode.antt reads them as others.
-use mathlib.Core.Bool.{Bool, _&&_}
+use mathlib.Core.Bool.{Bool, cond, _&&_}
 use mathlib.Core.List.{List}
 use Prim.Native.Nat.{ℕ, _+_, _*_}
 use lib.Dec.{leb}
 use lib.ListN.{length}
 use Rattle.rules.specs.Limits.{taskLimit}
 use Rattle.rules.specs.Lists.{below}
+use Rattle.rules.specs.Answers.{numberOf}
+use Rattle.rules.specs.declared.Answer.the-variants.{Unsound}
 use Rattle.words.specs.Words.{byteAt}
 use Rattle.cells.specs.Sizes.{taskCountAt, tasksStart, taskSize, kindOffset, waitsOffset, permitOffset, endedCode, stateSize}
 
@@ -21,3 +23,7 @@ rowsInRange s = leb (byteAt s taskCountAt) taskLimit && below (byteAt s taskCoun
 -- enough bytes for a state, and none of these numbers
 unfoldable pub readable : List ℕ → Bool
 readable s = leb stateSize (length s) && rowsInRange s
+
+-- bytes that are not readable answer 10
+abbrev pub unlessUnreadable : List ℕ → ℕ → ℕ
+unlessUnreadable b n = cond (readable b) n (numberOf Unsound)

@@ -36,7 +36,8 @@ use Rattle.cells.specs.Decode.{runnerFrom, stateOfBytes}
 use Rattle.cells.specs.InRange.{readable}
 use Rattle.cells.specs.Encode.{withState}
 use Rattle.cells.proofs.WriteLaws.{state-kept}
-use Rattle.layout.specs.Events.{unlessShort, unlessUnreadable, eventNumber, eventBytes, eventReport, freshNumber}
+use Rattle.cells.proofs.RangeLaws.{unread-answer, read-answer}
+use Rattle.layout.specs.Events.{unlessShort, eventNumber, eventBytes, eventReport, freshNumber}
 use Rattle.layout.specs.Events.{freshBytes, soundNumber, listedCode, runningNumber}
 
 -- too few bytes, or enough
@@ -45,13 +46,6 @@ short-answer b n h = cond-true (ltb (length b) stateSize) (numberOf Unsound) n (
 
 pub own-answer : (b : List ℕ) (n : ℕ) → stateSize ≤ length b → unlessShort b n ≡ n
 own-answer b n h = cond-false (ltb (length b) stateSize) (numberOf Unsound) n (le-ltb (length b) stateSize h)
-
--- unreadable bytes, or readable
-pub unread-answer : (b : List ℕ) (n : ℕ) → readable b ≡ false → unlessUnreadable b n ≡ numberOf Unsound
-unread-answer b n h = cond-false (readable b) n (numberOf Unsound) h
-
-pub read-answer : (b : List ℕ) (n : ℕ) → readable b ≡ true → unlessUnreadable b n ≡ n
-read-answer b n h = cond-true (readable b) n (numberOf Unsound) h
 
 module _ (b : List ℕ) (e : Event) where
   -- bytes stay as they are where the answer is not 0

@@ -38,9 +38,8 @@ use Rattle.cells.specs.InRange.{readable}
 use Rattle.cells.specs.Encode.{bytesOfState, withState, numberValues, Fits}
 use Rattle.layout.specs.Events.{eventNumber, eventBytes, freshBytes}
 use Rattle.cells.proofs.BackLaws.{state-back}
-use Rattle.layout.proofs.EventLaws.{read-answer}
 use Rattle.cells.proofs.CellLaws.{shaped}
-use Rattle.cells.proofs.RangeLaws.{read-long, written-readable}
+use Rattle.cells.proofs.RangeLaws.{read-answer, read-long, written-readable}
 
 -- the due time of a place that is not delayed is 0
 due-small : (x : Place) → ((d : ℕ) → x ≡ Delayed d → d < numberValues) → dueOf x < numberValues

@@ -16,16 +16,12 @@ use Rattle.dispatch.specs.Methods.{appliedOf, freshOf}
 use Rattle.dispatch.specs.declared.State.{State}
 use Rattle.cells.specs.Sizes.{nobodyCode, stateSize}
 use Rattle.cells.specs.Decode.{stateOfBytes}
-use Rattle.cells.specs.InRange.{readable}
+use Rattle.cells.specs.InRange.{readable, unlessUnreadable}
 use Rattle.cells.specs.Encode.{withState}
 
 -- too few bytes for a state answer 10
 abbrev pub unlessShort : List ℕ → ℕ → ℕ
 unlessShort b n = cond (ltb (length b) stateSize) (numberOf Unsound) n
-
--- .. and so do bytes with a number out of range
-abbrev pub unlessUnreadable : List ℕ → ℕ → ℕ
-unlessUnreadable b n = cond (readable b) n (numberOf Unsound)
 
 -- a state that is written beside the answer 0, "Any refusal returns the state unchanged."
 abbrev pub ifDone : ℕ → State → List ℕ → List ℕ

@@ -2,7 +2,6 @@
 ghost use mathlib.Core.Path.{_≡_};
 ghost use Rattle.layout.specs.Events.{eventNumber, eventBytes, eventReport, freshNumber, freshBytes, soundNumber, listedCode};
 ghost use Rattle.layout.specs.Events.{runningNumber};
-use crate::encode::write;
 use cells::decode::runner_from;
 use cells::ranges::readable;
 use cells::sizes::MARKS_AT;
@@ -23,6 +22,7 @@ use rules::Answer;
 use rules::Event;
 use rules::Report;
 use rules::Runner;
+use values::write;
 use words::long_at;
 
 // The state goes on by an event: its bytes are written anew, unless the event is refused. The report is written each time.

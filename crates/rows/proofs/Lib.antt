@@ -1,0 +1,3 @@
+pub mod BoardLaws
+pub mod FilledLaws
+pub mod RowLaws
