@@ -1,3 +1,1 @@
-pub mod StartLaws
-pub mod PackLaws
 pub mod SaidLaws

@@ -1,24 +1,16 @@
 // Functions for Rust, C and Ada, on numbers and byte slices.
 ghost use mathlib.Core.Path.{_≡_};
-ghost use Prim.Native.Nat.{_≤_};
 ghost use lib.ListN.{length};
 ghost use Rattle.format.specs.Answers.{numberOf};
-ghost use Rattle.format.specs.Limits.{largestRoster};
 ghost use Rattle.format.specs.Form.{formOf, scriptAnswer, scriptPart};
 ghost use Rattle.format.specs.Check.{checkOf};
 ghost use Rattle.trace.specs.Run.{answerOf, bufferOf};
-ghost use Rattle.exports.specs.Packed.{packed, packedVerdict, packedRun, scriptStart};
+ghost use Rattle.packed.specs.Packed.{packedVerdict, packedRun, scriptStart};
+use packed::pack;
 
 mod boards;
 mod readers;
 mod states;
-
-fn pack(number: u8, task: u8, position: usize) -> u64
-    requires { ⌜ position ≤ largestRoster ⌝ }
-    ensures { λ r. ⌜ r ≡ packed number task position ⌝ }
-{
-    number as u64 + 256 * task as u64 + 65536 * position as u64
-}
 
 // The form of a roster: number, 256 times the task, 65536 times the step.
 #[no_mangle]

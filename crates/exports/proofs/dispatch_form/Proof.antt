@@ -3,7 +3,7 @@ use native.Mathlib.Omega.{arith}
 use mathlib.Core.Path.{ap}
 use Rattle.format.specs.Answers.{positionOf}
 use Rattle.format.proofs.PositionLaws.{form-small}
-use Rattle.exports.proofs.PackLaws.{pack-verdict}
+use Rattle.packed.proofs.PackLaws.{pack-verdict}
 use borrow.Author.Needs.{needs}
 use Rattle.exports.proofs.dispatch_form.Statement.{statement}
 use Rattle.exports.proofs.dispatch_form.Tie as tie

@@ -1,5 +1,5 @@
 -- `exports::dispatch_run` meets its contract.
-use Rattle.exports.proofs.PackLaws.{pack-run, run-place}
+use Rattle.packed.proofs.PackLaws.{pack-run, run-place}
 use borrow.Author.Needs.{needs}
 use Rattle.exports.proofs.dispatch_run.Statement.{statement}
 use Rattle.exports.proofs.dispatch_run.Tie as tie

@@ -2,7 +2,7 @@
 use native.Mathlib.Omega.{arith}
 use Rattle.format.proofs.AnswerLaws.{answered, answered-form, answered-task}
 use Rattle.format.proofs.FormedLaws.{tasks-few}
-use Rattle.exports.proofs.StartLaws.{start-found, start-none}
+use Rattle.packed.proofs.StartLaws.{start-found, start-none}
 use borrow.Author.Needs.{needs}
 use Rattle.exports.proofs.dispatch_script_start.Statement.{statement}
 use Rattle.exports.proofs.dispatch_script_start.Tie as tie

@@ -1,6 +1,6 @@
 -- `exports::readers::dispatch_base` meets its contract.
 use mathlib.Core.Path.{ap, _∙_}
-use Rattle.exports.specs.Packed.{packedPriority}
+use Rattle.packed.specs.Packed.{packedPriority}
 use borrow.Author.Needs.{needs}
 use Rattle.exports.proofs.readers.dispatch_base.Statement.{statement}
 use Rattle.exports.proofs.readers.dispatch_base.Tie as tie

@@ -1,6 +1,6 @@
 -- `exports::readers::dispatch_step` meets its contract.
 use mathlib.Core.Path.{ap, _∙_}
-use Rattle.exports.specs.Packed.{packedStep}
+use Rattle.packed.specs.Packed.{packedStep}
 use borrow.Author.Needs.{needs}
 use Rattle.exports.proofs.readers.dispatch_step.Statement.{statement}
 use Rattle.exports.proofs.readers.dispatch_step.Tie as tie

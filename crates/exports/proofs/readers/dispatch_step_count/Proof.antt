@@ -2,7 +2,7 @@
 use native.Mathlib.Omega.{arith}
 use mathlib.Core.Path.{ap, sym, _∙_}
 use Rattle.format.proofs.ReaderLaws.{count-small}
-use Rattle.exports.specs.Packed.{packedCount}
+use Rattle.packed.specs.Packed.{packedCount}
 use borrow.Author.Needs.{needs}
 use Rattle.exports.proofs.readers.dispatch_step_count.Statement.{statement}
 use Rattle.exports.proofs.readers.dispatch_step_count.Tie as tie

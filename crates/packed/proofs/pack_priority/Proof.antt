@@ -1,9 +1,9 @@
--- `exports::readers::pack_priority` meets its contract.
+-- `packed::pack_priority` meets its contract.
 use mathlib.Core.Path.{ap, sym, _∙_}
-use Rattle.exports.specs.Packed.{packedPriority}
+use Rattle.packed.specs.Packed.{packedPriority}
 use borrow.Author.Needs.{needs}
-use Rattle.exports.proofs.readers.pack_priority.Statement.{statement}
-use Rattle.exports.proofs.readers.pack_priority.Tie as tie
+use Rattle.packed.proofs.pack_priority.Statement.{statement}
+use Rattle.packed.proofs.pack_priority.Tie as tie
 
 enum-known-found : tie.Need-enum-known-found
 enum-known-found c = search needs

@@ -7,7 +7,7 @@ use Rattle.format.specs.Answers.{passed}
 use Rattle.format.specs.Format.{startAt}
 use Rattle.format.specs.Form.{scriptAnswer}
 use Rattle.format.specs.declared.Verdict.{Verdict}
-use Rattle.exports.specs.Packed.{scriptStart}
+use Rattle.packed.specs.Packed.{scriptStart}
 
 module _ (s : List ℕ) (t : ℕ) (v : Verdict) (b : Bool) (e : v ≡ scriptAnswer s t) (f : b ≡ passed v) where
   pub start-found : (n : ℕ) → b ≡ true → n ≡ startAt s t → n ≡ scriptStart s t

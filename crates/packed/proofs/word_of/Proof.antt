@@ -1,10 +1,10 @@
--- `exports::readers::word_of` meets its contract.
+-- `packed::word_of` meets its contract.
 use native.Mathlib.Omega.{arith}
 use mathlib.Core.Path.{ap, sym, _∙_}
-use Rattle.exports.specs.Packed.{wordOf}
+use Rattle.packed.specs.Packed.{wordOf}
 use borrow.Author.Needs.{needs}
-use Rattle.exports.proofs.readers.word_of.Statement.{statement}
-use Rattle.exports.proofs.readers.word_of.Tie as tie
+use Rattle.packed.proofs.word_of.Statement.{statement}
+use Rattle.packed.proofs.word_of.Tie as tie
 
 enum-known-x : tie.Need-enum-known-x
 enum-known-x c = search needs

@@ -1,8 +1,8 @@
--- `exports::readers::step_word` meets its contract.
+-- `packed::step_word` meets its contract.
 use native.Mathlib.Omega.{arith}
 use borrow.Author.Needs.{needs}
-use Rattle.exports.proofs.readers.step_word.Statement.{statement}
-use Rattle.exports.proofs.readers.step_word.Tie as tie
+use Rattle.packed.proofs.step_word.Statement.{statement}
+use Rattle.packed.proofs.step_word.Tie as tie
 
 mul-result : tie.Need-mul-result
 mul-result c = search needs

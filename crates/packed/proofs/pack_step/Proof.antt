@@ -1,11 +1,11 @@
--- `exports::readers::pack_step` meets its contract.
+-- `packed::pack_step` meets its contract.
 use native.Mathlib.Omega.{arith}
 use Prim.Native.Nat.{ℕ, _*_}
 use mathlib.Core.Path.{ap, sym, _∙_}
-use Rattle.exports.specs.Packed.{packedStep}
+use Rattle.packed.specs.Packed.{packedStep}
 use borrow.Author.Needs.{needs}
-use Rattle.exports.proofs.readers.pack_step.Statement.{statement}
-use Rattle.exports.proofs.readers.pack_step.Tie as tie
+use Rattle.packed.proofs.pack_step.Statement.{statement}
+use Rattle.packed.proofs.pack_step.Tie as tie
 
 enum-known-found : tie.Need-enum-known-found
 enum-known-found c = search needs

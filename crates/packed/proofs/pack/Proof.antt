@@ -1,9 +1,9 @@
--- `exports::pack` meets its contract.
+-- `packed::pack` meets its contract.
 use native.Mathlib.Omega.{arith}
-use Rattle.exports.specs.Packed.{packed}
+use Rattle.packed.specs.Packed.{packed}
 use borrow.Author.Needs.{needs}
-use Rattle.exports.proofs.pack.Statement.{statement}
-use Rattle.exports.proofs.pack.Tie as tie
+use Rattle.packed.proofs.pack.Statement.{statement}
+use Rattle.packed.proofs.pack.Tie as tie
 
 mul-result : tie.Need-mul-result
 mul-result c = search needs

@@ -16,7 +16,7 @@ use Rattle.trace.specs.Limits.{replySize}
 use Rattle.trace.specs.Inputs.{eventCount, eventsGood}
 use Rattle.trace.specs.Run.{answerOf}
 use Rattle.trace.specs.declared.RunAnswer.{RunAnswer}
-use Rattle.exports.specs.Packed.{packed, packedVerdict, packedRun}
+use Rattle.packed.specs.Packed.{packed, packedVerdict, packedRun}
 
 pub pack-verdict : (v w : Verdict) (n t p r : ℕ) → v ≡ w → n ≡ numberOf v → t ≡ taskOf v → p ≡ positionOf v → r ≡ packed n t p →
     r ≡ packedVerdict w
