@@ -1,6 +1,6 @@
 // A board in lent bytes, three for each row: place kind, active priority, position. Crate rows has the numbers of the kinds.
 ghost use mathlib.Core.Path.{_≡_};
-ghost use Rattle.rows.specs.Boards.{fillAnswer, filledBytes, nextNumber};
+ghost use Rattle.board_bytes.specs.Boards.{fillAnswer, filledBytes, nextNumber};
 
 // Fills the board from a state: 0 with a row for each task, and no others; 10 or 13, and nothing.
 #[no_mangle]

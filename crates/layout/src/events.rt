@@ -22,7 +22,7 @@ use rules::Answer;
 use rules::Event;
 use rules::Report;
 use rules::Runner;
-use values::write;
+use state_bytes::write;
 use words::long_at;
 
 // The state goes on by an event: its bytes are written anew, unless the event is refused. The report is written each time.

@@ -4,12 +4,12 @@
 mod events;
 mod sizes;
 
+pub use board_bytes::fill;
+pub use board_bytes::next;
 pub use events::apply;
 pub use events::fresh;
 pub use events::running;
 pub use events::sound;
-pub use rows::fill;
-pub use rows::next;
 pub use sizes::STATE_SIZE;
-pub use values::read;
-pub use values::write;
+pub use state_bytes::read;
+pub use state_bytes::write;
