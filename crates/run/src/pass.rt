@@ -29,7 +29,7 @@ use trace::sizes::EVENT_SIZE;
 use trace::sizes::NOBODY;
 use trace::sizes::REPLY_SIZE;
 use turns::happen;
-use turns::read_scripts;
+use turns::scripts::read_scripts;
 
 // The running task, or NOBODY.
 fn running_byte(head: &[u64; HEAD_WIDTH]) -> u8

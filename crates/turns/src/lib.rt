@@ -8,7 +8,7 @@ ghost use Rattle.trace.specs.declared.Input.the-variants.{Step as Stepped};
 ghost use Rattle.trace.specs.Config.{perform, positionAfter, happen};
 ghost use Rattle.turns.specs.Slices.{configOf, Going, ScriptsRead, Happened};
 
-mod scripts;
+pub mod scripts;
 
 use crate::scripts::step_in;
 use format::Step;
@@ -19,7 +19,6 @@ use memory::sizes::OBJECT_LIMIT;
 use memory::sizes::RUNNING_CELL;
 use rules::Checked;
 use rules::Priority;
-pub use scripts::read_scripts;
 use trace::Input;
 
 // What one step of a script does.

@@ -1,5 +1,5 @@
 -- `memory::priorities::active_inside` meets its contract.
-use mathlib.Core.Path.{refl, ap, _∙_, sym}
+use mathlib.Core.Path.{refl, ap}
 use native.Mathlib.Omega.{arith}
 use borrow.Author.Needs.{needs}
 use Rattle.rules.specs.declared.Priority.{Priority}
@@ -18,7 +18,7 @@ returns c =
     let at-depth = c .before .before in
     let entry = at-depth .before .before .before .before in
     active-bare (entry .pre .0) _ _ (entry .pre .1 .0) (ap (λ (p : Priority). p .0) (c .base .ensures))
-    (sym (at-depth .depth .ensures) ∙ c .before .if1 .taken)
+    (omega (arith, at-depth .depth .ensures, c .before .if1 .taken))
 
 element-copy-out-n : tie.Need-element-copy-out-n
 element-copy-out-n c = search needs
