@@ -214,11 +214,11 @@ pub fn clock(
     if bad_reading(at, r) {
         return rulings::BAD_READING;
     }
-    let running = head[RUNNING_CELL];
     head[NOW_CELL] = r;
     if r < head[NEXT_CELL] {
         return rulings::UNCHANGED;
     }
+    let running = head[RUNNING_CELL];
     waking::wake_up(head, tasks, held, ceilings, queues, r);
     conclude(head, tasks, held, ceilings, queues, running)
 }

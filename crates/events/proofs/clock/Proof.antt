@@ -1,8 +1,13 @@
 -- `events::clock` meets its contract.
-use mathlib.Core.Path.{refl, _∙_, sym}
-use Prim.Native.Nat.{_-_}
+use mathlib.Core.Path.{ap, _∙_, sym}
+use Prim.Native.Nat.{ℕ}
 use native.Mathlib.Omega.{arith}
 use borrow.Author.Needs.{needs}
+use lib.Seq.{getD-set-other}
+use Rattle.rules.specs.Model.{Model}
+use Rattle.rules.specs.Moved.{accepted}
+use Rattle.rules.specs.Events.{takeReading}
+use Rattle.memory.specs.Memory.{nowCell, runningCell, runnerOf, modelOf}
 use Rattle.memory.specs.Rulings as Ruling
 use Rattle.rules.proofs.EventLaws.{clock-4, clock-0}
 use Rattle.rules.proofs.Readings.{reading-early, reading-low}
@@ -38,7 +43,7 @@ element-copy-out-if2 c = search needs
 
 returns-2 : tie.Need-returns-2
 returns-2 c =
-    let at-if1 = c .before .before .before in
+    let at-if1 = c .before .before in
     let at-test = at-if1 .before in
     let entry = at-test .before .before .before .before in
     let taken = sym (at-test .bad-reading .ensures) ∙ at-if1 .if1 .left in
@@ -87,7 +92,11 @@ returns-3 c =
     let taken = sym (at-test .bad-reading .ensures) ∙ at-if1 .if1 .left in
     let v = entry .pre in
     let d = v .laid in
-    did _ (clock-law d _ (at-wake-up .wake-up .ensures)) (at-conclude .conclude .ensures) (clock-0 _ _ taken)
+    let a = entry .args in
+    let m : Model = modelOf (a .head .now) (a .tasks .now) (a .held .now) (a .ceilings .now) (a .queues .now) in
+    let ran = sym (getD-set-other (a .head .now) nowCell runningCell (a .r) 0 (omega arith)) in
+    let before = ap (λ (n : ℕ). accepted (runnerOf n) (takeReading m (a .r))) ran in
+    did _ (clock-law d _ (at-wake-up .wake-up .ensures)) (at-conclude .conclude .ensures) (clock-0 _ _ taken ∙ before)
 
 pub clock-spec : {M : Type 1} → statement M
 clock-spec =
@@ -96,10 +105,10 @@ clock-spec =
     element-copy-out-at
     bad-reading-requires
     returns
-    element-copy-out-running
     element-write-head
     element-copy-out-if2
     returns-2
+    element-copy-out-running
     wake-up-requires
     conclude-requires
     same-length
