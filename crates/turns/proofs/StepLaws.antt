@@ -7,7 +7,7 @@ use native.Mathlib.Omega.{arith}
 use borrow.Author.Tests.{eq-eqb, ne-eqb, leb-true, ltb-true, ltb-false}
 use lib.Dec.{leb, ltb}
 use lib.ListN.{length, getD, set, take, drop, length-set, length-take, length-drop}
-use lib.Seq.{getD-take, take-set-lt}
+use lib.Seq.{getD-take, take-set-lt, set-getD, set-set}
 use Rattle.rules.specs.Answers.{numberOf}
 use Rattle.memory.specs.Rulings.{answerIn}
 use Rattle.rules.specs.Model.{Model}
@@ -174,13 +174,16 @@ module _ {s h ts hd cs qs ps : List ℕ} (g : Going s h ts hd cs qs ps) where
             report = v .report;
           }
 
-      -- a refused step moves nothing; an accepted one its position
-      pub step-refused : {h' ts' hd' qs' : List ℕ} {y : Ruling} (n : ℕ) → n ≡ numberOf (answerIn y) → (n ≡ 0 → ⊥) →
-          Moves h' ts' hd' cs qs' y (perform (modelOf h ts hd cs qs) x) → Happened s h' ts' hd' cs qs' ps y
-          (happen (rosterOf s) c Stepped)
-      step-refused {h'} {ts'} {hd'} {qs'} {y} n e z v =
+      -- a refused step sets its position back; an accepted one has moved it
+      set-back : (j : ℕ) → set (set ps t j) t k ≡ ps
+      set-back j = set-set ps t j k ∙ (ap (set ps t) place ∙ set-getD ps t 0)
+
+      pub step-refused : {h' ts' hd' qs' : List ℕ} {y : Ruling} (n j : ℕ) → n ≡ numberOf (answerIn y) → (n ≡ 0 → ⊥) →
+          Moves h' ts' hd' cs qs' y (perform (modelOf h ts hd cs qs) x) →
+          Happened s h' ts' hd' cs qs' (set (set ps t j) t k) y (happen (rosterOf s) c Stepped)
+      step-refused {h'} {ts'} {hd'} {qs'} {y} n j e z v =
           let no : isDone (answerIn y) ≡ false = ne-eqb (numberOf (answerIn y)) 0 (λ i. z (e ∙ i)) in
-          rw step-is
+          rw (step-is, set-back j)
           (made v refl
           (sym (ap (λ (b : Bool). cond b (set (take (taskCount s) ps) t (positionAfter k x)) (take (taskCount s) ps)) no)))
 

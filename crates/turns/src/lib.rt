@@ -68,7 +68,7 @@ fn position_after(k: u16, x: Step) -> u16
     }
 }
 
-// The running task takes its next step; a refused one leaves the position.
+// The running task takes its next step. Its position moves on before, so that nothing is kept meanwhile, and back where it is refused.
 fn step(
     roster: &[u8],
     starts: &[u16],
@@ -97,12 +97,11 @@ fn step(
     let t = (running - 1) as usize;
     let k = positions[t];
     let x = step_in(roster, starts, lengths, t, k);
-    let next = position_after(k, x);
+    positions[t] = position_after(k, x);
     let ruling = perform(head, tasks, held, ceilings, queues, x);
     if rulings::number(ruling) != 0 {
-        return ruling;
+        positions[t] = k;
     }
-    positions[t] = next;
     ruling
 }
 

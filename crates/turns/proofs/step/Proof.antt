@@ -3,7 +3,7 @@ use mathlib.Core.Path.{refl}
 use Prim.Native.Nat.{_-_, _<_}
 use native.Mathlib.Omega.{arith}
 use borrow.Author.Needs.{needs}
-use lib.ListN.{getD}
+use lib.ListN.{getD, length-set}
 use Rattle.memory.specs.Memory.{runningCell}
 use Rattle.turns.proofs.StepLaws.{position-fits, idle-happened, runner-listed, runner-placed, script-here}
 use Rattle.turns.proofs.StepLaws.{step-refused, step-accepted}
@@ -49,6 +49,18 @@ position-after-requires c κs =
     let small : getD (a .positions .now) t 0 < 65536 = omega (arith, at-k .slice-known4 .given t) in
     position-fits (a .roster .now) t _ _ (entry .pre .0 .form) small (c .step-in .ensures)
 
+mul-positions : tie.Need-mul-positions
+mul-positions c =
+    let at-if1 = c .before .before .before in
+    let entry = at-if1 .before .before .before .before .before .before .before .before in
+    omega (arith, runner-placed (entry .pre .0) _ (at-if1 .if1 .left) refl)
+
+slice-write-positions : tie.Need-slice-write-positions
+slice-write-positions c =
+    let at-if1 = c .before .before .before in
+    let entry = at-if1 .before .before .before .before .before .before .before .before in
+    runner-placed (entry .pre .0) _ (at-if1 .if1 .left) refl
+
 perform-requires : tie.Need-perform-requires
 perform-requires c κs = search needs
 
@@ -70,28 +82,31 @@ returns-2 c =
     let at-step = at-perform .before .before .before .before .before .before in
     let at-if1 = at-step .before .before in
     let entry = at-if1 .before .before .before .before .before .before .before .before in
-    step-refused (entry .pre .0) _ (at-if1 .if1 .left) refl refl (at-step .step-in .ensures) _ (c .before .number .ensures)
+    step-refused (entry .pre .0) _ (at-if1 .if1 .left) refl refl (at-step .step-in .ensures) _ _ (c .before .number .ensures)
     (c .if2 .taken) (at-perform .perform .ensures)
 
-mul-positions : tie.Need-mul-positions
-mul-positions c =
+mul-positions-2 : tie.Need-mul-positions-2
+mul-positions-2 c =
     let at-perform = c .before .before .before .before .before .before in
     let at-if1 = at-perform .before .before .before .before .before .before .before .before in
     let entry = at-if1 .before .before .before .before .before .before .before .before in
     omega (arith, runner-placed (entry .pre .0) _ (at-if1 .if1 .left) refl)
 
-slice-write-positions : tie.Need-slice-write-positions
-slice-write-positions c =
+slice-write-positions-2 : tie.Need-slice-write-positions-2
+slice-write-positions-2 c =
     let at-perform = c .before .before .before .before .before .before in
     let at-if1 = at-perform .before .before .before .before .before .before .before .before in
     let entry = at-if1 .before .before .before .before .before .before .before .before in
-    runner-placed (entry .pre .0) _ (at-if1 .if1 .left) refl
+    simp length-set (runner-placed (entry .pre .0) _ (at-if1 .if1 .left) refl)
 
 same-length-4 : tie.Need-same-length-4
 same-length-4 c = search needs
 
 same-length-5 : tie.Need-same-length-5
 same-length-5 c = search needs
+
+same-length-6 : tie.Need-same-length-6
+same-length-6 c = search needs
 
 returns-3 : tie.Need-returns-3
 returns-3 c =
@@ -114,14 +129,17 @@ step-spec =
     slice-read-k
     step-in-requires
     position-after-requires
-    perform-requires
-    number-requires
-    same-length
-    same-length-2
-    returns-2
     mul-positions
     slice-write-positions
+    perform-requires
+    number-requires
+    mul-positions-2
+    slice-write-positions-2
+    same-length
+    same-length-2
     same-length-3
+    returns-2
     same-length-4
     same-length-5
+    same-length-6
     returns-3)
