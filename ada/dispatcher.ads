@@ -53,8 +53,12 @@ package Dispatcher with Preelaborate is
    --  How long a Delay is. A larger number raises Constraint_Error, and as a static value is told by the compiler.
    type Ticks is range 0 .. 65_535;
 
-   Task_Limit   : constant := 32;
-   Object_Limit : constant := 16;
+   --  The most tasks, which are the most rows of a board too, the most objects, and the bytes of a roster. Every size is reckoned
+   --  from them.
+   Task_Limit      : constant := 64;
+   Object_Limit    : constant := 32;
+   Smallest_Roster : constant := 14;
+   Largest_Roster  : constant := 60_000;
 
    --  The running task where nobody runs, and the row where nobody is next.
    Nobody     : constant Task_Number := 255;
@@ -62,8 +66,14 @@ package Dispatcher with Preelaborate is
 
    type Bytes is array (Natural range <>) of aliased Unsigned_8;
 
-   --  A state as bytes; docs/LAYOUT.md has the layout. Any bytes are a state, though few are sound.
-   State_Size : constant := 2144;
+   --  A state as bytes: a head, a row for each task, a ceiling for each object, what each task holds, and a ready queue for each
+   --  priority; the latter two begin with their length. docs/LAYOUT.md has the layout. Any bytes are a state, though few are sound.
+   Head_Size  : constant := 16;
+   Task_Size  : constant := 16;
+   Held_Size  : constant := 1 + Object_Limit;
+   Ready_Size : constant := 1 + Task_Limit;
+   State_Size : constant :=
+     Head_Size + Task_Limit * Task_Size + Object_Limit + Task_Limit * Held_Size + Priority'Pos (Last_Priority) * Ready_Size;
    type State is new Bytes (0 .. State_Size - 1);
 
    --  Bases by task, ceilings by object.

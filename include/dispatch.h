@@ -49,9 +49,12 @@ enum dispatch_report {
     DISPATCH_CHANGED = 2
 };
 
-/* Limits. Priorities 1 to 30 are Ada's Priority, 31 and 32 its Interrupt_Priority. */
-#define DISPATCH_TASK_LIMIT 32
-#define DISPATCH_OBJECT_LIMIT 16
+/* Limits: the most tasks, which are the most rows of a board too, the most objects, and the bytes of a roster. Every size below is
+ * reckoned from them. Priorities 1 to 30 are Ada's Priority, 31 and 32 its Interrupt_Priority. */
+#define DISPATCH_TASK_LIMIT 64
+#define DISPATCH_OBJECT_LIMIT 32
+#define DISPATCH_ROSTER_SMALLEST 14
+#define DISPATCH_ROSTER_LARGEST 60000
 #define DISPATCH_FIRST_PRIORITY 1
 #define DISPATCH_LAST_PRIORITY 32
 #define DISPATCH_DEFAULT_PRIORITY 15
@@ -62,8 +65,11 @@ enum dispatch_report {
 /* The running task where nobody runs, and the row where nobody is next. */
 #define DISPATCH_NOBODY 255
 
-/* A state as bytes. Any bytes are a state, though few are sound. */
-#define DISPATCH_STATE_SIZE 2144
+/* A state as bytes. Any bytes are a state, though few are sound.
+ * The size of a task's row, of a held list and of a ready queue; the latter two begin with their length. Priority p is queue p - 1. */
+#define DISPATCH_TASK_SIZE 16
+#define DISPATCH_HELD_SIZE (1 + DISPATCH_OBJECT_LIMIT)
+#define DISPATCH_READY_SIZE (1 + DISPATCH_TASK_LIMIT)
 /* Where its parts begin: now has 8 bytes, the runner and the two counts one each, the marks 4, a ceiling one. The marks are one
  * number with a bit for each ready queue that is not empty, bit p - 1 for priority p; a state with any other number is not sound. */
 #define DISPATCH_AT_NOW 0
@@ -71,14 +77,11 @@ enum dispatch_report {
 #define DISPATCH_AT_TASK_COUNT 9
 #define DISPATCH_AT_OBJECT_COUNT 10
 #define DISPATCH_AT_MARKS 12
-#define DISPATCH_AT_TASKS 16
-#define DISPATCH_AT_CEILINGS 528
-#define DISPATCH_AT_HELD 544
-#define DISPATCH_AT_READY 1088
-/* The size of a task's row, of a held list and of a ready queue; the latter two begin with their length. Priority p is queue p - 1. */
-#define DISPATCH_TASK_SIZE 16
-#define DISPATCH_HELD_SIZE 17
-#define DISPATCH_READY_SIZE 33
+#define DISPATCH_AT_TASKS (DISPATCH_AT_MARKS + DISPATCH_LAST_PRIORITY / 8)
+#define DISPATCH_AT_CEILINGS (DISPATCH_AT_TASKS + DISPATCH_TASK_LIMIT * DISPATCH_TASK_SIZE)
+#define DISPATCH_AT_HELD (DISPATCH_AT_CEILINGS + DISPATCH_OBJECT_LIMIT)
+#define DISPATCH_AT_READY (DISPATCH_AT_HELD + DISPATCH_TASK_LIMIT * DISPATCH_HELD_SIZE)
+#define DISPATCH_STATE_SIZE (DISPATCH_AT_READY + DISPATCH_LAST_PRIORITY * DISPATCH_READY_SIZE)
 /* In a task's row: the due time (8 bytes), the place, the base, whether a base waits, that base, and the permit. */
 #define DISPATCH_TASK_DUE 0
 #define DISPATCH_TASK_PLACE 8
@@ -103,8 +106,6 @@ enum dispatch_place {
 #define DISPATCH_ROW_POSITION 2
 
 /* A roster: scripts, task table, object table and trailer. */
-#define DISPATCH_ROSTER_SMALLEST 14
-#define DISPATCH_ROSTER_LARGEST 32768
 #define DISPATCH_ROSTER_FIRST_MARK 0x52
 #define DISPATCH_ROSTER_SECOND_MARK 0x35
 #define DISPATCH_ROSTER_TRAILER_SIZE 8
@@ -141,14 +142,7 @@ enum dispatch_event_kind {
 
 /* Refused by the compiler where a size is not what the library was built with. */
 typedef char dispatch_size_t_has_64_bits[sizeof(size_t) == 8 && sizeof(void *) == 8 ? 1 : -1];
-typedef char dispatch_state_adds_up
-    [DISPATCH_AT_TASKS == DISPATCH_AT_MARKS + DISPATCH_LAST_PRIORITY / 8
-             && DISPATCH_AT_CEILINGS == DISPATCH_AT_TASKS + DISPATCH_TASK_LIMIT * DISPATCH_TASK_SIZE
-             && DISPATCH_AT_HELD == DISPATCH_AT_CEILINGS + DISPATCH_OBJECT_LIMIT
-             && DISPATCH_AT_READY == DISPATCH_AT_HELD + DISPATCH_TASK_LIMIT * DISPATCH_HELD_SIZE
-             && DISPATCH_STATE_SIZE == DISPATCH_AT_READY + DISPATCH_LAST_PRIORITY * DISPATCH_READY_SIZE
-         ? 1
-         : -1];
+typedef char dispatch_state_has_5264_bytes[DISPATCH_STATE_SIZE == 5264 ? 1 : -1];
 
 /* The parts of a uint64_t that a function answers. The number is always the lowest byte. Then: the task and step of a roster's
  * fault, 0 and 0 unless the number is 16 to 20; or one value; or the four bytes of a step. */
@@ -229,7 +223,7 @@ uint8_t dispatch_running(const uint8_t *state, size_t length);
 
 /* Fills the first rows, one per task, and no others: 0; or 10, then 13 for too few rows, and nothing is written. */
 uint8_t dispatch_fill(const uint8_t *state, size_t length, uint8_t *board, size_t board_length);
-/* The next row of a board: number and row, the row being 255 for nobody and beside 13 and 3. */
+/* The next row of a board: number and row, the row being 255 for nobody and beside 13, for more than DISPATCH_TASK_LIMIT rows, and 3. */
 uint64_t dispatch_next(const uint8_t *board, size_t board_length);
 
 #ifdef __cplusplus

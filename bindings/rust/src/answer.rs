@@ -59,11 +59,11 @@ answers! {
     NotInnermost = 9,
     /// The state is not sound.
     Unsound = 10,
-    /// A roster shorter than 14 or longer than 32,768 bytes.
+    /// A roster shorter than 14 or longer than 60,000 bytes.
     BadLength = 11,
     /// The roster's mark is not there.
     BadMark = 12,
-    /// Not 1 to 32 tasks or 0 to 16 objects; a board with too few rows, or asked with more than 32.
+    /// Not 1 to 64 tasks or 0 to 32 objects; a board with too few rows, or asked with more than 64.
     BadCounts = 13,
     /// A start or a length off the roster's layout.
     BadLayout = 14,

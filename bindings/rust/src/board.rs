@@ -43,7 +43,7 @@ impl Row {
 }
 
 /// The row to run next: among ready rows the highest priority, then the lowest position, then the lowest row; or none. Refused
-/// with 13 for more than 32 rows, then with 3 for a priority outside 1 to 32 in any row.
+/// with 13 for more than 64 rows, then with 3 for a priority outside 1 to 32 in any row.
 pub fn next(board: &[Row]) -> Result<Option<usize>, Answer> {
     let (number, row) = raw::next(bytes_of(board));
     Answer::from_library(number).done()?;

@@ -33,7 +33,7 @@ pub use answer::Answer;
 pub use board::{next, Place, Row};
 pub use numbers::{
     Object, Priority, Task, LARGEST_READING, LARGEST_ROSTER, LONGEST_ADVANCE, MOST_EVENTS,
-    MOST_OBJECTS, MOST_TASKS, REPLY_SIZE, ROW_SIZE, STATE_SIZE,
+    MOST_OBJECTS, MOST_TASKS, REPLY_SIZE, ROW_SIZE, SMALLEST_ROSTER, STATE_SIZE,
 };
 pub use report::{Outcome, Report};
 pub use state::State;

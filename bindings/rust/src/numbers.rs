@@ -1,19 +1,28 @@
 //! The kinds of numbers, so that none is passed for another, and the sizes.
 
-/// How many bytes a state has.
-pub const STATE_SIZE: usize = 2144;
-
 /// How many bytes a row of a board has.
 pub const ROW_SIZE: usize = 3;
 
 /// A state or a roster has 1 to this many tasks, and a board that is asked at most this many rows.
-pub const MOST_TASKS: usize = 32;
+pub const MOST_TASKS: usize = 64;
 
 /// A state or a roster has at most this many protected objects.
-pub const MOST_OBJECTS: usize = 16;
+pub const MOST_OBJECTS: usize = 32;
+
+/// A roster has at least this many bytes.
+pub const SMALLEST_ROSTER: usize = 14;
 
 /// A roster has at most this many bytes.
-pub const LARGEST_ROSTER: usize = 32_768;
+pub const LARGEST_ROSTER: usize = 60_000;
+
+/// How many bytes a state has: a head; a row and a list of what is held for each task; a ceiling for each object; a ready queue for each
+/// priority. A list begins with its length.
+pub const STATE_SIZE: usize = HEAD_SIZE
+    + MOST_TASKS * (TASK_SIZE + 1 + MOST_OBJECTS)
+    + MOST_OBJECTS
+    + Priority::LAST.0 as usize * (1 + MOST_TASKS);
+const HEAD_SIZE: usize = 16;
+const TASK_SIZE: usize = 16;
 
 /// A run has at most this many events, of 8 bytes each.
 pub const MOST_EVENTS: usize = 4096;

@@ -6,7 +6,7 @@ use crate::numbers::{Object, Priority, Task, STATE_SIZE};
 use crate::raw;
 use crate::report::Outcome;
 
-/// A state, as its 2144 bytes. Every event answers and reports why the processor changed hands, and a refused one leaves the state just
+/// A state, as its 5264 bytes. Every event answers and reports why the processor changed hands, and a refused one leaves the state just
 /// as it was.
 #[derive(Clone, Debug, PartialEq, Eq)]
 pub struct State {

@@ -12,7 +12,7 @@ use Rattle.board.specs.declared.Row.{Row}
 use Rattle.board.specs.declared.NextAnswer.{NextAnswer}
 use Rattle.board.specs.declared.FillAnswer.{FillAnswer}
 
--- "More than 32 rows is 13": there is one row per task
+-- 2026-07: "The board's 32 rows become 64": there is one row per task
 abbrev pub rowLimit : ℕ
 rowLimit = taskLimit
 

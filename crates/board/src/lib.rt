@@ -19,9 +19,10 @@ use crate::source::written;
 use dispatch::State;
 use rules::Answer;
 use rules::Priority;
+use rules::Roster;
 
-// The most rows that a board may have when it is asked; specs/ has the same.
-pub const ROW_LIMIT: usize = 32;
+// The most rows that a board may have when it is asked, one for each task; specs/ has the same.
+pub const ROW_LIMIT: usize = Roster::TASKS;
 
 // Where a task is, without its due time.
 pub enum PlaceKind {

@@ -16,7 +16,7 @@ unfoldable pub rowInRange : List ℕ → ℕ → Bool
 rowInRange s i =
     leb (byteAt s (i + kindOffset)) endedCode && leb (byteAt s (i + waitsOffset)) 1 && leb (byteAt s (i + permitOffset)) 1
 
--- "tasks 1 to 32", and such a row for each of those that the count lists
+-- no more tasks than there may be, and such a row for each of those that the count lists
 unfoldable pub rowsInRange : List ℕ → Bool
 rowsInRange s = leb (byteAt s taskCountAt) taskLimit && below (byteAt s taskCountAt) (λ t. rowInRange s (tasksStart + taskSize * t))
 

@@ -12,7 +12,7 @@ use crate::sizes::TASK_COUNT_AT;
 use crate::sizes::TASK_SIZE;
 use crate::sizes::TASKS_START;
 use crate::sizes::WAITS;
-use memory::sizes::TASK_LIMIT;
+use rules::Roster;
 
 // The task row that starts at i.
 fn row_in_range(s: &[u8], i: usize) -> bool
@@ -33,7 +33,7 @@ fn rows_in_range(s: &[u8]) -> bool
     ensures { λ r. ⌜ r ≡ rowsInRange (now (s .entry)) ⌝ }
 {
     let n = s[TASK_COUNT_AT] as usize;
-    if TASK_LIMIT < n {
+    if Roster::TASKS < n {
         return false;
     }
     let mut t: usize = 0;

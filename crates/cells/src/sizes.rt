@@ -1,8 +1,7 @@
 // Where a state's bytes have each part; specs/ has the same.
 use memory::sizes::HELD_CELLS;
-use memory::sizes::OBJECT_LIMIT;
 use memory::sizes::QUEUE_CELLS;
-use memory::sizes::TASK_LIMIT;
+use rules::Roster;
 
 // The bytes of a number.
 pub const NUMBER_SIZE: usize = 8;
@@ -45,9 +44,9 @@ pub const ENDED: u8 = 4;
 // Where the parts start, and how many bytes there are.
 pub const TASKS_START: usize = 16;
 
-pub const CEILINGS_START: usize = TASKS_START + TASK_LIMIT * TASK_SIZE;
+pub const CEILINGS_START: usize = TASKS_START + Roster::TASKS * TASK_SIZE;
 
-pub const HELD_START: usize = CEILINGS_START + OBJECT_LIMIT;
+pub const HELD_START: usize = CEILINGS_START + Roster::OBJECTS;
 
 pub const QUEUES_START: usize = HELD_START + HELD_CELLS;
 

@@ -39,8 +39,8 @@ use memory::sizes::OBJECTS_CELL;
 use memory::sizes::PRIORITIES;
 use memory::sizes::QUEUE_WIDTH;
 use memory::sizes::RUNNING_CELL;
-use memory::sizes::TASK_LIMIT;
 use memory::sizes::TASKS_CELL;
+use rules::Roster;
 use words::number_in;
 use words::put;
 
@@ -131,7 +131,7 @@ fn store_tasks(bytes: &mut [u8], tasks: &[u64])
     ensures { λ u. ⌜ now (bytes .exit) ≡ sets (now (bytes .entry)) tasksStart (flatMap taskBytes (tasksIn (now (tasks .entry)))) ⌝ }
 {
     let mut t: usize = 0;
-    while t < TASK_LIMIT {
+    while t < Roster::TASKS {
         put_task(
             bytes,
             TASKS_START + TASK_SIZE * t,

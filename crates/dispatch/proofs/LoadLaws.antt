@@ -5,17 +5,15 @@ use mathlib.Core.List.{List, [], append-nil, map, flatMap}
 use Prim.Native.Nat.{ℕ, _+_, _-_, _*_, _≤_, _<_}
 use native.Mathlib.Numerals.{add-one}
 use native.Mathlib.Omega.{arith}
-use borrow.Author.Tests.{leb-true}
-use lib.Dec.{leb}
 use lib.ListN.{length, take, getD, replicate, length-replicate, length-map}
 use lib.Seq.{length-take-le}
-use Rattle.rules.specs.Limits.{taskLimit, objectLimit, lastPriority}
+use Rattle.rules.specs.Limits.{taskLimit, objectLimit, lastPriority, countsGood}
 use Rattle.rules.specs.Model.{blank}
 use Rattle.rules.specs.declared.Runner.{Runner}
 use Rattle.rules.specs.declared.Runner.the-variants.{Nobody, Task as Runs}
 use Rattle.rules.specs.declared.Task.{Task}
-use Rattle.rules.specs.Fresh.{countsGood}
 use Rattle.rules.proofs.Choices.{and-left, and-right}
+use Rattle.rules.proofs.LimitLaws.{counted-by}
 use Rattle.memory.specs.Rows.{rowFor, lists, heldWidth, heldIn, queueWidth, queuesIn, Queues}
 use Rattle.memory.specs.Tasks.{blankTask, tasksIn, TaskBecame}
 use Rattle.memory.specs.Memory.{marksIn, runnerOf, together, allRecords, Means}
@@ -79,10 +77,10 @@ fitting s e =
     let held = lengthsGood heldWidth (s .«task_count») (s .held) in
     let both = and-left (counts && held) _ e in
     let sizes = and-left counts held both in
-    let some = leb 1 (s .«task_count») && leb (s .«task_count») taskLimit in
+    let counted = counted-by (s .«task_count») (s .«object_count») sizes in
     record {
-      count = leb-true _ _ (and-right (leb 1 (s .«task_count»)) _ (and-left some _ sizes));
-      objects = leb-true _ _ (and-right some _ sizes);
+      count = counted .tasks;
+      objects = counted .objects;
       held = and-right counts held both;
       queues = and-right (counts && held) _ e;
     }

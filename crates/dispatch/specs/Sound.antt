@@ -5,9 +5,8 @@ use mathlib.Core.Logic.{_↔_}
 use Prim.Native.Nat.{ℕ, _-_, _^_, _≤_, _<_}
 use lib.Dec.{eqb}
 use lib.ListN.{length}
-use Rattle.rules.specs.Limits.{firstPriority, lastPriority}
+use Rattle.rules.specs.Limits.{firstPriority, lastPriority, countsGood}
 use Rattle.rules.specs.Model.{queue}
-use Rattle.rules.specs.Fresh.{countsGood}
 use Rattle.rules.specs.Sound.{sound}
 use Rattle.marks.specs.Marks.{bitAt, marksOf}
 use Rattle.memory.specs.Rows.{heldWidth, queueWidth}

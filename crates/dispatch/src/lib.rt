@@ -7,12 +7,11 @@ mod store;
 mod test;
 
 use memory::sizes::HELD_CELLS;
-use memory::sizes::OBJECT_LIMIT;
 use memory::sizes::QUEUE_CELLS;
-use memory::sizes::TASK_LIMIT;
 use rules::Answer;
 use rules::Priority;
 use rules::Report;
+use rules::Roster;
 use rules::Runner;
 use rules::Task;
 
@@ -24,9 +23,9 @@ pub struct State {
     pub task_count: u8,
     pub object_count: u8,
     pub marks: u32,
-    pub tasks: [Task; TASK_LIMIT],
+    pub tasks: [Task; Roster::TASKS],
     pub held: [u8; HELD_CELLS],
-    pub ceilings: [Priority; OBJECT_LIMIT],
+    pub ceilings: [Priority; Roster::OBJECTS],
     pub queues: [u8; QUEUE_CELLS],
 }
 

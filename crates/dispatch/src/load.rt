@@ -14,17 +14,16 @@ use crate::State;
 use memory::sizes::HEAD_WIDTH;
 use memory::sizes::HELD_CELLS;
 use memory::sizes::HELD_WIDTH;
-use memory::sizes::OBJECT_LIMIT;
 use memory::sizes::PRIORITIES;
 use memory::sizes::QUEUE_CELLS;
 use memory::sizes::QUEUE_WIDTH;
 use memory::sizes::TASK_CELLS;
-use memory::sizes::TASK_LIMIT;
 use rules::Priority;
+use rules::Roster;
 use rules::Task;
 
 // The first n records go over the front of blank rows.
-pub fn load_tasks(tasks: [Task; TASK_LIMIT], n: usize, to: &mut [u64])
+pub fn load_tasks(tasks: [Task; Roster::TASKS], n: usize, to: &mut [u64])
     requires { ⌜ n ≤ taskLimit ⌝ }
     requires { ⌜ now to ≡ replicate (taskLimit * taskWidth) 0 ⌝ }
     ensures { λ u. ⌜ TasksLoaded tasks n (now (to .exit)) ⌝ }
@@ -38,7 +37,7 @@ pub fn load_tasks(tasks: [Task; TASK_LIMIT], n: usize, to: &mut [u64])
 }
 
 // The first n ceilings go over the front of zeros.
-pub fn load_ceilings(ceilings: [Priority; OBJECT_LIMIT], n: usize, to: &mut [u8])
+pub fn load_ceilings(ceilings: [Priority; Roster::OBJECTS], n: usize, to: &mut [u8])
     requires { ⌜ n ≤ objectLimit ⌝ }
     requires { ⌜ now to ≡ replicate objectLimit 0 ⌝ }
     ensures { λ u. ⌜ now (to .exit) ≡ padded objectLimit (take n (map level ceilings)) 0 ⌝ }
@@ -56,7 +55,7 @@ pub struct Memory {
     pub head: [u64; HEAD_WIDTH],
     pub tasks: [u64; TASK_CELLS],
     pub held: [u8; HELD_CELLS],
-    pub ceilings: [u8; OBJECT_LIMIT],
+    pub ceilings: [u8; Roster::OBJECTS],
     pub queues: [u8; QUEUE_CELLS],
 }
 
@@ -74,7 +73,7 @@ pub fn load(state: State) -> Memory
     let mut held = [0u8; HELD_CELLS];
     loading::load_lists(&holds, &mut held, HELD_WIDTH, n);
     let levels = state.ceilings;
-    let mut ceilings = [0u8; OBJECT_LIMIT];
+    let mut ceilings = [0u8; Roster::OBJECTS];
     load_ceilings(levels, state.object_count as usize, &mut ceilings);
     let ready = state.queues;
     let mut queues = [0u8; QUEUE_CELLS];

@@ -12,11 +12,10 @@ ghost use Rattle.dispatch.specs.Readers.{listAt, entryOf, queueOf, taskR
 use crate::Listed;
 use crate::State;
 use memory::sizes::HELD_WIDTH;
-use memory::sizes::OBJECT_LIMIT;
 use memory::sizes::QUEUE_WIDTH;
-use memory::sizes::TASK_LIMIT;
 use rules::Place;
 use rules::Priority;
+use rules::Roster;
 use rules::Runner;
 use rules::Task;
 use rules::WaitingBase;
@@ -46,14 +45,14 @@ fn list_entry(cells: &[u8], width: usize, row: usize, i: u64) -> Listed
 }
 
 // The ceiling of the object o, of which there are n; 0 for one that is not listed.
-fn ceiling(ceilings: [Priority; OBJECT_LIMIT], n: usize, o: u8) -> Priority
+fn ceiling(ceilings: [Priority; Roster::OBJECTS], n: usize, o: u8) -> Priority
     ensures { λ r. ⌜ r .0 ≡ ceilingOf (take n (map level ceilings)) o ⌝ }
 {
     let i = o as usize;
     if n <= i {
         return Priority(0);
     }
-    if OBJECT_LIMIT <= i {
+    if Roster::OBJECTS <= i {
         return Priority(0);
     }
     ceilings[i]
@@ -62,7 +61,7 @@ fn ceiling(ceilings: [Priority; OBJECT_LIMIT], n: usize, o: u8) -> Priority
 // The highest of p and the ceilings of the objects in a row.
 fn raised(
     held: &[u8],
-    ceilings: [Priority; OBJECT_LIMIT],
+    ceilings: [Priority; Roster::OBJECTS],
     n: usize,
     row: usize,
     p: Priority,
@@ -127,7 +126,7 @@ impl State {
         if self.task_count as u64 <= t {
             return false;
         }
-        t < TASK_LIMIT as u64
+        t < Roster::TASKS as u64
     }
 
     // The record of the task t, a blank one past the last.

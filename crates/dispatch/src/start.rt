@@ -9,11 +9,10 @@ use crate::store::store;
 use crate::test::all_in_range;
 use memory::sizes::HEAD_WIDTH;
 use memory::sizes::HELD_CELLS;
-use memory::sizes::OBJECT_LIMIT;
 use memory::sizes::QUEUE_CELLS;
 use memory::sizes::TASK_CELLS;
-use memory::sizes::TASK_LIMIT;
 use rules::Answer;
+use rules::Roster;
 
 // The fresh state of these bases and ceilings.
 fn started(bases: &[u8], given: &[u8]) -> State
@@ -23,7 +22,7 @@ fn started(bases: &[u8], given: &[u8]) -> State
     let mut head = [0u64; HEAD_WIDTH];
     let mut tasks = [0u64; TASK_CELLS];
     let mut held = [0u8; HELD_CELLS];
-    let mut ceilings = [0u8; OBJECT_LIMIT];
+    let mut ceilings = [0u8; Roster::OBJECTS];
     let mut queues = [0u8; QUEUE_CELLS];
     fresh::fresh(
         bases,
@@ -50,13 +49,7 @@ impl State {
     pub fn fresh(bases: &[u8], ceilings: &[u8]) -> Started
         ensures { λ r. ⌜ r ≡ freshOf (record { bases = now (bases .entry); ceilings = now (ceilings .entry) }) ⌝ }
     {
-        if bases.len() < 1 {
-            return refused(Answer::BadCounts);
-        }
-        if TASK_LIMIT < bases.len() {
-            return refused(Answer::BadCounts);
-        }
-        if OBJECT_LIMIT < ceilings.len() {
+        if !Roster::counts_good(bases.len(), ceilings.len()) {
             return refused(Answer::BadCounts);
         }
         if !all_in_range(bases) {

@@ -11,25 +11,24 @@ use memory::sizes::HEAD_WIDTH;
 use memory::sizes::HELD_CELLS;
 use memory::sizes::MARKS_CELL;
 use memory::sizes::NOW_CELL;
-use memory::sizes::OBJECT_LIMIT;
 use memory::sizes::OBJECTS_CELL;
 use memory::sizes::QUEUE_CELLS;
 use memory::sizes::RUNNING_CELL;
 use memory::sizes::TASK_CELLS;
-use memory::sizes::TASK_LIMIT;
 use memory::sizes::TASKS_CELL;
 use rules::Priority;
+use rules::Roster;
 use rules::Runner;
 use rules::Task;
 
-fn stored_tasks(tasks: &[u64]) -> [Task; TASK_LIMIT]
+fn stored_tasks(tasks: &[u64]) -> [Task; Roster::TASKS]
     requires { ⌜ Tasks (now tasks) ⌝ }
     ensures { λ r. ⌜ r ≡ tasksIn (now (tasks .entry)) ⌝ }
 {
     let first = memory::tasks::get(tasks, 0);
-    let mut records = [first; TASK_LIMIT];
+    let mut records = [first; Roster::TASKS];
     let mut i: usize = 0;
-    while i < TASK_LIMIT {
+    while i < Roster::TASKS {
         let k = memory::tasks::get(tasks, i);
         records[i] = k;
         i += 1;
@@ -37,12 +36,12 @@ fn stored_tasks(tasks: &[u64]) -> [Task; TASK_LIMIT]
     records
 }
 
-fn stored_ceilings(ceilings: [u8; OBJECT_LIMIT]) -> [Priority; OBJECT_LIMIT]
+fn stored_ceilings(ceilings: [u8; Roster::OBJECTS]) -> [Priority; Roster::OBJECTS]
     ensures { λ r. ⌜ r ≡ map priority ceilings ⌝ }
 {
-    let mut levels = [Priority(0); OBJECT_LIMIT];
+    let mut levels = [Priority(0); Roster::OBJECTS];
     let mut i: usize = 0;
-    while i < OBJECT_LIMIT {
+    while i < Roster::OBJECTS {
         let p = Priority(ceilings[i]);
         levels[i] = p;
         i += 1;
@@ -66,7 +65,7 @@ pub fn store(
     head: [u64; HEAD_WIDTH],
     tasks: [u64; TASK_CELLS],
     held: [u8; HELD_CELLS],
-    ceilings: [u8; OBJECT_LIMIT],
+    ceilings: [u8; Roster::OBJECTS],
     queues: [u8; QUEUE_CELLS],
 ) -> State
     requires { ⌜ Valid head tasks held ceilings queues ⌝ }

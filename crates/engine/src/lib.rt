@@ -3,14 +3,14 @@ ghost use Rattle.rules.specs.Events.{apply};
 ghost use Rattle.memory.specs.Memory.{modelOf, Valid, Moves};
 use memory::sizes::HEAD_WIDTH;
 use memory::sizes::HELD_CELLS;
-use memory::sizes::OBJECT_LIMIT;
 use rules::Event;
+use rules::Roster;
 
 pub fn apply(
     head: &mut [u64; HEAD_WIDTH],
     tasks: &mut [u64],
     held: &mut [u8; HELD_CELLS],
-    ceilings: &[u8; OBJECT_LIMIT],
+    ceilings: &[u8; Roster::OBJECTS],
     queues: &mut [u8],
     event: Event,
 ) -> u8

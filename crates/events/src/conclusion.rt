@@ -8,8 +8,8 @@ ghost use Rattle.moves.specs.Room.{Dispatches};
 use memory::rulings;
 use memory::sizes::HEAD_WIDTH;
 use memory::sizes::HELD_CELLS;
-use memory::sizes::OBJECT_LIMIT;
 use memory::sizes::RUNNING_CELL;
+use rules::Roster;
 
 // Accepted, with the report by the running cell before the event, when its dispatch begins, and after it.
 fn accepted_by(before: u64, pending: u64, after: u64) -> u8
@@ -33,7 +33,7 @@ pub fn conclude(
     head: &mut [u64; HEAD_WIDTH],
     tasks: &mut [u64],
     held: &[u8; HELD_CELLS],
-    ceilings: &[u8; OBJECT_LIMIT],
+    ceilings: &[u8; Roster::OBJECTS],
     queues: &mut [u8],
     before: u64,
 ) -> u8

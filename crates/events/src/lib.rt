@@ -16,7 +16,6 @@ use memory::sizes::LAST_READING;
 use memory::sizes::LONGEST_ADVANCE;
 use memory::sizes::NEXT_CELL;
 use memory::sizes::NOW_CELL;
-use memory::sizes::OBJECT_LIMIT;
 use memory::sizes::OBJECTS_CELL;
 use memory::sizes::RUNNING_CELL;
 use memory::sizes::TASKS_CELL;
@@ -25,13 +24,14 @@ use moves::effects;
 use moves::waking;
 use rules::Place;
 use rules::Priority;
+use rules::Roster;
 
 // No dispatch follows: who enters stays the highest.
 pub fn enter(
     head: &[u64; HEAD_WIDTH],
     tasks: &[u64],
     held: &mut [u8; HELD_CELLS],
-    ceilings: &[u8; OBJECT_LIMIT],
+    ceilings: &[u8; Roster::OBJECTS],
     queues: &[u8],
     o: u64,
 ) -> u8
@@ -66,7 +66,7 @@ pub fn leave(
     head: &mut [u64; HEAD_WIDTH],
     tasks: &mut [u64],
     held: &mut [u8; HELD_CELLS],
-    ceilings: &[u8; OBJECT_LIMIT],
+    ceilings: &[u8; Roster::OBJECTS],
     queues: &mut [u8],
     o: u64,
 ) -> u8
@@ -100,7 +100,7 @@ pub fn delay(
     head: &mut [u64; HEAD_WIDTH],
     tasks: &mut [u64],
     held: &[u8; HELD_CELLS],
-    ceilings: &[u8; OBJECT_LIMIT],
+    ceilings: &[u8; Roster::OBJECTS],
     queues: &mut [u8],
     d: u16,
 ) -> u8
@@ -129,7 +129,7 @@ pub fn suspend(
     head: &mut [u64; HEAD_WIDTH],
     tasks: &mut [u64],
     held: &[u8; HELD_CELLS],
-    ceilings: &[u8; OBJECT_LIMIT],
+    ceilings: &[u8; Roster::OBJECTS],
     queues: &mut [u8],
 ) -> u8
     requires { ⌜ Valid (now head) (now tasks) (now held) (now ceilings) (now queues) ⌝ }
@@ -157,7 +157,7 @@ pub fn release(
     head: &mut [u64; HEAD_WIDTH],
     tasks: &mut [u64],
     held: &[u8; HELD_CELLS],
-    ceilings: &[u8; OBJECT_LIMIT],
+    ceilings: &[u8; Roster::OBJECTS],
     queues: &mut [u8],
     t: u64,
 ) -> u8
@@ -199,7 +199,7 @@ pub fn clock(
     head: &mut [u64; HEAD_WIDTH],
     tasks: &mut [u64],
     held: &[u8; HELD_CELLS],
-    ceilings: &[u8; OBJECT_LIMIT],
+    ceilings: &[u8; Roster::OBJECTS],
     queues: &mut [u8],
     r: u64,
 ) -> u8
@@ -227,7 +227,7 @@ pub fn set(
     head: &mut [u64; HEAD_WIDTH],
     tasks: &mut [u64],
     held: &[u8; HELD_CELLS],
-    ceilings: &[u8; OBJECT_LIMIT],
+    ceilings: &[u8; Roster::OBJECTS],
     queues: &mut [u8],
     t: u64,
     p: Priority,
@@ -264,7 +264,7 @@ pub fn work(
     head: &[u64; HEAD_WIDTH],
     tasks: &[u64],
     held: &[u8; HELD_CELLS],
-    ceilings: &[u8; OBJECT_LIMIT],
+    ceilings: &[u8; Roster::OBJECTS],
     queues: &[u8],
 ) -> u8
     requires { ⌜ Valid (now head) (now tasks) (now held) (now ceilings) (now queues) ⌝ }
@@ -283,7 +283,7 @@ pub fn finish(
     head: &mut [u64; HEAD_WIDTH],
     tasks: &mut [u64],
     held: &[u8; HELD_CELLS],
-    ceilings: &[u8; OBJECT_LIMIT],
+    ceilings: &[u8; Roster::OBJECTS],
     queues: &mut [u8],
 ) -> u8
     requires { ⌜ Valid (now head) (now tasks) (now held) (now ceilings) (now queues) ⌝ }

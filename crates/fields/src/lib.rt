@@ -6,7 +6,7 @@ ghost use Rattle.rules.specs.Model.{ceilingOf};
 ghost use Rattle.format.specs.Format.{trailer, taskCount, objectCount, taskTable, objectTable};
 ghost use Rattle.format.specs.Format.{taskRow, objectRow, baseAt, startAt, lengthAt};
 ghost use Rattle.format.specs.Roster.{rosterOf, baseOf};
-use format::Limits;
+use format::File;
 use rules::Priority;
 
 pub mod steps;
@@ -16,10 +16,10 @@ pub fn trailer_of(s: &[u8]) -> usize
     ensures { λ r. ⌜ r ≡ trailer (now (s .entry)) ⌝ }
 {
     let n = s.len();
-    if n < Limits::TRAILER {
+    if n < File::TRAILER {
         return 0;
     }
-    n - Limits::TRAILER
+    n - File::TRAILER
 }
 
 pub fn task_count(s: &[u8]) -> u8
@@ -54,14 +54,14 @@ pub fn task_row(s: &[u8], t: u8) -> u32
     ensures { λ r. ⌜ r ≡ taskRow (now (s .entry)) t ⌝ }
 {
     let table = task_table(s) as u32;
-    table + Limits::TASK_ROW * (t as u32)
+    table + File::TASK_ROW * (t as u32)
 }
 
 pub fn object_row(s: &[u8], o: u8) -> u32
     ensures { λ r. ⌜ r ≡ objectRow (now (s .entry)) o ⌝ }
 {
     let table = object_table(s) as u32;
-    table + Limits::OBJECT_ROW * (o as u32)
+    table + File::OBJECT_ROW * (o as u32)
 }
 
 pub fn base_at(s: &[u8], t: u8) -> Priority

@@ -3,7 +3,7 @@ ghost use mathlib.Core.Path.{_≡_};
 ghost use Rattle.format.specs.Steps.{setStep, stepOf, stepsOf, stepIn};
 ghost use Prim.Native.Nat.{_+_, _<_};
 ghost use Rattle.rules.specs.Priorities.{checkedOf};
-use format::Limits;
+use format::File;
 use format::Step;
 use rules::Checked;
 use rules::Priority;
@@ -39,8 +39,8 @@ pub fn step_of(code: u8, a: u8, b: u16) -> Step
 pub fn step_at(part: &[u8], k: usize) -> Step
     ensures { λ r. ⌜ r ≡ stepIn (stepsOf (now (part .entry))) k ⌝ }
 {
-    if k < part.len() / Limits::STEP {
-        let at = Limits::STEP * k;
+    if k < part.len() / File::STEP {
+        let at = File::STEP * k;
         let code = part[at];
         if code == Step::WORK {
             return Step::Work;

@@ -81,7 +81,7 @@ unfolding Model.highestOf Lists.timesIn Lists.without Lists.allOf Lists.below Wo
     Form.scriptPart Check.heldAfter Check.heldBefore Check.ownSet Check.topOf Check.whileHeld Check.lowCeiling Check.notInnermost
     Check.otherTask Check.faultOf Check.faultIn Check.stepsFault Check.topAt Check.scriptFault Check.rosterFault Check.checkOf Cases.cases
     Cases.lookups
-long-roster-refused s h = simp (lt-leb (length s) 32768 h, and-none (leb 14 (length s)))
+long-roster-refused s h = simp (lt-leb (length s) 60000 h, and-none (leb 14 (length s)))
   where
     and-none : (a : Bool) → (a && false) ≡ false
     and-none true = refl

@@ -5,10 +5,9 @@ use mathlib.Core.List.{List}
 use Prim.Native.Nat.{ℕ, zero, suc, _+_, _%_, _≤_, _<_}
 use native.Mathlib.Omega.{arith}
 use native.Mathlib.Numerals.{add-one}
-use borrow.Author.Tests.{eqb-true, eqb-false, eq-eqb, ne-eqb, lt-leb, le-leb}
-use lib.Dec.{eqb, leb}
+use borrow.Author.Tests.{eqb-true, eqb-false, eq-eqb, ne-eqb}
+use lib.Dec.{eqb}
 use lib.ListN.{length}
-use Rattle.rules.specs.Limits.{taskLimit, objectLimit}
 use Rattle.rules.specs.Priorities.{inRange}
 use Rattle.rules.specs.Lists.{below}
 use Rattle.rules.proofs.Choices.{and-left, and-right}
@@ -39,22 +38,6 @@ module _ (s : List ℕ) where
       let x : byteAt s (trailer s) ≡ firstMark = cc in
       let y : eqb b secondMark ≡ eqb (byteAt s (trailer s + 1)) secondMark = cc in
       and-yes (eqb (byteAt s (trailer s)) firstMark) (eqb (byteAt s (trailer s + 1)) secondMark) _ (eq-eqb _ firstMark x) y
-
-  -- 13
-  pub counts-few : (n : ℕ) → n ≡ taskCount s → n < 1 → false ≡ countsKept s
-  unfolding countsKept
-  counts-few n e h = three-first _ _ _ (lt-leb 1 (taskCount s) (omega arith))
-
-  pub counts-many : (n : ℕ) → n ≡ taskCount s → 1 ≤ n → taskLimit < n → false ≡ countsKept s
-  unfolding countsKept
-  counts-many n e g h =
-      three-second _ _ _ (le-leb 1 (taskCount s) (omega arith)) (lt-leb (taskCount s) taskLimit (omega arith))
-
-  pub counts-rest : (n m : ℕ) → n ≡ taskCount s → m ≡ objectCount s → 1 ≤ n → n ≤ taskLimit → leb m objectLimit ≡ countsKept s
-  unfolding countsKept
-  counts-rest n m e f g h =
-      three-third _ _ _ _ (le-leb 1 (taskCount s) (omega arith)) (le-leb (taskCount s) taskLimit (omega arith))
-      (ap (λ (x : ℕ). leb x objectLimit) f)
 
   -- 14
   pub tables-no : (n row table : ℕ) → n ≡ taskCount s → row ≡ taskRow s n → table ≡ objectTable s → (row ≡ table → ⊥) →

@@ -3,13 +3,14 @@ use mathlib.Core.Path.{_≡_, refl, ap, sym, _∙_}
 use mathlib.Core.Bool.{Bool, true, cond, not, _&&_}
 use mathlib.Core.List.{List}
 use Prim.Native.Nat.{ℕ, suc, _+_, _≤_, _<_}
-use borrow.Author.Tests.{leb-true, ltb-true, ltb-false, not-false}
-use lib.Dec.{eqb, leb, ltb}
+use borrow.Author.Tests.{ltb-true, ltb-false, not-false}
+use lib.Dec.{eqb, ltb}
 use lib.ListN.{length}
 use Rattle.rules.specs.Limits.{taskLimit, objectLimit}
 use Rattle.rules.specs.Priorities.{inRange}
 use Rattle.rules.specs.Lists.{below}
 use Rattle.rules.proofs.Choices.{and-left, and-right}
+use Rattle.rules.proofs.LimitLaws.{Counted, counted-by}
 use Rattle.format.specs.Limits.{taskRowSize}
 use Rattle.format.specs.Answers.{passed}
 use Rattle.words.specs.Words.{byteAt}
@@ -55,24 +56,18 @@ module _ (s : List ℕ) where
 
 module _ (s : List ℕ) (ok : formOf s ≡ Passed) where
   -- 13
-  counts-all : (leb 1 (taskCount s) && leb (taskCount s) taskLimit && leb (objectCount s) objectLimit) ≡ true
+  counted : Counted (taskCount s) (objectCount s)
   unfolding countsKept
-  counts-all = formed s ok .counts
+  counted = counted-by (taskCount s) (objectCount s) (formed s ok .counts)
 
   pub tasks-some : 1 ≤ taskCount s
-  tasks-some =
-      leb-true 1 _ (and-left (leb 1 (taskCount s)) (leb (taskCount s) taskLimit)
-      (and-left (leb 1 (taskCount s) && leb (taskCount s) taskLimit) (leb (objectCount s) objectLimit) counts-all))
+  tasks-some = counted .some
 
   pub tasks-few : taskCount s ≤ taskLimit
-  tasks-few =
-      leb-true _ taskLimit (and-right (leb 1 (taskCount s)) (leb (taskCount s) taskLimit)
-      (and-left (leb 1 (taskCount s) && leb (taskCount s) taskLimit) (leb (objectCount s) objectLimit) counts-all))
+  tasks-few = counted .tasks
 
   pub objects-few : objectCount s ≤ objectLimit
-  objects-few =
-      leb-true _ objectLimit
-      (and-right (leb 1 (taskCount s) && leb (taskCount s) taskLimit) (leb (objectCount s) objectLimit) counts-all)
+  objects-few = counted .objects
 
   -- 14
   pub part-inside : (t : ℕ) → t < taskCount s → startAt s t + lengthAt s t ≤ length s

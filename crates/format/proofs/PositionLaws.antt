@@ -8,7 +8,7 @@ use borrow.Author.Tests.{leb-true}
 use lib.Dec.{leb, eqb}
 use lib.ListN.{length, drop, length-take, length-drop}
 use Rattle.rules.proofs.Choices.{and-right}
-use Rattle.format.specs.Limits.{smallestRoster, largestRoster}
+use Rattle.rules.specs.Limits.{smallestRoster, largestRoster}
 use Rattle.format.specs.Answers.{passed, positionOf, first}
 use Rattle.format.specs.Format.{taskCount, objectCount, startAt, lengthAt, partAt}
 use Rattle.format.specs.Steps.{aAt, bAt, stepAt, stepCount, stepIn}

@@ -10,7 +10,8 @@ use lib.ListN.{length}
 use Rattle.rules.specs.Model.{ceilingOf}
 use Rattle.rules.proofs.Choices.{and-right}
 use Rattle.rules.specs.declared.Priority.{Priority}
-use Rattle.format.specs.Limits.{smallestRoster, largestRoster, stepSize}
+use Rattle.rules.specs.Limits.{smallestRoster, largestRoster}
+use Rattle.format.specs.Limits.{stepSize}
 use Rattle.format.specs.Answers.{passed}
 use Rattle.format.specs.Format.{objectCount, partAt}
 use Rattle.format.specs.Steps.{stepsOf, stepIn}

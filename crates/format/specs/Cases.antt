@@ -85,8 +85,8 @@ cases =
     case (set (set plain 18 53) 20 0) 12 0 0 ∷
     case (set plain 19 52) 12 0 0 ∷
     case (set plain 20 0) 13 0 0 ∷
-    case (set plain 20 33) 13 0 0 ∷
-    case (set plain 21 17) 13 0 0 ∷
+    case (set plain 20 65) 13 0 0 ∷
+    case (set plain 21 33) 13 0 0 ∷
     case (set (set plain 10 4) 8 0) 14 0 0 ∷
     case (set plain 22 15) 14 0 0 ∷
     case (set (set plain 8 33) 0 9) 15 0 0 ∷
@@ -143,9 +143,9 @@ answered s = numberOf (checkOf s) ∷ taskOf (checkOf s) ∷ positionOf (checkOf
 abbrev pub Judged : Type 0
 Judged = map (λ (c : Case). answered (c .roster)) cases ≡ map (λ (c : Case). c .says) cases
 
--- 11 "roster 14 to 32,768 bytes"
+-- 11 "roster up to 60,000 bytes" (2026-07)
 abbrev pub LongRosterRefused : Type 0
-LongRosterRefused = (s : List ℕ) → 32768 < length s → checkOf s ≡ BadLength
+LongRosterRefused = (s : List ℕ) → 60000 < length s → checkOf s ≡ BadLength
 
 -- a roster, a task, and the number and the part that its script's reader gives
 pub record Lookup : Type 0 where

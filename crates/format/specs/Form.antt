@@ -2,12 +2,12 @@
 use mathlib.Core.Bool.{Bool, true, false, cond, not, _&&_}
 use mathlib.Core.List.{List, []}
 use Prim.Native.Nat.{ℕ, zero, suc, _+_, _%_}
-use lib.Dec.{eqb, leb, ltb}
+use lib.Dec.{eqb, ltb}
 use lib.ListN.{length}
 use Rattle.rules.specs.Priorities.{inRange}
-use Rattle.rules.specs.Fresh.{countsGood}
+use Rattle.rules.specs.Limits.{countsGood, sizeGood}
 use Rattle.rules.specs.Lists.{below}
-use Rattle.format.specs.Limits.{smallestRoster, largestRoster, firstMark, secondMark, stepSize}
+use Rattle.format.specs.Limits.{firstMark, secondMark, stepSize}
 use Rattle.format.specs.Answers.{passed, first}
 use Rattle.words.specs.Words.{byteAt}
 use Rattle.format.specs.Format.{trailer, taskCount, objectCount, taskTable, objectTable}
@@ -19,15 +19,15 @@ use Rattle.format.specs.declared.Verdict.{Verdict}
 use Rattle.format.specs.declared.Verdict.the-variants.{Passed, NoSuchTask, BadLength, BadMark}
 use Rattle.format.specs.declared.Verdict.the-variants.{BadCounts, BadLayout, BadValues, BadStep}
 
--- 11 "length": "roster 14 to 32,768 bytes"
+-- 11 "length"
 unfoldable pub lengthGood : List ℕ → Bool
-lengthGood s = leb smallestRoster (length s) && leb (length s) largestRoster
+lengthGood s = sizeGood (length s)
 
 -- 12 "mark"
 unfoldable pub markGood : List ℕ → Bool
 markGood s = eqb (byteAt s (trailer s)) firstMark && eqb (byteAt s (trailer s + 1)) secondMark
 
--- 13 "counts": "tasks 1 to 32, objects 0 to 16"
+-- 13 "counts"
 unfoldable pub countsKept : List ℕ → Bool
 countsKept s = countsGood (taskCount s) (objectCount s)
 

@@ -1,13 +1,6 @@
--- The sizes, marks and codes of the roster file (document 01, "What is built" and "The roster"), each named once.
--- How many tasks and objects there may be is said by rules' Limits.
+-- The sizes of the parts, the marks and the codes of the roster file (document 01, "The roster"), each named once.
+-- How many bytes, tasks and objects there may be is said by rules' Limits.
 use Prim.Native.Nat.{ℕ}
-
--- "roster 14 to 32,768 bytes"
-abbrev pub smallestRoster : ℕ
-smallestRoster = 14
-
-abbrev pub largestRoster : ℕ
-largestRoster = 32768
 
 -- "an 8-byte trailer"; "Task row, 6 bytes"; "Object row, 2 bytes"; "A step has 4 bytes"
 abbrev pub trailerSize : ℕ

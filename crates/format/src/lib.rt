@@ -1,20 +1,12 @@
-// The kinds of the roster file: its limits, its steps and their codes, and what its form and check answer. Their meaning is in specs/.
+// The kinds of the roster file: its sizes, its steps and their codes, and what its form and check answer. Their meaning is in specs/.
 ghost use mathlib.Core.Path.{_≡_};
 ghost use Rattle.format.specs.Answers.{numberOf, taskOf, positionOf, passed};
 use rules::Priority;
 
-// The sizes of a roster, all of this kind.
-pub struct Limits;
+// The sizes of a roster file's parts and its mark, all of this kind; how large it may be is said by Roster of the rules.
+pub struct File;
 
-impl Limits {
-    pub const SMALLEST: usize = 14;
-
-    pub const LARGEST: usize = 32768;
-
-    pub const TASKS: usize = 32;
-
-    pub const OBJECTS: usize = 16;
-
+impl File {
     pub const TRAILER: usize = 8;
 
     pub const TASK_ROW: u32 = 6;

@@ -15,13 +15,13 @@ use memory::sizes::MARKS_CELL;
 use memory::sizes::NEXT_CELL;
 use memory::sizes::NO_DUE;
 use memory::sizes::NOW_CELL;
-use memory::sizes::OBJECT_LIMIT;
 use memory::sizes::OBJECTS_CELL;
 use memory::sizes::RUNNING_CELL;
 use memory::sizes::TASKS_CELL;
 use memory::tasks;
 use rules::Place;
 use rules::Priority;
+use rules::Roster;
 use rules::Task;
 use rules::WaitingBase;
 
@@ -84,7 +84,7 @@ fn join_all(
     head: &mut [u64; HEAD_WIDTH],
     tasks: &mut [u64],
     held: &[u8; HELD_CELLS],
-    ceilings: &[u8; OBJECT_LIMIT],
+    ceilings: &[u8; Roster::OBJECTS],
     queues: &mut [u8],
 )
     requires { ⌜ LaidOut (now head) (now tasks) (now held) (now ceilings) (now queues) ⌝ }
@@ -109,7 +109,7 @@ fn lay_out(
     head: &mut [u64; HEAD_WIDTH],
     tasks: &mut [u64],
     held: &mut [u8; HELD_CELLS],
-    ceilings: &mut [u8; OBJECT_LIMIT],
+    ceilings: &mut [u8; Roster::OBJECTS],
     queues: &mut [u8],
 )
     requires { ⌜ Startable (record { bases = now bases; ceilings = now given }) ⌝ }
@@ -138,7 +138,7 @@ pub fn fresh(
     head: &mut [u64; HEAD_WIDTH],
     tasks: &mut [u64],
     held: &mut [u8; HELD_CELLS],
-    ceilings: &mut [u8; OBJECT_LIMIT],
+    ceilings: &mut [u8; Roster::OBJECTS],
     queues: &mut [u8],
 )
     requires { ⌜ Startable (record { bases = now bases; ceilings = now given }) ⌝ }

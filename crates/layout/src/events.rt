@@ -15,12 +15,12 @@ use cells::slices::store;
 use dispatch::State;
 use memory::rulings;
 use memory::sizes::HELD_CELLS;
-use memory::sizes::OBJECT_LIMIT;
 use memory::sizes::QUEUE_CELLS;
 use memory::sizes::TASK_CELLS;
 use rules::Answer;
 use rules::Event;
 use rules::Report;
+use rules::Roster;
 use rules::Runner;
 use state_bytes::write;
 use words::long_at;
@@ -37,7 +37,7 @@ pub fn apply(bytes: &mut [u8], event: Event, report: &mut u8) -> u8
     }
     let mut tasks = [0u64; TASK_CELLS];
     let mut held = [0u8; HELD_CELLS];
-    let mut ceilings = [0u8; OBJECT_LIMIT];
+    let mut ceilings = [0u8; Roster::OBJECTS];
     let mut queues = [0u8; QUEUE_CELLS];
     let mut head = load(bytes, &mut tasks, &mut held, &mut ceilings, &mut queues);
     let marks = long_at(bytes, MARKS_AT);
@@ -87,7 +87,7 @@ pub fn sound(bytes: &[u8]) -> u8
     }
     let mut tasks = [0u64; TASK_CELLS];
     let mut held = [0u8; HELD_CELLS];
-    let mut ceilings = [0u8; OBJECT_LIMIT];
+    let mut ceilings = [0u8; Roster::OBJECTS];
     let mut queues = [0u8; QUEUE_CELLS];
     let head = load(bytes, &mut tasks, &mut held, &mut ceilings, &mut queues);
     let marks = long_at(bytes, MARKS_AT);

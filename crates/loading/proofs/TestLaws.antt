@@ -5,11 +5,10 @@ use mathlib.Core.List.{List}
 use Prim.Native.Nat.{ℕ, zero, suc, _-_, _*_, _≤_, _<_}
 use native.Mathlib.Nat.{not-suc-le-zero}
 use native.Mathlib.Numerals.{sub-one}
-use borrow.Author.Tests.{lt-ltb, le-ltb, lt-leb, le-leb}
-use lib.Dec.{leb, ltb}
+use borrow.Author.Tests.{lt-ltb, le-ltb}
+use lib.Dec.{ltb}
 use lib.ListN.{getD}
-use Rattle.rules.specs.Limits.{taskLimit, objectLimit, lastPriority}
-use Rattle.rules.specs.Fresh.{countsGood}
+use Rattle.rules.specs.Limits.{lastPriority, countsGood}
 use Rattle.rules.specs.Lists.{below}
 use Rattle.memory.specs.Rows.{heldWidth, queueWidth}
 use Rattle.loading.specs.Loading.{lengthsGood, partsFit}
@@ -44,18 +43,11 @@ module _ (w : ℕ) (l : List ℕ) where
 
 -- the tests of all sizes, each where those before it hold
 module _ (n m : ℕ) (hd qs : List ℕ) where
-  pub fits-none : n < 1 → false ≡ partsFit n m hd qs
-  fits-none h = rw (lt-leb 1 n h)
-
-  pub fits-many : taskLimit < n → false ≡ partsFit n m hd qs
-  fits-many h = rw (and-false (leb 1 n) (leb n taskLimit) (lt-leb n taskLimit h))
-
-  pub fits-objects : objectLimit < m → false ≡ partsFit n m hd qs
-  fits-objects h = rw (and-false (leb 1 n && leb n taskLimit) (leb m objectLimit) (lt-leb m objectLimit h))
+  pub fits-counts : countsGood n m ≡ false → false ≡ partsFit n m hd qs
+  fits-counts e = rw e
 
   pub fits-held : lengthsGood heldWidth n hd ≡ false → false ≡ partsFit n m hd qs
   fits-held e = rw (and-false (countsGood n m) (lengthsGood heldWidth n hd) e)
 
-  pub fits-queues : 1 ≤ n → n ≤ taskLimit → m ≤ objectLimit → lengthsGood heldWidth n hd ≡ true →
-      lengthsGood queueWidth lastPriority qs ≡ partsFit n m hd qs
-  fits-queues a b c e = rw (le-leb 1 n a, le-leb n taskLimit b, le-leb m objectLimit c, e)
+  pub fits-queues : countsGood n m ≡ true → lengthsGood heldWidth n hd ≡ true → lengthsGood queueWidth lastPriority qs ≡ partsFit n m hd qs
+  fits-queues e f = rw (e, f)

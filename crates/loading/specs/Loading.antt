@@ -4,8 +4,7 @@ use mathlib.Core.List.{List, [], _∷_}
 use Prim.Native.Nat.{ℕ, _+_, _*_}
 use lib.Dec.{ltb}
 use lib.ListN.{getD}
-use Rattle.rules.specs.Limits.{lastPriority}
-use Rattle.rules.specs.Fresh.{countsGood}
+use Rattle.rules.specs.Limits.{lastPriority, countsGood}
 use Rattle.rules.specs.Lists.{below}
 use Rattle.rules.specs.declared.Runner.{Runner}
 use Rattle.rules.specs.declared.Runner.the-variants.{Nobody, Task as Runs}

@@ -10,10 +10,9 @@ ghost use Rattle.memory.specs.Rows.{inRow, rowFor, lists, heldWidth, queueWidth
 ghost use Rattle.loading.specs.Loading.{lengthsGood, partsFit, codeOf, headFor};
 use memory::sizes::HEAD_WIDTH;
 use memory::sizes::HELD_WIDTH;
-use memory::sizes::OBJECT_LIMIT;
 use memory::sizes::PRIORITIES;
 use memory::sizes::QUEUE_WIDTH;
-use memory::sizes::TASK_LIMIT;
+use rules::Roster;
 use rules::Runner;
 
 // The lengths in the first n rows leave room for themselves.
@@ -39,13 +38,7 @@ pub fn sizes_fit(tasks: u8, objects: u8, held: &[u8], queues: &[u8]) -> bool
     ensures { λ r. ⌜ r ≡ partsFit tasks objects (now (held .entry)) (now (queues .entry)) ⌝ }
 {
     let n = tasks as usize;
-    if n < 1 {
-        return false;
-    }
-    if TASK_LIMIT < n {
-        return false;
-    }
-    if OBJECT_LIMIT < objects as usize {
+    if !Roster::counts_good(n, objects as usize) {
         return false;
     }
     if lengths_good(held, HELD_WIDTH, n) {

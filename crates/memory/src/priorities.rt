@@ -10,10 +10,10 @@ use crate::held;
 use crate::sizes::HEAD_WIDTH;
 use crate::sizes::HELD_CELLS;
 use crate::sizes::HELD_WIDTH;
-use crate::sizes::OBJECT_LIMIT;
 use crate::sizes::OBJECTS_CELL;
 use crate::tasks;
 use rules::Priority;
+use rules::Roster;
 
 // The ceiling of the object o, of which there are n; 0 for one that is not listed.
 pub fn ceiling(ceilings: &[u8], n: usize, o: u8) -> Priority
@@ -73,7 +73,7 @@ pub fn active_inside(
     head: &[u64; HEAD_WIDTH],
     tasks: &[u64],
     held: &[u8; HELD_CELLS],
-    ceilings: &[u8; OBJECT_LIMIT],
+    ceilings: &[u8; Roster::OBJECTS],
     queues: &[u8],
     t: usize,
 ) -> Priority

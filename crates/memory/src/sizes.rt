@@ -1,7 +1,5 @@
 // The sizes of the slices, the cells of their rows and the kinds of place; specs/ has the same.
-pub const TASK_LIMIT: usize = 32;
-
-pub const OBJECT_LIMIT: usize = 16;
+use rules::Roster;
 
 pub const PRIORITIES: usize = 32;
 
@@ -15,9 +13,9 @@ pub const LONGEST_ADVANCE: u64 = 86400000;
 pub const LAST_DELAY: u64 = 65535;
 
 // A row's first cell is the length of its list.
-pub const QUEUE_WIDTH: usize = TASK_LIMIT + 1;
+pub const QUEUE_WIDTH: usize = Roster::TASKS + 1;
 
-pub const HELD_WIDTH: usize = OBJECT_LIMIT + 1;
+pub const HELD_WIDTH: usize = Roster::OBJECTS + 1;
 
 // A task's row, and its cells.
 pub const TASK_WIDTH: usize = 5;
@@ -63,8 +61,8 @@ pub const NEXT_CELL: usize = 5;
 pub const NO_DUE: u64 = 18446744073709551615;
 
 // The cells of all task records, of all held lists and of all queues.
-pub const TASK_CELLS: usize = TASK_LIMIT * TASK_WIDTH;
+pub const TASK_CELLS: usize = Roster::TASKS * TASK_WIDTH;
 
-pub const HELD_CELLS: usize = TASK_LIMIT * HELD_WIDTH;
+pub const HELD_CELLS: usize = Roster::TASKS * HELD_WIDTH;
 
 pub const QUEUE_CELLS: usize = PRIORITIES * QUEUE_WIDTH;

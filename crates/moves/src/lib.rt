@@ -10,11 +10,11 @@ use memory::priorities;
 use memory::queues;
 use memory::sizes::HEAD_WIDTH;
 use memory::sizes::HELD_CELLS;
-use memory::sizes::OBJECT_LIMIT;
 use memory::sizes::RUNNING_CELL;
 use memory::tasks;
 use rules::Place;
 use rules::Priority;
+use rules::Roster;
 
 pub mod effects;
 pub mod waking;
@@ -24,7 +24,7 @@ pub fn become_ready(
     head: &mut [u64; HEAD_WIDTH],
     tasks: &mut [u64],
     held: &[u8; HELD_CELLS],
-    ceilings: &[u8; OBJECT_LIMIT],
+    ceilings: &[u8; Roster::OBJECTS],
     queues: &mut [u8],
     t: usize,
 )
@@ -46,7 +46,7 @@ pub fn preempt(
     head: &mut [u64; HEAD_WIDTH],
     tasks: &mut [u64],
     held: &[u8; HELD_CELLS],
-    ceilings: &[u8; OBJECT_LIMIT],
+    ceilings: &[u8; Roster::OBJECTS],
     queues: &mut [u8],
     t: usize,
     p: Priority,
@@ -70,7 +70,7 @@ pub fn start(
     head: &mut [u64; HEAD_WIDTH],
     tasks: &mut [u64],
     held: &[u8; HELD_CELLS],
-    ceilings: &[u8; OBJECT_LIMIT],
+    ceilings: &[u8; Roster::OBJECTS],
     queues: &mut [u8],
     p: Priority,
 )
@@ -93,7 +93,7 @@ fn level(
     head: &[u64; HEAD_WIDTH],
     tasks: &[u64],
     held: &[u8; HELD_CELLS],
-    ceilings: &[u8; OBJECT_LIMIT],
+    ceilings: &[u8; Roster::OBJECTS],
     queues: &[u8],
 ) -> Priority
     requires { ⌜ LaidOut (now head) (now tasks) (now held) (now ceilings) (now queues) ⌝ }
@@ -115,7 +115,7 @@ fn vacate(
     head: &mut [u64; HEAD_WIDTH],
     tasks: &mut [u64],
     held: &[u8; HELD_CELLS],
-    ceilings: &[u8; OBJECT_LIMIT],
+    ceilings: &[u8; Roster::OBJECTS],
     queues: &mut [u8],
     p: Priority,
 )
@@ -147,7 +147,7 @@ pub fn dispatch(
     head: &mut [u64; HEAD_WIDTH],
     tasks: &mut [u64],
     held: &[u8; HELD_CELLS],
-    ceilings: &[u8; OBJECT_LIMIT],
+    ceilings: &[u8; Roster::OBJECTS],
     queues: &mut [u8],
 )
     requires { ⌜ LaidOut (now head) (now tasks) (now held) (now ceilings) (now queues) ⌝ }

@@ -7,7 +7,7 @@ use native.Mathlib.Omega.{arith}
 use lib.Dec.{ltb}
 use Rattle.rules.proofs.Choices.{both-ways}
 use Rattle.format.specs.Answers.{numberOf, taskOf, positionOf, passed}
-use Rattle.format.specs.Limits.{largestRoster}
+use Rattle.rules.specs.Limits.{largestRoster}
 use Rattle.format.specs.Check.{checkOf}
 use Rattle.format.specs.declared.Verdict.{Verdict}
 use Rattle.format.proofs.PositionLaws.{check-small}

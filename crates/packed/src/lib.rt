@@ -2,7 +2,7 @@
 // what a reader of a roster finds.
 ghost use mathlib.Core.Path.{_≡_};
 ghost use Prim.Native.Nat.{_<_, _≤_};
-ghost use Rattle.format.specs.Limits.{largestRoster};
+ghost use Rattle.rules.specs.Limits.{largestRoster};
 ghost use Rattle.packed.specs.Packed.{packed, packedPriority, stepWord, wordOf, packedStep};
 use format::PriorityFound;
 use format::Step;

@@ -6,13 +6,16 @@ ghost use Rattle.io.specs.Counts.{Counts};
 ghost use Rattle.lines.specs.Printed.{linesEnough, printed};
 use libc::STDIN_FILENO;
 use libc::STDOUT_FILENO;
+use trace::sizes::EVENT_SIZE;
+use trace::sizes::LARGEST_EVENTS;
+use trace::sizes::REPLY_SIZE;
 
 mod printing;
 
 pub use printing::printed;
 
-// Three bytes for each of the 4,096 events that a run takes.
-const REPLIES_ROOM: usize = 12288;
+// A reply to each of the events that a run takes.
+const REPLIES_ROOM: usize = REPLY_SIZE * (LARGEST_EVENTS / EVENT_SIZE);
 
 // So many bytes past the longest events are read, so that whoever writes them is not cut off.
 const LONGEST_REST: usize = 1073741824;

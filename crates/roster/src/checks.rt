@@ -19,10 +19,11 @@ use crate::forms;
 use crate::held;
 use crate::parts::script_part;
 use fields::steps;
-use format::Limits;
+use format::File;
 use format::Step;
 use format::Verdict;
 use rules::Priority;
+use rules::Roster;
 
 // 17 of Enter, then 18.
 fn enter_fault(ceilings: &[u8], held: &[u8], top: Priority, t: u8, k: usize, o: u8) -> Verdict
@@ -97,12 +98,12 @@ fn steps_fault(ceilings: &[u8], part: &[u8], top: Priority, t: u8) -> Verdict
     requires { ⌜ AllListed (length (now ceilings)) (stepsOf (now part)) ⌝ }
     ensures { λ r. ⌜ r ≡ stepsFault (now (ceilings .entry)) (top .0) t (stepsOf (now (part .entry))) ⌝ }
 {
-    let n = part.len() / Limits::STEP;
-    let mut held = [0u8; Limits::OBJECTS];
+    let n = part.len() / File::STEP;
+    let mut held = [0u8; Roster::OBJECTS];
     let mut depth: usize = 0;
     let mut k: usize = 0;
     while k < n {
-        if part[Limits::STEP * k] != Step::WORK {
+        if part[File::STEP * k] != Step::WORK {
             let x = steps::step_at(part, k);
             let v = step_fault(ceilings, &held[..depth], top, t, k, x);
             if !v.passed() {
@@ -152,7 +153,7 @@ fn roster_fault(roster: &[u8], tops: &[u8]) -> Verdict
     requires { ⌜ Topped (now roster) (now tops) ⌝ }
     ensures { λ r. ⌜ r ≡ rosterFault (rosterOf (now (roster .entry))) ⌝ }
 {
-    let mut cells = [0u8; Limits::OBJECTS];
+    let mut cells = [0u8; Roster::OBJECTS];
     fields::read_ceilings(roster, &mut cells);
     let n = fields::object_count(roster) as usize;
     scripts_fault(roster, &cells[..n], tops)
@@ -162,7 +163,7 @@ fn roster_fault(roster: &[u8], tops: &[u8]) -> Verdict
 pub fn check(roster: &[u8]) -> Verdict
     ensures { λ r. ⌜ r ≡ checkOf (now (roster .entry)) ⌝ }
 {
-    let mut tops = [0u8; Limits::TASKS];
+    let mut tops = [0u8; Roster::TASKS];
     let v = forms::form_and_tops(roster, &mut tops);
     if !v.passed() {
         return v;

@@ -19,20 +19,17 @@ use crate::limits;
 use crate::own;
 use crate::parts::script_part;
 use fields::steps;
-use format::Limits;
+use format::File;
 use format::Step;
 use format::Verdict;
 use rules::Priority;
+use rules::Roster;
 
 // 11
 fn length_good(s: &[u8]) -> bool
     ensures { λ r. ⌜ r ≡ lengthGood (now (s .entry)) ⌝ }
 {
-    let n = s.len();
-    if n < Limits::SMALLEST {
-        return false;
-    }
-    n <= Limits::LARGEST
+    Roster::size_good(s.len())
 }
 
 // 12
@@ -42,10 +39,10 @@ fn mark_good(s: &[u8]) -> bool
     let at = fields::trailer_of(s);
     let first = words::byte_at(s, at);
     let second = words::byte_at(s, at + 1);
-    if first != Limits::FIRST_MARK {
+    if first != File::FIRST_MARK {
         return false;
     }
-    second == Limits::SECOND_MARK
+    second == File::SECOND_MARK
 }
 
 // 13
@@ -54,13 +51,7 @@ fn counts_good(s: &[u8]) -> bool
 {
     let tasks = fields::task_count(s) as usize;
     let objects = fields::object_count(s) as usize;
-    if tasks < 1 {
-        return false;
-    }
-    if Limits::TASKS < tasks {
-        return false;
-    }
-    objects <= Limits::OBJECTS
+    Roster::counts_good(tasks, objects)
 }
 
 // 14, of the tables: each ends where the next part starts.
@@ -87,7 +78,7 @@ fn laid_from(s: &[u8], start: u32, t: u8) -> bool
     if at != start {
         return false;
     }
-    size % Limits::STEP == 0
+    size % File::STEP == 0
 }
 
 // 14, of the scripts.
@@ -259,11 +250,11 @@ fn good_step_at(tasks: u8, objects: u8, part: &[u8], k: usize) -> bool
         ⌜ r ≡ stepGood tasks objects (eqb (suc k) (stepCount (now (part .entry)))) (aAt (now (part .entry)) k) (bAt (now (part .entry)) k)
         (stepAt (now (part .entry)) k) ⌝ }
 {
-    let at = Limits::STEP * k;
+    let at = File::STEP * k;
     let a = part[at + 1];
     let b = words::word_in(part, at + 2);
     let x = steps::step_at(part, k);
-    let last = k + 1 == part.len() / Limits::STEP;
+    let last = k + 1 == part.len() / File::STEP;
     step_good(tasks, objects, last, a, b, x)
 }
 
@@ -279,7 +270,7 @@ fn steps_form(limits: &[u8], tasks: u8, objects: u8, t: u8, base: Priority, part
     ensures { λ r. ⌜ r .verdict ≡ stepsForm tasks objects t (now (part .entry)) ⌝ }
     ensures { λ r. ⌜ (r .verdict ≡ Passed → r .top .0 ≡ topOf t (base .0) (stepsOf (now (part .entry)))) ⌝ }
 {
-    let n = part.len() / Limits::STEP;
+    let n = part.len() / File::STEP;
     let mut top = base;
     let mut k: usize = 0;
     while k < n {
@@ -355,6 +346,6 @@ pub fn form_and_tops(s: &[u8], tops: &mut [u8]) -> Verdict
 pub fn form(s: &[u8]) -> Verdict
     ensures { λ r. ⌜ r ≡ formOf (now (s .entry)) ⌝ }
 {
-    let mut tops = [0u8; Limits::TASKS];
+    let mut tops = [0u8; Roster::TASKS];
     form_and_tops(s, &mut tops)
 }

@@ -4,7 +4,7 @@ ghost use Prim.Native.Nat.{_<_};
 ghost use lib.ListN.{length};
 ghost use Rattle.format.specs.Steps.{codeAt, aAt, bAt, stepCount};
 ghost use Rattle.roster.specs.Limited.{codeRange, Limited, isWithin};
-use format::Limits;
+use format::File;
 use format::Step;
 
 // One limit for every byte that a code may be.
@@ -30,7 +30,7 @@ pub fn within(limits: &[u8], part: &[u8], k: usize) -> bool
     ensures { λ r.
         ⌜ r ≡ isWithin (now (limits .entry)) (codeAt (now (part .entry)) k) (aAt (now (part .entry)) k) (bAt (now (part .entry)) k) ⌝ }
 {
-    let at = Limits::STEP * k;
+    let at = File::STEP * k;
     if words::word_in(part, at + 2) != 0 {
         return false;
     }

@@ -4,7 +4,7 @@ ghost use Prim.Native.Nat.{_<_};
 ghost use Rattle.rules.specs.Priorities.{checkedOf};
 ghost use Rattle.format.specs.Steps.{setStep, stepAt, stepCount};
 ghost use Rattle.format.specs.Check.{ownSet};
-use format::Limits;
+use format::File;
 use format::Step;
 use rules::Checked;
 use rules::Priority;
@@ -27,7 +27,7 @@ pub fn own_set(part: &[u8], k: usize, t: u8) -> Priority
     requires { ⌜ k < stepCount (now part) ⌝ }
     ensures { λ r. ⌜ r .0 ≡ ownSet t (stepAt (now (part .entry)) k) ⌝ }
 {
-    let at = Limits::STEP * k;
+    let at = File::STEP * k;
     if part[at] != Step::SET {
         return Priority(0);
     }

@@ -6,7 +6,7 @@ use crate::parts::script_part;
 use crate::scripts::script_answer;
 use fields::steps;
 use format::CountFound;
-use format::Limits;
+use format::File;
 use format::PriorityFound;
 use format::StepFound;
 use format::Verdict;
@@ -54,7 +54,7 @@ pub fn step_count(roster: &[u8], t: usize) -> CountFound
     let v = script_answer(roster, t);
     if v.passed() {
         let part = script_part(roster, t as u8);
-        return CountFound::Found(part.len() / Limits::STEP);
+        return CountFound::Found(part.len() / File::STEP);
     }
     CountFound::Refused(v)
 }

@@ -1,14 +1,13 @@
 -- The fresh start is sound and keeps the ceiling order, for every count, base and ceiling in range; so is the state beside a refused one.
 use mathlib.Core.Path.{_≡_, refl, ap, _∙_, sym, subst}
-use mathlib.Core.Bool.{true, false, cond, not, _&&_}
+use mathlib.Core.Bool.{true, false, cond, not}
 use mathlib.Core.List.{List, [], _∷_}
 use Prim.Native.Nat.{ℕ, zero, suc, _+_, _≤_, _<_}
 use native.Mathlib.Nat.{not-suc-le-zero}
 use native.Mathlib.Omega.{arith}
-use borrow.Author.Tests.{leb-true, not-false}
-use lib.Dec.{leb}
+use borrow.Author.Tests.{not-false}
 use lib.ListN.{length, getD, drop, replicate, length-set, length-replicate}
-use Rattle.rules.specs.Limits.{taskLimit, objectLimit, lastPriority}
+use Rattle.rules.specs.Limits.{taskLimit, lastPriority}
 use Rattle.rules.specs.Priorities.{inRange}
 use Rattle.rules.specs.Model.{Model, TaskRecord, blank, withPlace, taskAt}
 use Rattle.rules.specs.Moves.{becomeReady}
@@ -18,6 +17,7 @@ use Rattle.rules.specs.Sound.{runs, isReady, isRunning, dueGood, sound}
 use Rattle.rules.specs.declared.Place.the-variants.{Ready}
 use Rattle.rules.specs.declared.Answer.the-variants.{Done, BadCounts, BadBases}
 use Rattle.rules.specs.Lists.{allOf, timesIn}
+use Rattle.rules.proofs.LimitLaws.{counted-by}
 use Rattle.rules.proofs.Choices.{split, both-ways, cond-true, cond-false, and-left, and-right}
 use Rattle.rules.proofs.PriorityLaws.{in-bounds}
 use Rattle.rules.proofs.Counts.{queued-empty}
@@ -215,12 +215,11 @@ module _ (s : Setup) where
   startable-by e f =
       let bs = s .bases in
       let cs = s .ceilings in
-      let tasks = and-left (leb 1 (length bs) && leb (length bs) taskLimit) (leb (length cs) objectLimit) e in
+      let counted = counted-by (length bs) (length cs) e in
       record {
-        some = leb-true 1 (length bs) (and-left (leb 1 (length bs)) (leb (length bs) taskLimit) tasks);
-        count = leb-true (length bs) taskLimit (and-right (leb 1 (length bs)) (leb (length bs) taskLimit) tasks);
-        objects = leb-true (length cs) objectLimit
-            (and-right (leb 1 (length bs) && leb (length bs) taskLimit) (leb (length cs) objectLimit) e);
+        some = counted .some;
+        count = counted .tasks;
+        objects = counted .objects;
         bases = and-left (allOf inRange bs) (allOf inRange cs) f;
         ceilings = and-right (allOf inRange bs) (allOf inRange cs) f;
       }

@@ -1,4 +1,5 @@
 pub mod Choices
+pub mod LimitLaws
 pub mod Readings
 pub mod Counts
 pub mod Levels

@@ -3,9 +3,8 @@ use mathlib.Core.Path.{_≡_}
 use mathlib.Core.Bool.{Bool, true, false, cond, not, _&&_}
 use mathlib.Core.List.{List, [], _∷_}
 use Prim.Native.Nat.{ℕ, zero, suc, _≤_}
-use lib.Dec.{leb}
 use lib.ListN.{length, replicate}
-use Rattle.rules.specs.Limits.{taskLimit, objectLimit, lastPriority}
+use Rattle.rules.specs.Limits.{taskLimit, objectLimit, lastPriority, countsGood}
 use Rattle.rules.specs.Priorities.{inRange}
 use Rattle.rules.specs.Model.{TaskRecord, Model, none}
 use Rattle.rules.specs.Moves.{becomeReady, dispatch}
@@ -48,10 +47,6 @@ singleTask = record { bases = 1 ∷ []; ceilings = [] }
 
 unfoldable pub refusedFresh : Model
 refusedFresh = freshModel singleTask
-
--- "tasks 1 to 32, objects 0 to 16"
-abbrev pub countsGood : ℕ → ℕ → Bool
-countsGood tasks objects = leb 1 tasks && leb tasks taskLimit && leb objects objectLimit
 
 -- 13 unless "counts" are in range; 15 "for a bad base or ceiling"
 abbrev pub setupCounted : Setup → Bool

@@ -1,13 +1,35 @@
 -- The sizes of document 01 ("What is built") and of the requests, each named once.
+use mathlib.Core.Path.{_≡_}
+use mathlib.Core.Bool.{Bool, true, false, _&&_}
 use Prim.Native.Nat.{ℕ}
+use lib.Dec.{leb}
 
--- "tasks 1 to 32"
+-- 2026-07: "Tasks up to 64, objects up to 32, roster up to 60,000 bytes."
 abbrev pub taskLimit : ℕ
-taskLimit = 32
+taskLimit = 64
 
--- "objects 0 to 16"
 abbrev pub objectLimit : ℕ
-objectLimit = 16
+objectLimit = 32
+
+abbrev pub smallestRoster : ℕ
+smallestRoster = 14
+
+abbrev pub largestRoster : ℕ
+largestRoster = 60000
+
+-- 13 "counts": "tasks 1 to" taskLimit, "objects 0 to" objectLimit
+abbrev pub countsGood : ℕ → ℕ → Bool
+countsGood tasks objects = leb 1 tasks && leb tasks taskLimit && leb objects objectLimit
+
+-- 11 "length": "roster 14 to" largestRoster "bytes"
+abbrev pub sizeGood : ℕ → Bool
+sizeGood size = leb smallestRoster size && leb size largestRoster
+
+-- what they take and what they refuse, in the request's numbers
+abbrev pub LimitsClaim : Type 0
+LimitsClaim =
+    (countsGood 1 0 ≡ true) × (countsGood 64 32 ≡ true) × (countsGood 0 0 ≡ false) × (countsGood 65 0 ≡ false) ×
+    (countsGood 1 33 ≡ false) × (sizeGood 14 ≡ true) × (sizeGood 60000 ≡ true) × (sizeGood 13 ≡ false) × (sizeGood 60001 ≡ false)
 
 -- "readings 0 to 281474976710655": the clock counts ticks and is not the time of day (001, on D.9)
 abbrev pub lastReading : ℕ

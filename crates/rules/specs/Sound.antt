@@ -4,11 +4,10 @@ use mathlib.Core.List.{List, [], _∷_}
 use Prim.Native.Nat.{ℕ, suc, _+_}
 use lib.Dec.{eqb, leb, ltb}
 use lib.ListN.{length}
-use Rattle.rules.specs.Limits.{lastPriority, lastReading, lastDelay}
+use Rattle.rules.specs.Limits.{lastPriority, lastReading, lastDelay, countsGood}
 use Rattle.rules.specs.Priorities.{inRange}
 use Rattle.rules.specs.Model.{TaskRecord, Model, NextBase, none, waits, taskAt, queue, ceilingOf, active}
 use Rattle.rules.specs.Moves.{highest}
-use Rattle.rules.specs.Fresh.{countsGood}
 use Rattle.rules.specs.Events.{noTask, noObject, inside}
 use Rattle.rules.specs.declared.Place.{Place}
 use Rattle.rules.specs.declared.Place.the-variants.{Running, Ready, Delayed, Suspended, Ended}

@@ -1,8 +1,11 @@
-// The kinds of the dispatcher: priorities, places of tasks, events, answers and reports. Their rules are in specs/.
+// The kinds of the dispatcher: a roster's limits, priorities, places of tasks, events, answers and reports. Their rules are in specs/.
+mod roster;
+
 ghost use mathlib.Core.Path.{_≡_};
 ghost use Prim.Native.Nat.{max};
 ghost use Rattle.rules.specs.Priorities.{inRange, defaultOf, checkedOf, subrangeOf};
 ghost use Rattle.rules.specs.Answers.{numberOf, reportNumber};
+pub use roster::Roster;
 
 // A priority is a kind of its own. Its field is public, so one out of range can be handed in: rules refuse it.
 pub struct Priority(pub u8);

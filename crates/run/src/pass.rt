@@ -18,12 +18,11 @@ use inputs::input_at;
 use memory::rulings;
 use memory::sizes::HEAD_WIDTH;
 use memory::sizes::HELD_CELLS;
-use memory::sizes::OBJECT_LIMIT;
 use memory::sizes::QUEUE_CELLS;
 use memory::sizes::RUNNING_CELL;
 use memory::sizes::TASK_CELLS;
-use memory::sizes::TASK_LIMIT;
 use roster::check;
+use rules::Roster;
 use trace::RunAnswer;
 use trace::sizes::EVENT_SIZE;
 use trace::sizes::NOBODY;
@@ -53,7 +52,7 @@ fn pass(
     head: &mut [u64; HEAD_WIDTH],
     tasks: &mut [u64],
     held: &mut [u8; HELD_CELLS],
-    ceilings: &[u8; OBJECT_LIMIT],
+    ceilings: &[u8; Roster::OBJECTS],
     queues: &mut [u8],
     positions: &mut [u16],
 )
@@ -101,11 +100,11 @@ fn run_through(roster: &[u8], events: &[u8], buffer: &mut [u8])
     let mut head = [0u64; HEAD_WIDTH];
     let mut tasks = [0u64; TASK_CELLS];
     let mut held = [0u8; HELD_CELLS];
-    let mut ceilings = [0u8; OBJECT_LIMIT];
+    let mut ceilings = [0u8; Roster::OBJECTS];
     let mut queues = [0u8; QUEUE_CELLS];
-    let mut positions = [0u16; TASK_LIMIT];
-    let mut starts = [0u16; TASK_LIMIT];
-    let mut lengths = [0u16; TASK_LIMIT];
+    let mut positions = [0u16; Roster::TASKS];
+    let mut starts = [0u16; Roster::TASKS];
+    let mut lengths = [0u16; Roster::TASKS];
     read_scripts(roster, &mut starts, &mut lengths);
     start(
         roster,

@@ -11,8 +11,7 @@ ghost use Rattle.memory.specs.Memory.{Means};
 ghost use Rattle.fresh.specs.Slices.{Sized};
 use memory::sizes::HEAD_WIDTH;
 use memory::sizes::HELD_CELLS;
-use memory::sizes::OBJECT_LIMIT;
-use memory::sizes::TASK_LIMIT;
+use rules::Roster;
 
 // The bases, in the first cells.
 fn read_bases(roster: &[u8], bases: &mut [u8])
@@ -33,7 +32,7 @@ pub fn start(
     head: &mut [u64; HEAD_WIDTH],
     tasks: &mut [u64],
     held: &mut [u8; HELD_CELLS],
-    ceilings: &mut [u8; OBJECT_LIMIT],
+    ceilings: &mut [u8; Roster::OBJECTS],
     queues: &mut [u8],
 )
     requires { ⌜ checkOf (now roster) ≡ Passed ⌝ }
@@ -42,8 +41,8 @@ pub fn start(
         ⌜ Means (now (head .exit)) (now (tasks .exit)) (now (held .exit)) (now (ceilings .exit)) (now (queues .exit))
         (freshModel (setupOf (rosterOf (now (roster .entry))))) ⌝ }
 {
-    let mut bases = [0u8; TASK_LIMIT];
-    let mut given = [0u8; OBJECT_LIMIT];
+    let mut bases = [0u8; Roster::TASKS];
+    let mut given = [0u8; Roster::OBJECTS];
     read_bases(roster, &mut bases);
     fields::read_ceilings(roster, &mut given);
     let n = fields::task_count(roster) as usize;

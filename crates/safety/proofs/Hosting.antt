@@ -12,6 +12,7 @@ use Rattle.rules.specs.declared.Event.the-variants as event
 use Rattle.rules.specs.declared.Runner.{Runner}
 use Rattle.rules.specs.declared.Runner.the-variants.{Nobody, Task}
 use Rattle.rules.specs.declared.Answer.the-variants.{Unsound}
+use Rattle.rules.proofs.LimitLaws.{counts-in}
 use Rattle.rules.proofs.Soundness.{good-sound}
 use Rattle.rules.proofs.EventLaws.{work-5}
 use Rattle.format.specs.Roster.{Roster, rosterOf, setupOf}
@@ -97,7 +98,9 @@ opened-is : (r : Roster) → Orderly r → opening r ≡ beside (startOf r)
 unfolding opening startOf
 opened-is r k =
     ap (λ (x : Started). record { state = x .state; positions = replicate (length (r .bases)) 0 })
-    (let s = k .start in sym (done-0 (setupOf r) (s .some) (s .count) (s .objects) (s .bases) (s .ceilings)))
+    (let s = k .start in
+    let counts = counts-in (length (r .bases)) (length (r .ceilings)) (record { some = s .some; tasks = s .count; objects = s .objects }) in
+    sym (done-0 (setupOf r) counts (s .bases) (s .ceilings)))
 
 module _ (r : Roster) (k : Orderly r) (es : List history.Event) where
   host-is : host r es ≡ beside (after r es)

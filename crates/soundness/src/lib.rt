@@ -28,11 +28,11 @@ use memory::sizes::NOW_CELL;
 use memory::sizes::OBJECTS_CELL;
 use memory::sizes::QUEUE_WIDTH;
 use memory::sizes::RUNNING_CELL;
-use memory::sizes::TASK_LIMIT;
 use memory::sizes::TASKS_CELL;
 use memory::tasks;
 use rules::Place;
 use rules::Priority;
+use rules::Roster;
 use rules::WaitingBase;
 
 fn waiting_good(waiting: WaitingBase) -> bool
@@ -455,7 +455,7 @@ pub fn sound(
     if !highest_runs(head, tasks, held, ceilings, queues) {
         return false;
     }
-    let mut counts = [0u16; TASK_LIMIT];
+    let mut counts = [0u16; Roster::TASKS];
     if !queues_good(head, tasks, held, ceilings, queues, &mut counts) {
         return false;
     }

@@ -26,10 +26,9 @@ use cells::sizes::WAITING;
 use cells::sizes::WAITS;
 use dispatch::State;
 use memory::sizes::HELD_CELLS;
-use memory::sizes::OBJECT_LIMIT;
 use memory::sizes::QUEUE_CELLS;
-use memory::sizes::TASK_LIMIT;
 use rules::Priority;
+use rules::Roster;
 use rules::Task;
 use words::byte_at;
 use words::long_at;
@@ -50,13 +49,13 @@ fn task_from(s: &[u8], i: usize) -> Task
     )
 }
 
-fn tasks_from(s: &[u8]) -> [Task; TASK_LIMIT]
+fn tasks_from(s: &[u8]) -> [Task; Roster::TASKS]
     ensures { λ r. ⌜ r ≡ tasksFrom (now (s .entry)) ⌝ }
 {
     let first = task_from(s, TASKS_START);
-    let mut tasks = [first; TASK_LIMIT];
+    let mut tasks = [first; Roster::TASKS];
     let mut t: usize = 0;
-    while t < TASK_LIMIT {
+    while t < Roster::TASKS {
         let k = task_from(s, TASKS_START + TASK_SIZE * t);
         tasks[t] = k;
         t += 1;
@@ -64,12 +63,12 @@ fn tasks_from(s: &[u8]) -> [Task; TASK_LIMIT]
     tasks
 }
 
-fn ceilings_from(s: &[u8]) -> [Priority; OBJECT_LIMIT]
+fn ceilings_from(s: &[u8]) -> [Priority; Roster::OBJECTS]
     ensures { λ r. ⌜ r ≡ tabulate objectLimit (λ o. priority (byteAt (now (s .entry)) (ceilingsStart + o))) ⌝ }
 {
-    let mut ceilings = [Priority(0); OBJECT_LIMIT];
+    let mut ceilings = [Priority(0); Roster::OBJECTS];
     let mut o: usize = 0;
-    while o < OBJECT_LIMIT {
+    while o < Roster::OBJECTS {
         let p = Priority(byte_at(s, CEILINGS_START + o));
         ceilings[o] = p;
         o += 1;

@@ -17,30 +17,29 @@ use cells::sizes::STATE_SIZE;
 use cells::sizes::TASK_SIZE;
 use cells::sizes::TASKS_START;
 use dispatch::State;
-use memory::sizes::OBJECT_LIMIT;
-use memory::sizes::TASK_LIMIT;
 use rules::Priority;
+use rules::Roster;
 use rules::Task;
 use words::put;
 
-fn put_tasks(out: &mut [u8], tasks: [Task; TASK_LIMIT])
+fn put_tasks(out: &mut [u8], tasks: [Task; Roster::TASKS])
     requires { ⌜ stateSize ≤ length (now out) ⌝ }
     ensures { λ u. ⌜ now (out .exit) ≡ sets (now (out .entry)) tasksStart (flatMap taskBytes tasks) ⌝ }
 {
     let mut t: usize = 0;
-    while t < TASK_LIMIT {
+    while t < Roster::TASKS {
         let k = tasks[t];
         put_task(out, TASKS_START + TASK_SIZE * t, k);
         t += 1;
     }
 }
 
-fn levels(ceilings: [Priority; OBJECT_LIMIT]) -> [u8; OBJECT_LIMIT]
+fn levels(ceilings: [Priority; Roster::OBJECTS]) -> [u8; Roster::OBJECTS]
     ensures { λ r. ⌜ r ≡ map level ceilings ⌝ }
 {
-    let mut levels = [0u8; OBJECT_LIMIT];
+    let mut levels = [0u8; Roster::OBJECTS];
     let mut o: usize = 0;
-    while o < OBJECT_LIMIT {
+    while o < Roster::OBJECTS {
         let p = ceilings[o];
         levels[o] = p.0;
         o += 1;

@@ -19,7 +19,7 @@ use Rattle.rules.specs.declared.Runner.{Runner}
 use Rattle.rules.specs.declared.Runner.the-variants.{Nobody, Task}
 use Rattle.rules.proofs.SoundLaws.{sound-is}
 use Rattle.rules.proofs.Unchanged.{count-kept}
-use Rattle.format.specs.Limits.{smallestRoster, largestRoster}
+use Rattle.rules.specs.Limits.{smallestRoster, largestRoster}
 use Rattle.format.specs.Format.{taskCount, startAt, lengthAt, partAt}
 use Rattle.format.specs.Steps.{stepCount, stepsOf, stepIn}
 use Rattle.format.specs.Roster.{rosterOf, scriptOf}

@@ -15,10 +15,10 @@ use format::Step;
 use memory::rulings;
 use memory::sizes::HEAD_WIDTH;
 use memory::sizes::HELD_CELLS;
-use memory::sizes::OBJECT_LIMIT;
 use memory::sizes::RUNNING_CELL;
 use rules::Checked;
 use rules::Priority;
+use rules::Roster;
 use trace::Input;
 
 // What one step of a script does.
@@ -26,7 +26,7 @@ fn perform(
     head: &mut [u64; HEAD_WIDTH],
     tasks: &mut [u64],
     held: &mut [u8; HELD_CELLS],
-    ceilings: &[u8; OBJECT_LIMIT],
+    ceilings: &[u8; Roster::OBJECTS],
     queues: &mut [u8],
     x: Step,
 ) -> u8
@@ -76,7 +76,7 @@ fn step(
     head: &mut [u64; HEAD_WIDTH],
     tasks: &mut [u64],
     held: &mut [u8; HELD_CELLS],
-    ceilings: &[u8; OBJECT_LIMIT],
+    ceilings: &[u8; Roster::OBJECTS],
     queues: &mut [u8],
     positions: &mut [u16],
 ) -> u8
@@ -110,7 +110,7 @@ fn set_from(
     head: &mut [u64; HEAD_WIDTH],
     tasks: &mut [u64],
     held: &[u8; HELD_CELLS],
-    ceilings: &[u8; OBJECT_LIMIT],
+    ceilings: &[u8; Roster::OBJECTS],
     queues: &mut [u8],
     t: u8,
     value: u64,
@@ -144,7 +144,7 @@ pub fn happen(
     head: &mut [u64; HEAD_WIDTH],
     tasks: &mut [u64],
     held: &mut [u8; HELD_CELLS],
-    ceilings: &[u8; OBJECT_LIMIT],
+    ceilings: &[u8; Roster::OBJECTS],
     queues: &mut [u8],
     positions: &mut [u16],
     x: Input,

@@ -4,6 +4,7 @@ use borrow.Author.Tests.{not-true, not-false}
 use mathlib.Core.Path.{_≡_, refl, sym, _∙_}
 use mathlib.Core.Bool.{true}
 use Prim.Native.Nat.{_≤_}
+use Rattle.rules.specs.Limits.{taskLimit}
 use Rattle.format.specs.Format.{taskCount}
 use Rattle.format.specs.Form.{lengthGood, markGood, countsKept, layoutGood, valuesGood}
 use Rattle.format.specs.declared.Verdict.the-variants.{BadLength, BadMark, BadCounts, BadLayout, BadValues}
@@ -90,7 +91,7 @@ scripts-form-requires c κs =
     let c3 = c .before .before .before in
     let c5 = c3 .before .before in
     let start = c5 .before .before .before .before .before .before .before .before in
-    let room : taskCount (start .args .s .now) ≤ 32 = tops-fit (start .args .s .now) (counts-kept c5) in
+    let room : taskCount (start .args .s .now) ≤ taskLimit = tops-fit (start .args .s .now) (counts-kept c5) in
     (layout-kept c3, omega (arith, start .pre))
 
 same-length : tie.Need-same-length
