@@ -45,7 +45,7 @@ pub fn broken(state: &State) -> Vec<&'static str> {
     broken.map(|clause| clause.name).collect()
 }
 
-/// There are not 1 to 32 tasks, or more than 16 objects.
+/// There is no task, or there are more tasks or objects than a state may have.
 pub fn count_out_of_range(state: &State) -> bool {
     !TASKS.contains(&state.tasks.len()) || state.ceilings.len() > MAX_OBJECTS
 }

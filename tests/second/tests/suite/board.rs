@@ -9,7 +9,7 @@ use second::state::State;
 /// A row that no filling writes.
 pub const BLANK: Row = row(Ended, 99, 99);
 
-const fn row(kind: Kind, priority: u64, position: u64) -> Row {
+pub const fn row(kind: Kind, priority: u64, position: u64) -> Row {
     Row {
         kind,
         priority,
@@ -75,12 +75,12 @@ fn an_unsound_state_is_10_also_with_too_few_rows() {
 }
 
 #[test]
-fn the_full_board_of_32_tasks() {
-    let mut board = [BLANK; 32];
-    assert_eq!(fill(&fresh(&[7; 32], &[]), &mut board), 0);
+fn the_full_board_of_64_tasks() {
+    let mut board = [BLANK; 64];
+    assert_eq!(fill(&fresh(&[7; 64], &[]), &mut board), 0);
     assert_eq!(board[0], row(Running, 7, 0));
     assert_eq!(board[1], row(Ready, 7, 0));
-    assert_eq!(board[31], row(Ready, 7, 30));
+    assert_eq!(board[63], row(Ready, 7, 62));
     assert_eq!(next(&board), Ok(Some(1)));
 }
 
@@ -109,10 +109,11 @@ fn no_rows_are_nobody() {
 }
 
 #[test]
-fn more_than_32_rows_are_13() {
-    assert_eq!(next(&[row(Ready, 10, 0); 32]), Ok(Some(0)));
-    assert_eq!(next(&[row(Ready, 10, 0); 33]), Err(13));
-    assert_eq!(next(&[row(Ready, 0, 0); 33]), Err(13));
+fn more_than_64_rows_are_13() {
+    assert_eq!(next(&[row(Ready, 10, 0); 64]), Ok(Some(0)));
+    assert_eq!(next(&[row(Ready, 10, 0); 65]), Err(13));
+    assert_eq!(next(&[row(Ready, 0, 0); 65]), Err(13));
+    assert_eq!(next(&[row(Ready, 0, 0); 64]), Err(3));
 }
 
 #[test]

@@ -113,10 +113,10 @@ fn the_first_fault_wins_over_lower_numbers_behind_it() {
 }
 
 #[test]
-fn all_sixteen_objects_can_be_nested() {
-    let down = (0..16).map(enter);
-    let up = (0..16).rev().map(leave);
+fn all_thirty_two_objects_can_be_nested() {
+    let down = (0..32).map(enter);
+    let up = (0..32).rev().map(leave);
     let script: Vec<RawStep> = down.chain(up).collect();
-    assert_eq!(checked(&script, &[15; 16]), (0, 0, 0));
-    assert_eq!(checked(&script[..16], &[15; 16]), (17, 1, 16));
+    assert_eq!(checked(&script, &[15; 32]), (0, 0, 0));
+    assert_eq!(checked(&script[..32], &[15; 32]), (17, 1, 32));
 }

@@ -110,8 +110,8 @@ fn no_such_object_is_2() {
     assert_eq!(answer(&idle(), Enter(1)), 2);
     assert_eq!(answer(&idle(), Leave(1)), 2);
     assert_eq!(answer(&fresh(&[10], &[]), Enter(0)), 2);
-    assert_eq!(answer(&fresh(&[10], &[20; 16]), Enter(15)), 0);
-    assert_eq!(answer(&fresh(&[10], &[20; 16]), Enter(16)), 2);
+    assert_eq!(answer(&fresh(&[10], &[20; 32]), Enter(31)), 0);
+    assert_eq!(answer(&fresh(&[10], &[20; 32]), Enter(32)), 2);
 }
 
 #[test]
@@ -291,8 +291,11 @@ fn no_such_task_is_1() {
     assert_eq!(answer(&state, Set(2, 10)), 1);
     assert_eq!(answer(&state, Set(2, 33)), 1);
     assert_eq!(answer(&state, Set(usize::MAX, 0)), 1);
-    assert_eq!(answer(&fresh(&[10; 32], &[]), Release(31)), 0);
-    assert_eq!(answer(&fresh(&[10; 32], &[]), Release(32)), 1);
+    let full = fresh(&[10; 64], &[]);
+    for (t, expected) in [(63, 0), (64, 1)] {
+        assert_eq!(answer(&full, Release(t)), expected, "task {t}");
+        assert_eq!(answer(&full, Set(t, 10)), expected, "task {t}");
+    }
 }
 
 // Set.

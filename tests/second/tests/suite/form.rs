@@ -49,12 +49,12 @@ fn the_shortest_roster() {
 
 #[test]
 fn the_longest_roster() {
-    let mut longest = roster(&[(15, vec![WORK; 8188])], &[15]);
-    assert_eq!(longest.len(), 32768);
+    let mut longest = roster(&[(15, vec![WORK; 14996])], &[15]);
+    assert_eq!(longest.len(), 60000);
     assert_eq!(verdict(&longest), (0, 0, 0));
-    assert_eq!(script(&longest, 0).map(<[u8]>::len), Ok(32752));
+    assert_eq!(script(&longest, 0).map(<[u8]>::len), Ok(59984));
     longest.insert(0, 0);
-    assert_eq!(longest.len(), 32769);
+    assert_eq!(longest.len(), 60001);
     assert_eq!(verdict(&longest), (11, 0, 0));
 }
 
@@ -68,14 +68,14 @@ fn a_wrong_mark_is_12() {
 #[test]
 fn counts_out_of_range_are_13() {
     assert_eq!(changed(26, 0), (13, 0, 0));
-    assert_eq!(changed(26, 33), (13, 0, 0));
+    assert_eq!(changed(26, 65), (13, 0, 0));
     assert_eq!(changed(26, 255), (13, 0, 0));
-    assert_eq!(changed(27, 17), (13, 0, 0));
+    assert_eq!(changed(27, 33), (13, 0, 0));
     assert_eq!(changed(27, 255), (13, 0, 0));
     let tasks = |n: usize| vec![(15, vec![WORK]); n];
-    assert_eq!(verdict(&roster(&tasks(32), &[15; 16])), (0, 0, 0));
-    assert_eq!(verdict(&roster(&tasks(33), &[])), (13, 0, 0));
-    assert_eq!(verdict(&roster(&tasks(1), &[15; 17])), (13, 0, 0));
+    assert_eq!(verdict(&roster(&tasks(64), &[15; 32])), (0, 0, 0));
+    assert_eq!(verdict(&roster(&tasks(65), &[])), (13, 0, 0));
+    assert_eq!(verdict(&roster(&tasks(1), &[15; 33])), (13, 0, 0));
 }
 
 #[test]
@@ -83,9 +83,9 @@ fn starts_and_lengths_off_the_layout_are_14() {
     // The counts are in range and do not fit the bytes.
     assert_eq!(changed(26, 1), (14, 0, 0));
     assert_eq!(changed(26, 3), (14, 0, 0));
-    assert_eq!(changed(26, 32), (14, 0, 0));
+    assert_eq!(changed(26, 64), (14, 0, 0));
     assert_eq!(changed(27, 1), (14, 0, 0));
-    assert_eq!(changed(27, 16), (14, 0, 0));
+    assert_eq!(changed(27, 32), (14, 0, 0));
     // The starts of the object table and of the task table, low and high bytes.
     for (at, right) in [(28, 20), (30, 8)] {
         assert_eq!(changed(at, right - 1), (14, 0, 0));

@@ -52,10 +52,11 @@ fn the_first_of_the_highest_runs_and_the_rest_wait_in_number_order() {
 #[test]
 fn counts_of_tasks_and_objects() {
     assert_eq!(refusal(&[], &[]), 13);
-    assert_eq!(refusal(&[15; 33], &[]), 13);
-    assert_eq!(refusal(&[15], &[15; 17]), 13);
-    assert_eq!(fresh(&[15; 32], &[15; 16]).tasks.len(), 32);
-    assert_eq!(fresh(&[15; 32], &[15; 16]).ceilings.len(), 16);
+    assert_eq!(refusal(&[15; 65], &[]), 13);
+    assert_eq!(refusal(&[15], &[15; 33]), 13);
+    assert_eq!(refusal(&[15; 65], &[15; 33]), 13);
+    assert_eq!(fresh(&[15; 64], &[15; 32]).tasks.len(), 64);
+    assert_eq!(fresh(&[15; 64], &[15; 32]).ceilings.len(), 32);
     assert_eq!(fresh(&[15], &[]).tasks.len(), 1);
 }
 
@@ -71,7 +72,8 @@ fn bases_and_ceilings() {
 
 #[test]
 fn counts_come_before_values() {
-    assert_eq!(refusal(&[0; 33], &[]), 13);
-    assert_eq!(refusal(&[0], &[20; 17]), 13);
+    assert_eq!(refusal(&[0; 65], &[]), 13);
+    assert_eq!(refusal(&[0], &[20; 33]), 13);
     assert_eq!(refusal(&[], &[33]), 13);
+    assert_eq!(refusal(&[0; 64], &[33; 32]), 15);
 }

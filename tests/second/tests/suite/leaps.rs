@@ -58,7 +58,7 @@ fn nows() -> Vec<u64> {
 fn the_first_reading_is_measured_from_0() {
     let (refused, beside) = state::fresh(&[0], &[]);
     assert_eq!(refused, 15);
-    let many = fresh(&[10; 32], &[20; 16]);
+    let many = fresh(&[10; 64], &[20; 32]);
     for state in [alone(), many, beside] {
         assert_eq!(answer(&state, Clock(LONGEST - 1)), 0);
         assert_eq!(answer(&state, Clock(86_400_000)), 0);

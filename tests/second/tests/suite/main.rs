@@ -1,5 +1,6 @@
 //! The tests of the second program, gathered in one crate so that they share their helpers.
 
+mod big_rosters;
 mod board;
 mod check;
 mod events;
@@ -13,6 +14,7 @@ mod random;
 mod reports;
 mod run;
 mod same_base;
+mod sizes;
 mod soundness;
 mod support;
 mod vectors;

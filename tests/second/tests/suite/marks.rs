@@ -5,7 +5,7 @@ use std::fmt::Debug;
 
 use crate::board::BLANK;
 use crate::leaps::busy;
-use crate::random::{random_event, random_fresh, scramble};
+use crate::random::{any_event, any_fresh, scramble};
 use crate::reports::{kind, random_record};
 use crate::support::{fresh, play, queue, reckoned, refused, Random, LARGEST};
 use second::board::{fill, next};
@@ -123,9 +123,10 @@ fn a_fresh_start_marks_the_queues_in_which_a_task_waits() {
     for p in 1..=32 {
         assert_eq!(fresh(&[p], &[]).marks, 0, "base {p}");
         assert_eq!(fresh(&[p; 2], &[33 - p]).marks, word(&[p]), "base {p}");
-        assert_eq!(fresh(&[p; 32], &[]).marks, word(&[p]), "base {p}");
+        assert_eq!(fresh(&[p; 64], &[]).marks, word(&[p]), "base {p}");
     }
     let each: Vec<u64> = (1..=32).collect();
+    assert_eq!(fresh(&each.repeat(2), &[]).marks, 0xFFFF_FFFF);
     assert_eq!(fresh(&each, &[]).marks, 0x7FFF_FFFF);
     assert_eq!(fresh(&each[..31], &[]).marks, 0x3FFF_FFFF);
     assert_eq!(fresh(&each[..2], &[]).marks, 1);
@@ -139,8 +140,8 @@ fn a_fresh_start_marks_the_queues_in_which_a_task_waits() {
 fn beside_a_refused_start_no_mark_is_on() {
     let starts: [(u8, &[u64], &[u64]); 5] = [
         (13, &[], &[]),
-        (13, &[15; 33], &[]),
-        (13, &[15, 15], &[15; 17]),
+        (13, &[15; 65], &[]),
+        (13, &[15, 15], &[15; 33]),
         (15, &[10, 10, 0], &[]),
         (15, &[10, 10, 5], &[33]),
     ];
@@ -468,13 +469,13 @@ const EVENTS: [Event; 18] = [
 
 /// Sees that every call refuses a state with 10 and leaves it, its marks and the board alone.
 #[track_caller]
-fn is_refused(state: &State) {
+pub fn is_refused(state: &State) {
     assert!(!is_sound(state));
     for event in EVENTS {
         let given = apply(state.clone(), event);
         assert_eq!(given, (refused(10), state.clone()), "{event:?}");
     }
-    for rows in [0, state.tasks.len(), 40] {
+    for rows in [0, state.tasks.len(), 70] {
         let mut board = vec![BLANK; rows];
         assert_eq!(fill(state, &mut board), 10, "{rows} rows");
         assert_eq!(board, vec![BLANK; rows]);
@@ -495,11 +496,20 @@ fn is_damage(marks: u32, state: &State) {
     is_refused(&damaged);
 }
 
-/// As many ready queues as there can be, that for this priority among them.
-fn crowd(p: u64) -> State {
-    let others = (1..=31).filter(|&other| other != p).take(30);
-    let bases: Vec<u64> = [32, p].into_iter().chain(others).collect();
+/// A task runs, and another one is ready at each of these priorities.
+fn crowd(priorities: impl Iterator<Item = u64>) -> State {
+    let bases: Vec<u64> = [32].into_iter().chain(priorities).collect();
     fresh(&bases, &[32])
+}
+
+/// Every ready queue has a task, as there can be more tasks than priorities.
+fn full_crowd() -> State {
+    crowd(1..=32)
+}
+
+/// Every ready queue has a task but that for this priority.
+fn crowd_without(p: u64) -> State {
+    crowd((1..=32).filter(|&other| other != p))
 }
 
 #[test]
@@ -511,6 +521,7 @@ fn a_mark_too_many() {
         let states = [
             fresh(&[other; 2], &[32]),
             fresh(&others, &[]),
+            crowd_without(p),
             // Nobody is ready, and in the first three nobody runs either.
             play(alone.clone(), &[Suspend]),
             play(alone.clone(), &[Delay(5)]),
@@ -530,8 +541,8 @@ fn a_mark_too_few() {
     for p in 1..=32 {
         let states = [
             fresh(&[p; 2], &[]),
-            fresh(&[p; 32], &[]),
-            crowd(p),
+            fresh(&[p; 64], &[]),
+            full_crowd(),
             // Task 0 is away, and 1 runs inside an object.
             play(fresh(&[p; 3], &[32]), &[Suspend, Enter(0)]),
         ];
@@ -563,7 +574,7 @@ fn a_mark_in_the_place_of_another() {
 fn all_marks_off() {
     for p in 1..=32 {
         is_damage(0, &fresh(&[p; 2], &[]));
-        is_damage(0, &crowd(p));
+        is_damage(0, &crowd_without(p));
         let nobody_ready = fresh(&[p], &[]);
         assert_eq!(nobody_ready, with_marks(0, &nobody_ready));
         assert!(is_sound(&nobody_ready));
@@ -572,12 +583,15 @@ fn all_marks_off() {
 
 #[test]
 fn all_marks_on() {
-    // 32 tasks with one of them running fill no more than 31 queues.
+    // It is the right word where every queue has a task.
+    assert_eq!(full_crowd().marks, u32::MAX);
+    assert!(is_sound(&full_crowd()));
+    is_damage(0, &full_crowd());
     for p in 1..=32 {
         is_damage(u32::MAX, &fresh(&[p], &[]));
         is_damage(u32::MAX, &fresh(&[p; 2], &[]));
-        is_damage(u32::MAX, &crowd(p));
-        assert_eq!(crowd(p).marks.count_ones(), 31);
+        is_damage(u32::MAX, &crowd_without(p));
+        assert_eq!(crowd_without(p).marks.count_ones(), 31);
     }
 }
 
@@ -603,8 +617,9 @@ fn the_marks_of_another_sound_state() {
         fresh(&[30, 20, 10], &[20]),
         play(fresh(&[10, 20], &[20]), &[Suspend]),
         play(fresh(&[10, 25], &[20]), &[Suspend, Enter(0), Release(1)]),
-        crowd(1),
-        crowd(32),
+        crowd_without(1),
+        crowd_without(32),
+        full_crowd(),
     ];
     let (mut same, mut other) = (0, 0);
     for (a, state) in states.iter().enumerate() {
@@ -699,39 +714,6 @@ fn marks_are_right(state: &State, seed: u64, after: impl Debug) {
     assert_eq!(highest, state.highest_ready(), "seed {seed}, {after:?}");
 }
 
-/// A fresh state of any size with priorities from 1 to 32.
-fn wide_fresh(random: &mut Random) -> State {
-    let (tasks, objects) = (1 + random.index(32), random.index(17));
-    let bases: Vec<u64> = (0..tasks).map(|_| 1 + random.below(32)).collect();
-    let ceilings: Vec<u64> = (0..objects).map(|_| 1 + random.below(32)).collect();
-    fresh(&bases, &ceilings)
-}
-
-/// An event that often moves a task to a queue all over the priorities.
-fn wide_event(random: &mut Random, state: &State) -> Event {
-    let task = random.index(state.tasks.len() + 1);
-    match random.below(4) {
-        0 => Set(task, random.below(34)),
-        1 => Release(task),
-        _ => random_event(random, state),
-    }
-}
-
-/// Every other history is wide.
-fn any_fresh(random: &mut Random, seed: u64) -> State {
-    match seed % 2 {
-        0 => wide_fresh(random),
-        _ => random_fresh(random),
-    }
-}
-
-fn any_event(random: &mut Random, seed: u64, state: &State) -> Event {
-    match seed % 2 {
-        0 => wide_event(random, state),
-        _ => random_event(random, state),
-    }
-}
-
 /// The kinds of accepted events that turn marks on and off, by the rules; the others turn none.
 const POSSIBLE: [(&str, bool); 11] = [
     ("Leave", true),
@@ -756,10 +738,11 @@ fn random_histories_keep_the_word_right() {
     let mut answers = [0; 11];
     for seed in 0..4000 {
         let mut random = Random::new(seed);
-        let mut state = any_fresh(&mut random, seed);
+        let is_wide = seed % 2 == 0;
+        let mut state = any_fresh(&mut random, is_wide);
         marks_are_right(&state, seed, "the fresh start");
         for _ in 0..60 {
-            let event = any_event(&mut random, seed, &state);
+            let event = any_event(&mut random, is_wide, &state);
             let (outcome, after) = apply(state.clone(), event);
             marks_are_right(&after, seed, event);
             if outcome.answer != 0 {
@@ -791,9 +774,10 @@ fn counting_zeros_finds_the_queue_of_the_next_on_the_board() {
     let mut met = [0; 2];
     for seed in 0..1000 {
         let mut random = Random::new(seed);
-        let mut state = any_fresh(&mut random, seed);
+        let is_wide = seed % 2 == 0;
+        let mut state = any_fresh(&mut random, is_wide);
         for _ in 0..40 {
-            let event = any_event(&mut random, seed, &state);
+            let event = any_event(&mut random, is_wide, &state);
             state = apply(state, event).1;
             let mut board = vec![BLANK; state.tasks.len()];
             assert_eq!(fill(&state, &mut board), 0, "seed {seed}, {event:?}");
@@ -839,9 +823,10 @@ fn random_words_are_sound_only_where_they_are_right() {
     let mut wrong = 0;
     for seed in 0..4000 {
         let mut random = Random::new(seed);
-        let mut state = any_fresh(&mut random, seed);
+        let is_wide = seed % 2 == 0;
+        let mut state = any_fresh(&mut random, is_wide);
         for _ in 0..random.below(30) {
-            let event = any_event(&mut random, seed, &state);
+            let event = any_event(&mut random, is_wide, &state);
             let (_, after) = apply(state.clone(), event);
             // The word from before the event, as if it had been forgotten.
             let stale = with_marks(state.marks, &after);
@@ -865,7 +850,7 @@ fn random_words_are_sound_only_where_they_are_right() {
                 ["marks_wrong"],
                 "seed {seed}, {flips:032b}"
             );
-            let event = any_event(&mut random, seed, &state);
+            let event = any_event(&mut random, is_wide, &state);
             let given = apply(damaged.clone(), event);
             assert_eq!(given, (refused(10), damaged), "seed {seed}, {event:?}");
             wrong += 1;
@@ -879,9 +864,10 @@ fn scrambled_states_with_wrong_marks_break_one_clause_more() {
     let mut met = [0; 2];
     for seed in 0..8000 {
         let mut random = Random::new(seed);
-        let mut state = any_fresh(&mut random, seed);
+        let is_wide = seed % 2 == 0;
+        let mut state = any_fresh(&mut random, is_wide);
         for _ in 0..random.below(20) {
-            let event = any_event(&mut random, seed, &state);
+            let event = any_event(&mut random, is_wide, &state);
             state = apply(state, event).1;
         }
         for _ in 0..random.below(3) {
@@ -893,14 +879,14 @@ fn scrambled_states_with_wrong_marks_break_one_clause_more() {
         let damaged = with_marks(state.marks ^ word(&[1 + random.below(32)]), &state);
         let expected = [before, vec!["marks_wrong"]].concat();
         assert_eq!(broken(&damaged), expected, "seed {seed}");
-        let event = any_event(&mut random, seed, &fresh(&[10], &[20]));
+        let event = any_event(&mut random, is_wide, &fresh(&[10], &[20]));
         let given = apply(damaged.clone(), event);
         assert_eq!(
             given,
             (refused(10), damaged.clone()),
             "seed {seed}, {event:?}"
         );
-        assert_eq!(fill(&damaged, &mut [BLANK; 40]), 10, "seed {seed}");
+        assert_eq!(fill(&damaged, &mut [BLANK; 70]), 10, "seed {seed}");
     }
     assert!(met.iter().all(|&count| count > 1000), "{met:?}");
 }

@@ -71,8 +71,8 @@ fn an_unreadable_roster_is_11() {
 
 #[test]
 fn a_roster_too_short_or_too_long_is_11() {
-    let long = roster(&[(15, vec![WORK; 8188])], &[15]);
-    assert_eq!(long.len(), 32768);
+    let long = roster(&[(15, vec![WORK; 14996])], &[15]);
+    assert_eq!(long.len(), 60000);
     let text = printed_for("longest", &long, &STEP);
     assert_eq!(text, "passed\n0 0 0\nend\n");
     let longer = [&[0][..], &long].concat();
@@ -85,7 +85,8 @@ fn a_roster_too_short_or_too_long_is_11() {
 
 #[test]
 fn events_up_to_the_limit_and_over_it() {
-    let bytes = roster(&[(15, vec![WORK; 8188])], &[15]);
+    // A roster of 60,000 bytes does not make the events' limit another.
+    let bytes = roster(&[(15, vec![WORK; 14996])], &[15]);
     let all = printed_for("limit", &bytes, &STEP.repeat(4096));
     assert_eq!(all, format!("passed\n{}end\n", "0 0 0\n".repeat(4096)));
     let over = printed_for("over", &bytes, &STEP.repeat(4097));

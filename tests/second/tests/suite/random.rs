@@ -38,6 +38,42 @@ pub fn random_event(random: &mut Random, state: &State) -> Event {
     }
 }
 
+/// A fresh state of any size with priorities from 1 to 32.
+fn wide_fresh(random: &mut Random) -> State {
+    let (tasks, objects) = (1 + random.index(64), random.index(33));
+    let bases: Vec<u64> = (0..tasks).map(|_| 1 + random.below(32)).collect();
+    let ceilings: Vec<u64> = (0..objects).map(|_| 1 + random.below(32)).collect();
+    fresh(&bases, &ceilings)
+}
+
+/// An event that often moves a task to a queue all over the priorities.
+fn wide_event(random: &mut Random, state: &State) -> Event {
+    let task = random.index(state.tasks.len() + 1);
+    match random.below(4) {
+        0 => Event::Set(task, random.below(34)),
+        1 => Event::Release(task),
+        _ => random_event(random, state),
+    }
+}
+
+/// A fresh state for a history that is wide or not.
+pub fn any_fresh(random: &mut Random, is_wide: bool) -> State {
+    if is_wide {
+        wide_fresh(random)
+    } else {
+        random_fresh(random)
+    }
+}
+
+/// An event for it.
+pub fn any_event(random: &mut Random, is_wide: bool, state: &State) -> Event {
+    if is_wide {
+        wide_event(random, state)
+    } else {
+        random_event(random, state)
+    }
+}
+
 /// Whether a reading is taken, by sums in numbers that are wide enough for them.
 pub fn is_taken(now: u64, reading: u64) -> bool {
     let (now, reading) = (i128::from(now), i128::from(reading));
@@ -45,7 +81,7 @@ pub fn is_taken(now: u64, reading: u64) -> bool {
 }
 
 /// No object has two holders.
-fn holders_are_single(state: &State) -> bool {
+pub fn holders_are_single(state: &State) -> bool {
     let mut held: Vec<usize> = state.tasks.iter().flat_map(|t| t.held.clone()).collect();
     let all = held.len();
     held.sort_unstable();
@@ -59,9 +95,10 @@ fn fresh_histories_stay_sound_with_one_holder_for_each_object() {
     let (mut longest, mut leaps) = (0, 0);
     for seed in 0..2000 {
         let mut random = Random::new(seed);
-        let mut state = random_fresh(&mut random);
+        let is_wide = seed % 4 == 0;
+        let mut state = any_fresh(&mut random, is_wide);
         for _ in 0..60 {
-            let event = random_event(&mut random, &state);
+            let event = any_event(&mut random, is_wide, &state);
             let (outcome, after) = apply(state.clone(), event);
             let answer = outcome.answer;
             assert!(answer == 0 || after == state, "seed {seed}");
@@ -119,9 +156,10 @@ fn readings_from_every_now_are_0_or_4() {
 fn the_board_names_the_task_that_would_run_next() {
     for seed in 0..500 {
         let mut random = Random::new(seed);
-        let mut state = random_fresh(&mut random);
+        let is_wide = seed % 4 == 0;
+        let mut state = any_fresh(&mut random, is_wide);
         for _ in 0..40 {
-            let event = random_event(&mut random, &state);
+            let event = any_event(&mut random, is_wide, &state);
             state = apply(state, event).1;
             let blank = Row {
                 kind: Kind::Ready,
@@ -142,10 +180,12 @@ fn odd_number(random: &mut Random) -> u64 {
         0,
         1,
         2,
-        15,
-        16,
+        31,
         32,
         33,
+        63,
+        64,
+        65,
         255,
         65535,
         LONGEST,
@@ -200,9 +240,10 @@ fn scrambled_states_never_panic_and_unsound_ones_are_refused() {
     let (mut sound, mut unsound) = (0, 0);
     for seed in 0..20_000 {
         let mut random = Random::new(seed);
-        let mut state = random_fresh(&mut random);
+        let is_wide = seed % 4 == 0;
+        let mut state = any_fresh(&mut random, is_wide);
         for _ in 0..random.below(20) {
-            let event = random_event(&mut random, &state);
+            let event = any_event(&mut random, is_wide, &state);
             state = apply(state, event).1;
         }
         for _ in 0..1 + random.below(3) {
@@ -255,7 +296,7 @@ fn random_bytes_never_panic() {
         for index in [0, 1, 2, 200, usize::MAX] {
             let known = script(&roster, index).is_ok();
             assert_eq!(base(&roster, index).is_ok(), known);
-            assert!(index < 16 || ceiling(&roster, index).is_err());
+            assert!(index < 32 || ceiling(&roster, index).is_err());
         }
     }
     // All of 11 to 21, and rosters that pass.

@@ -4,7 +4,7 @@ use std::collections::BTreeMap;
 
 use crate::leaps::busy;
 use crate::program::printed_for;
-use crate::random::{random_event, random_fresh};
+use crate::random::{any_event, any_fresh, random_fresh};
 use crate::support::{
     at, clock_event, delay, enter, fresh, leave, mend_marks, play, play_reporting, queue, refused,
     release_event, replies, roster, set_event, Random, Record, Reply, AGAIN, LARGEST, LONGEST,
@@ -523,7 +523,7 @@ pub fn kind(before: &State, event: Event) -> &'static str {
 }
 
 /// The state with one more task, ready at the tail of the queue for this priority.
-fn with_witness(state: &State, priority: u64) -> (State, usize) {
+pub fn with_witness(state: &State, priority: u64) -> (State, usize) {
     let mut state = state.clone();
     let witness = state.tasks.len();
     let mut task = fresh(&[priority], &[]).tasks[0].clone();
@@ -555,14 +555,24 @@ fn report_by_witness(before: &State, event: Event, after: &State) -> Option<u8> 
     Some(if place(old)? < place(witness)? { 1 } else { 2 })
 }
 
+/// A fresh state that is sound with a witness too, who would be the 65th task in a full one.
+fn roomy_fresh(random: &mut Random, is_wide: bool) -> State {
+    let state = any_fresh(random, is_wide);
+    match state.tasks.len() {
+        64 => random_fresh(random),
+        _ => state,
+    }
+}
+
 #[test]
 fn random_histories_report_what_a_witness_sees() {
     let mut met: BTreeMap<(&str, u8), u32> = BTreeMap::new();
     for seed in 0..8000 {
         let mut random = Random::new(seed);
-        let mut state = random_fresh(&mut random);
+        let is_wide = seed % 8 == 0;
+        let mut state = roomy_fresh(&mut random, is_wide);
         for _ in 0..60 {
-            let event = random_event(&mut random, &state);
+            let event = any_event(&mut random, is_wide, &state);
             let (outcome, after) = apply(state.clone(), event);
             if outcome.answer == 0 {
                 let seen = report_by_witness(&state, event, &after);

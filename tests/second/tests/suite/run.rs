@@ -366,7 +366,7 @@ fn refusals_print_one_line_with_a_place_from_16_to_20_alone() {
     let end = bytes.len();
     bytes[end - 8] = 0;
     assert_eq!(printed(&bytes, &[]), "refused 12\n");
-    assert_eq!(line(&[], &[15; 17]), "refused 13\n");
+    assert_eq!(line(&[], &[15; 33]), "refused 13\n");
     let longer = [&[0][..], &worker()].concat();
     assert_eq!(printed(&longer, &[]), "refused 14\n");
     assert_eq!(line(&[], &[33]), "refused 15\n");
@@ -382,11 +382,11 @@ fn refusals_print_one_line_with_a_place_from_16_to_20_alone() {
 
 #[test]
 fn lines_give_answer_running_task_in_decimal_or_a_dash_and_report() {
-    let mut tasks = vec![(10, vec![]); 32];
-    tasks[31] = (20, vec![SUSPEND]);
-    let events = [clock_event(0), STEP, release_event(31)];
+    let mut tasks = vec![(10, vec![]); 64];
+    tasks[63] = (20, vec![SUSPEND]);
+    let events = [clock_event(0), STEP, release_event(63)];
     let text = printed(&roster(&tasks, &[]), &events.concat());
-    assert_eq!(text, "passed\n0 31 0\n0 0 2\n0 31 1\nend\n");
+    assert_eq!(text, "passed\n0 63 0\n0 0 2\n0 63 1\nend\n");
     let alone = printed(&roster(&[(10, vec![])], &[]), &STEP.repeat(2));
     assert_eq!(alone, "passed\n0 - 2\n5 - 0\nend\n");
 }

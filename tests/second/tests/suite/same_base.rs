@@ -12,7 +12,7 @@ use second::state::{Place, State};
 
 /// Sees who runs and that the ready queues are these, the highest first, all others being empty.
 #[track_caller]
-fn stands(state: &State, running: Option<usize>, queues: &[(u64, &[usize])]) {
+pub fn stands(state: &State, running: Option<usize>, queues: &[(u64, &[usize])]) {
     let all = (1..=32)
         .rev()
         .map(|priority| (priority, queue(state, priority)));

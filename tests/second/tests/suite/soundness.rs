@@ -45,16 +45,16 @@ fn the_base_state_is_sound() {
 #[test]
 fn counts_out_of_range() {
     breaks(&["count_out_of_range"], |state| {
-        state.ceilings = vec![20; 17]
+        state.ceilings = vec![20; 33]
     });
-    breaks(&[], |state| state.ceilings = vec![20; 16]);
+    breaks(&[], |state| state.ceilings = vec![20; 32]);
     breaks(&[], |state| state.ceilings.clear());
     let add = |state: &mut State, count: usize| {
         let ended = play(fresh(&[10], &[]), &[Finish]).tasks[0].clone();
         state.tasks.resize(count, ended);
     };
-    breaks(&[], |state| add(state, 32));
-    breaks(&["count_out_of_range"], |state| add(state, 33));
+    breaks(&[], |state| add(state, 64));
+    breaks(&["count_out_of_range"], |state| add(state, 65));
     breaks(&["count_out_of_range"], |state| {
         state.tasks.clear();
         state.running = None;
