@@ -11,6 +11,7 @@ use crate::layout::{
     bytes_of, in_range, put_rows, rows_of, running_of, state_of, ROW_SIZE, STATE_SIZE,
 };
 use crate::report::{hex, save};
+use crate::sizes::MOST_TASKS;
 
 fn refused<T>(result: Result<T, Refusal>) -> (u8, usize, usize) {
     match result {
@@ -180,7 +181,7 @@ pub fn compare_fill(bytes: &[u8], board: &[u8], input: &str) -> u8 {
 pub fn compare_state(bytes: &[u8], event: Event, input: &str) -> bool {
     let sound = compare_readers(bytes, input);
     let outcome = compare_event(bytes, event, input);
-    let filled = compare_fill(bytes, &[0xA5; ROW_SIZE * 32 + 1], input);
+    let filled = compare_fill(bytes, &[0xA5; ROW_SIZE * MOST_TASKS + 1], input);
     assert_eq!(
         (outcome.answer == 10, filled == 10),
         (!sound, !sound),

@@ -5,6 +5,7 @@ use second::machine::Outcome;
 use second::run::{Command, Run};
 
 use crate::random::Random;
+use crate::sizes::{EVENT_SIZE, MOST_EVENTS, MOST_TASKS};
 
 /// What a run writes for an event: answer, running task or 255, report.
 pub const REPLY_SIZE: usize = 3;
@@ -14,9 +15,12 @@ pub const WHOLE_CASE_EVENTS: &str = "0300000000000000 0300000000000000 010005000
     0300000000000000 0300000000000000 0300000000000000 0100040000000000 \
     0300000000000000 0300000000000000 0300000000000000 0300000000000000";
 
+/// A Step as an event of a run.
+pub const STEP: [u8; EVENT_SIZE] = [3, 0, 0, 0, 0, 0, 0, 0];
+
 /// How many bytes a run writes for these events.
 pub fn room_for(events: &[u8]) -> usize {
-    events.len() / 8 * REPLY_SIZE
+    events.len() / EVENT_SIZE * REPLY_SIZE
 }
 
 /// The second program's reply to one event.
@@ -35,7 +39,7 @@ pub fn assert_no_change_is_0(replies: &[u8], input: &dyn Fn() -> String) {
 }
 
 /// The bytes of one event.
-pub fn record_of(command: Command) -> [u8; 8] {
+pub fn record_of(command: Command) -> [u8; EVENT_SIZE] {
     let (kind, a, value) = match command {
         Command::Clock(reading) => (1, 0, reading),
         Command::Release(t) => (2, t as u8, 0),
@@ -67,18 +71,19 @@ pub fn reading_of(random: &mut Random, now: &mut u64) -> u64 {
     reading
 }
 
-/// One record: mostly a Step.
-fn record(random: &mut Random, now: &mut u64) -> [u8; 8] {
-    let mut raw = [0; 8];
+/// One record: mostly a Step; a Release and a Set name a task of a small roster, or one up to the most and past it.
+fn record(random: &mut Random, now: &mut u64) -> [u8; EVENT_SIZE] {
+    let mut raw = [0; EVENT_SIZE];
+    let tasks = random.pick(&[6, MOST_TASKS + 2]);
     match random.below(20) {
         0..=2 => return record_of(Command::Clock(reading_of(random, now))),
         3 | 4 => {
             raw[0] = 2;
-            raw[1] = random.below(34) as u8;
+            raw[1] = random.below(tasks) as u8;
         }
         5 | 6 => {
             raw[0] = 4;
-            raw[1] = random.below(6) as u8;
+            raw[1] = random.below(tasks) as u8;
             raw[2] = random.pick(&[0, 1, 2, 5, 15, 20, 31, 32, 33, 255]);
             raw[6] = random.once_in(20) as u8;
         }
@@ -87,14 +92,18 @@ fn record(random: &mut Random, now: &mut u64) -> [u8; 8] {
     raw
 }
 
+/// So many events of a run, none of them bad.
+pub fn good_events(random: &mut Random, count: usize) -> Vec<u8> {
+    let mut now = 0;
+    let records = (0..count).flat_map(|_| record(random, &mut now));
+    records.collect()
+}
+
 /// The events of a run; about one list in twelve is bad in one of the ways that answer 21 names.
 pub fn events_of(random: &mut Random) -> Vec<u8> {
-    let longest = random.pick(&[0, 4, 40, 40, 400, 1500, 4096]);
-    let mut now = 0;
-    let mut events = Vec::new();
-    for _ in 0..random.below(longest + 1) {
-        events.extend(record(random, &mut now));
-    }
+    let longest = random.pick(&[0, 4, 40, 40, 400, 1500, MOST_EVENTS]);
+    let count = random.below(longest + 1);
+    let mut events = good_events(random, count);
     if random.once_in(12) {
         spoil(random, &mut events);
     }
@@ -103,7 +112,7 @@ pub fn events_of(random: &mut Random) -> Vec<u8> {
 
 /// One fault and no other: a stray part of a record, an unknown kind, a byte in an unused field, or good Steps beyond the most.
 fn spoil(random: &mut Random, events: &mut Vec<u8>) {
-    let mut record = [0; 8];
+    let mut record = [0; EVENT_SIZE];
     match random.below(4) {
         0 => return events.extend(vec![0; random.within(1, 7)]),
         1 => {
@@ -116,13 +125,13 @@ fn spoil(random: &mut Random, events: &mut Vec<u8>) {
             record[random.within(first, last)] = 1 << random.below(8);
         }
         _ => {
-            let most = 4096 + random.within(1, 3);
-            while events.len() < 8 * most {
-                events.extend([3, 0, 0, 0, 0, 0, 0, 0]);
+            let most = MOST_EVENTS + random.within(1, 3);
+            while events.len() < EVENT_SIZE * most {
+                events.extend(STEP);
             }
             return;
         }
     }
-    let at = 8 * random.within(0, events.len() / 8);
+    let at = EVENT_SIZE * random.within(0, events.len() / EVENT_SIZE);
     events.splice(at..at, record);
 }

@@ -4,22 +4,24 @@ use second::board::{Kind, Row};
 use second::limits::QUEUES;
 use second::state::{Place, State, Task};
 
-pub const STATE_SIZE: usize = 2144;
+use crate::sizes::{MOST_OBJECTS, MOST_TASKS};
+
+/// Where the parts of a state begin, and how many bytes a row has; the rows of a list begin with its length.
+pub const RUNNING: usize = 8;
+pub const TASK_COUNT: usize = 9;
+pub const OBJECT_COUNT: usize = 10;
+pub const MARKS: usize = 12;
+pub const TASKS: usize = MARKS + 4;
+pub const TASK_ROW: usize = 16;
+pub const CEILINGS: usize = TASKS + TASK_ROW * MOST_TASKS;
+pub const HELD: usize = CEILINGS + MOST_OBJECTS;
+pub const HELD_ROW: usize = 1 + MOST_OBJECTS;
+pub const READY: usize = HELD + HELD_ROW * MOST_TASKS;
+pub const READY_ROW: usize = 1 + MOST_TASKS;
+pub const STATE_SIZE: usize = READY + READY_ROW * QUEUES;
 pub const ROW_SIZE: usize = 3;
 
 const NOBODY: u8 = 255;
-const TASK_COUNT: usize = 9;
-const OBJECT_COUNT: usize = 10;
-const MARKS: usize = 12;
-const TASKS: usize = 16;
-const TASK_ROW: usize = 16;
-const CEILINGS: usize = 528;
-const HELD: usize = 544;
-const HELD_ROW: usize = 17;
-const READY: usize = 1088;
-const READY_ROW: usize = 33;
-const MOST_TASKS: usize = 32;
-const MOST_OBJECTS: usize = 16;
 
 fn kind_of(place: Place) -> u8 {
     match place {
@@ -43,11 +45,11 @@ fn put_list(row: &mut [u8], list: impl ExactSizeIterator<Item = usize>) {
     }
 }
 
-/// The bytes of a state of at most 32 tasks and 16 objects; rows of tasks that are not there are ended, and all else 0.
+/// The bytes of a state of no more tasks and objects than there can be; rows of tasks that are not there are ended, and all else 0.
 pub fn bytes_of(state: &State) -> Vec<u8> {
     let mut bytes = vec![0; STATE_SIZE];
     bytes[..8].copy_from_slice(&state.now.to_le_bytes());
-    bytes[8] = state.running.map_or(NOBODY, |t| byte(t as u64));
+    bytes[RUNNING] = state.running.map_or(NOBODY, |t| byte(t as u64));
     bytes[TASK_COUNT] = state.tasks.len() as u8;
     bytes[OBJECT_COUNT] = state.ceilings.len() as u8;
     put_marks(&mut bytes, state.marks);
@@ -135,10 +137,10 @@ pub fn bring_in_range(bytes: &mut [u8]) {
     }
 }
 
-/// The task that the running byte names: 255 where that is no listed one. Bytes with a task count above 32, or not `in_range`, list
-/// nobody.
+/// The task that the running byte names: 255 where that is no listed one. Bytes with a task count above the most, or not `in_range`,
+/// list nobody.
 pub fn running_of(bytes: &[u8]) -> u8 {
-    let (running, tasks) = (bytes[8], bytes[TASK_COUNT]);
+    let (running, tasks) = (bytes[RUNNING], bytes[TASK_COUNT]);
     match running < tasks && tasks as usize <= MOST_TASKS && in_range(bytes) {
         true => running,
         false => NOBODY,
@@ -164,7 +166,7 @@ pub fn state_of(bytes: &[u8]) -> State {
             .collect(),
         queues,
         marks: marks_in(bytes),
-        running: Some(bytes[8] as usize).filter(|t| *t != NOBODY as usize),
+        running: Some(bytes[RUNNING] as usize).filter(|t| *t != NOBODY as usize),
     }
 }
 

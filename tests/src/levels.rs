@@ -7,10 +7,8 @@ use second::run::Command;
 use crate::events::reading_of;
 use crate::premises::{Pair, Premise};
 use crate::random::Random;
-use crate::rosters::{
-    step, Plan, Step, AGAIN, DELAY, ENTER, LEAVE, MOST_OBJECTS, MOST_TASKS, RELEASE, SET, SUSPEND,
-    WORK,
-};
+use crate::rosters::{step, Plan, Step, AGAIN, DELAY, ENTER, LEAVE, RELEASE, SET, SUSPEND, WORK};
+use crate::sizes::{MOST_OBJECTS, MOST_TASKS};
 
 /// How many events a pair is given.
 pub const EVENTS: usize = 200;
@@ -232,7 +230,9 @@ fn events_of(random: &mut Random, counts: [usize; 2]) -> Vec<Command> {
     let numbers = counts[0].max(counts[1]) + 2;
     let commands = (0..EVENTS).map(|_| match random.below(20) {
         0..=3 => Command::Clock(reading_of(random, &mut now)),
-        4..=6 if random.once_in(40) => Command::Release(random.pick(&[32, 33, 255])),
+        4..=6 if random.once_in(40) => {
+            Command::Release(random.pick(&[MOST_TASKS, MOST_TASKS + 1, 255]))
+        }
         4..=6 => Command::Release(random.below(numbers)),
         _ => Command::Step,
     });

@@ -10,4 +10,6 @@ pub mod programs;
 pub mod random;
 pub mod report;
 pub mod rosters;
+pub mod runs;
+pub mod sizes;
 pub mod states;

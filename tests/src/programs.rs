@@ -41,15 +41,25 @@ pub fn folder_for(name: &str) -> PathBuf {
 /// What a program prints in a folder with its `events.bin` as standard input, and whether it ended well.
 pub fn printed(program: &Path, folder: &Path) -> (String, bool) {
     let events = File::open(folder.join("events.bin")).unwrap();
-    let output = Command::new(program)
-        .current_dir(folder)
-        .stdin(Stdio::from(events))
-        .output()
-        .unwrap();
+    output_of(&mut Command::new(program), folder, events)
+}
+
+fn output_of(command: &mut Command, folder: &Path, events: File) -> (String, bool) {
+    let command = command.current_dir(folder).stdin(Stdio::from(events));
+    let output = command.output().unwrap();
     (
         String::from_utf8(output.stdout).unwrap(),
         output.status.success(),
     )
+}
+
+/// The same of a program that has at most so many bytes of stack, in whole KB, and no environment.
+pub fn printed_within(program: &Path, folder: &Path, stack: usize) -> (String, bool) {
+    let events = File::open(folder.join("events.bin")).unwrap();
+    let mut limited = Command::new("/bin/sh");
+    limited.args(["-c", "ulimit -s $0 && exec $1"]);
+    limited.args([Path::new(&(stack >> 10).to_string()), program]);
+    output_of(limited.env_clear(), folder, events)
 }
 
 /// What the compiled program and the second program's command print for a roster and events, and whether they ended well.

@@ -1,11 +1,14 @@
 //! Made rosters: passing ones of all shapes up to the limits, and faults of every kind planted in them.
 
 use crate::random::Random;
+use crate::sizes::{
+    LARGEST_ROSTER, LAST_OBJECT, LAST_TASK, MOST_OBJECTS, MOST_TASKS, SMALLEST_ROSTER,
+};
 
-pub const MOST_TASKS: usize = 32;
-pub const MOST_OBJECTS: usize = 16;
-pub const LARGEST: usize = 32_768;
-const TRAILER: usize = 8;
+pub const TRAILER: usize = 8;
+pub const TASK_ROW: usize = 6;
+pub const OBJECT_ROW: usize = 2;
+pub const STEP_SIZE: usize = 4;
 
 /// Document 01's roster of 46 bytes.
 pub const WHOLE_CASE: &str = "01000000 04000000 02000000 03000500 01000000 02000000 \
@@ -48,7 +51,7 @@ impl Plan {
         for (base, script) in self.bases.iter().zip(&self.scripts) {
             rows.extend([*base, 0]);
             rows.extend((bytes.len() as u16).to_le_bytes());
-            rows.extend((4 * script.len() as u16).to_le_bytes());
+            rows.extend(((STEP_SIZE * script.len()) as u16).to_le_bytes());
             for s in script {
                 bytes.extend([s.code, s.a]);
                 bytes.extend(s.b.to_le_bytes());
@@ -89,9 +92,23 @@ fn counts(random: &mut Random) -> (usize, usize) {
     (tasks, objects)
 }
 
+/// How many steps all the scripts of a roster have at most.
+pub fn most_steps(tasks: usize, objects: usize) -> usize {
+    (LARGEST_ROSTER - TRAILER - OBJECT_ROW * objects - TASK_ROW * tasks) / STEP_SIZE
+}
+
 /// A roster that keeps every rule.
 pub fn passing(random: &mut Random) -> Plan {
     let (tasks, objects) = counts(random);
+    let longest = match random.below(40) {
+        0 => most_steps(tasks, objects) / tasks,
+        _ => random.within(0, 12),
+    };
+    passing_of(random, [tasks, objects], longest)
+}
+
+/// The same with so many tasks and objects, and scripts of at most so many steps.
+pub fn passing_of(random: &mut Random, [tasks, objects]: [usize; 2], longest: usize) -> Plan {
     let spread = random.pick(&[2, 4, 32]);
     let ceilings = (0..objects)
         .map(|_| random.within(33 - spread, 32) as u8)
@@ -99,11 +116,6 @@ pub fn passing(random: &mut Random) -> Plan {
     let bases = (0..tasks)
         .map(|_| random.within(1, spread) as u8)
         .collect::<Vec<_>>();
-    let room = LARGEST - TRAILER - 2 * objects - 6 * tasks;
-    let longest = match random.below(40) {
-        0 => room / 4 / tasks,
-        _ => random.within(0, 12),
-    };
     let mut plan = Plan {
         bases,
         ceilings,
@@ -203,32 +215,74 @@ pub fn every_step() -> Plan {
     }
 }
 
-/// A roster of 32 tasks and 16 objects that passes, with a step or two for each task.
+/// Priorities from 1 to 32 for so many tasks or objects, as evenly as may be, the last number the highest.
+pub fn rising(count: usize) -> Vec<u8> {
+    let numbers = 1..=count;
+    numbers.map(|n| (32 * n).div_ceil(count) as u8).collect()
+}
+
+/// A roster of all the tasks and objects there can be that passes, with a step or two for each task.
 pub fn most_rows() -> Plan {
+    let (last_task, last_object) = (LAST_TASK as u8, LAST_OBJECT as u8);
     let script = |t: usize| match t % 4 {
         0 => vec![step(WORK, 0, 0), step(AGAIN, 0, 0)],
-        1 => vec![step(ENTER, 15, 0), step(LEAVE, 15, 0)],
-        2 => vec![step(RELEASE, 31, 0)],
+        1 => vec![step(ENTER, last_object, 0), step(LEAVE, last_object, 0)],
+        2 => vec![step(RELEASE, last_task, 0)],
         _ => vec![step(SET, t as u8, 32)],
     };
     Plan {
-        bases: (1..=32).collect(),
-        ceilings: (17..=32).collect(),
+        bases: rising(MOST_TASKS),
+        ceilings: rising(MOST_OBJECTS),
         scripts: (0..MOST_TASKS).map(script).collect(),
     }
 }
 
-/// A roster that passes and has exactly the largest size; all tasks but the last have one step.
+/// A roster that passes and has exactly the largest size, where whole steps fill it; all tasks but the last have one step.
 pub fn largest(tasks: usize, objects: usize) -> Plan {
-    let room = LARGEST - TRAILER - 2 * objects - 6 * tasks;
-    assert_eq!(room % 4, 0, "whole steps fill the roster");
+    let steps = most_steps(tasks, objects);
     let mut scripts = vec![vec![step(WORK, 0, 0)]; tasks - 1];
-    scripts.push(vec![step(WORK, 0, 0); room / 4 - (tasks - 1)]);
+    scripts.push(vec![step(WORK, 0, 0); steps - (tasks - 1)]);
     Plan {
         bases: vec![15; tasks],
         ceilings: vec![15; objects],
         scripts,
     }
+}
+
+/// A roster of exactly the largest size that passes, with all the tasks and objects there can be: each task holds all objects at once,
+/// sets its base, releases the next task and waits, again and again; Works fill up its share.
+pub fn busiest() -> Plan {
+    let steps = most_steps(MOST_TASKS, MOST_OBJECTS);
+    let share = steps / MOST_TASKS;
+    let script = |t: usize| {
+        let length = match t {
+            LAST_TASK => steps - LAST_TASK * share,
+            _ => share,
+        };
+        let round = busy_round(t as u8);
+        let mut script = round.repeat((length - 1) / round.len());
+        script.resize(length - 1, step(WORK, 0, 0));
+        script.push(step(AGAIN, 0, 0));
+        script
+    };
+    // equal ceilings and rising ones
+    let ceiling = |o: usize| 20 + (12 * o / LAST_OBJECT) as u8;
+    Plan {
+        bases: vec![10; MOST_TASKS],
+        ceilings: (0..MOST_OBJECTS).map(ceiling).collect(),
+        scripts: (0..MOST_TASKS).map(script).collect(),
+    }
+}
+
+fn busy_round(t: u8) -> Vec<Step> {
+    let objects = 0..MOST_OBJECTS as u8;
+    let mut round: Vec<Step> = objects.clone().map(|o| step(ENTER, o, 0)).collect();
+    round.push(step(SET, t, 1 + u16::from(t % 20)));
+    round.extend(objects.rev().map(|o| step(LEAVE, o, 0)));
+    let next = (t + 1) % MOST_TASKS as u8;
+    round.extend([step(RELEASE, next, 0), step(WORK, 0, 0)]);
+    round.extend([step(SUSPEND, 0, 0), step(DELAY, 0, t.into())]);
+    round
 }
 
 /// A place to put a step: at the start, in the middle, or at the end, before an Again.
@@ -406,14 +460,14 @@ pub fn damage(random: &mut Random, bytes: &mut Vec<u8>, number: u8) {
     let trailer = bytes.len() - TRAILER;
     match number {
         11 => match random.below(3) {
-            0 => bytes.truncate(random.below(14)),
+            0 => bytes.truncate(random.below(SMALLEST_ROSTER)),
             1 => bytes.clear(),
-            _ => bytes.resize(LARGEST + random.within(1, 64), 0),
+            _ => bytes.resize(LARGEST_ROSTER + random.within(1, 99), 0),
         },
         12 => bytes[trailer + random.below(2)] ^= random.byte() | 1,
         13 => match random.below(3) {
-            0 => bytes[trailer + 2] = random.pick(&[0, 33, 255]),
-            _ => bytes[trailer + 3] = random.pick(&[17, 18, 255]),
+            0 => bytes[trailer + 2] = random.pick(&[0, MOST_TASKS as u8 + 1, 255]),
+            _ => bytes[trailer + 3] = MOST_OBJECTS as u8 + random.pick(&[1, 2, 200]),
         },
         14 => off_layout(random, bytes),
         _ => {
@@ -421,8 +475,8 @@ pub fn damage(random: &mut Random, bytes: &mut Vec<u8>, number: u8) {
             let (tasks, objects) = (bytes[trailer + 2] as usize, bytes[trailer + 3] as usize);
             let table = u16::from_le_bytes([bytes[trailer + 6], bytes[trailer + 7]]) as usize;
             let row = match random.below(tasks + objects) {
-                t if t < tasks => 6 * t,
-                o => 6 * tasks + 2 * (o - tasks),
+                t if t < tasks => TASK_ROW * t,
+                o => TASK_ROW * tasks + OBJECT_ROW * (o - tasks),
             };
             bytes[table + row + 1] = 1 << random.below(8);
         }
@@ -441,7 +495,7 @@ fn off_layout(random: &mut Random, bytes: &mut Vec<u8>) {
         }
         // a start or a length in a task row
         1 => {
-            let at = table + 6 * random.below(tasks) + 2 + random.below(4);
+            let at = table + TASK_ROW * random.below(tasks) + 2 + random.below(4);
             bytes[at] = bytes[at].wrapping_add(random.pick(&[1, 2, 4, 252]));
         }
         // a gap

@@ -2,11 +2,12 @@
 
 use std::mem::discriminant;
 
-use second::limits::{LARGEST_READING, LONGEST_ADVANCE, LONGEST_DELAY};
+use second::limits::{LARGEST_READING, LONGEST_ADVANCE, LONGEST_DELAY, QUEUES};
 use second::machine::{apply_to, Event};
 use second::state::{fresh, marks_of, Place, State};
 
 use crate::random::Random;
+use crate::sizes::{MOST_OBJECTS, MOST_TASKS};
 
 /// How many kinds of events there are.
 const KINDS: usize = 9;
@@ -18,8 +19,8 @@ pub fn event_of(random: &mut Random, state: &State) -> Event {
     let mut object = random.below(objects + 1);
     let mut task = random.below(tasks + 1);
     if random.once_in(20) {
-        object = random.pick(&[16, 17, 255, 256, usize::MAX]);
-        task = random.pick(&[32, 33, 255, 256, usize::MAX]);
+        object = random.pick(&[MOST_OBJECTS, MOST_OBJECTS + 1, 255, 256, usize::MAX]);
+        task = random.pick(&[MOST_TASKS, MOST_TASKS + 1, 255, 256, usize::MAX]);
     }
     match random.below(12) {
         0 | 1 => Event::Enter(object),
@@ -75,8 +76,8 @@ fn first_now(random: &mut Random) -> u64 {
 
 /// A sound state: a fresh start, though not always at 0, and some accepted events.
 pub fn sound_state(random: &mut Random) -> State {
-    let tasks = random.pick(&[1, 2, 3, 4, 5, 8, 32]);
-    let objects = random.pick(&[0, 1, 2, 3, 4, 16]);
+    let tasks = random.pick(&[1, 2, 3, 4, 5, 8, MOST_TASKS]);
+    let objects = random.pick(&[0, 1, 2, 3, 4, MOST_OBJECTS]);
     let spread = random.pick(&[1, 3, 32]);
     let bases: Vec<u64> = (0..tasks)
         .map(|_| random.within(1, spread) as u64)
@@ -141,7 +142,7 @@ fn leave_queue(state: &mut State, t: usize) {
 /// Plants a fault: in the marks, or beside them with the marks right.
 pub fn plant(random: &mut Random, state: &mut State) {
     if random.once_in(23) {
-        state.marks ^= 1 << random.below(32);
+        state.marks ^= 1 << random.below(QUEUES);
     } else {
         plant_beside_marks(random, state);
         mend_marks(state);
@@ -161,7 +162,7 @@ fn plant_beside_marks(random: &mut Random, state: &mut State) {
         0 => state.now = random.pick(&[LARGEST_READING + 1, u64::MAX]),
         1 => state.tasks[any].base = random.pick(&[0, 33, 200]),
         2 => state.running = Some(state.tasks.len() + random.below(3)),
-        3 => state.queues[random.below(32)].push_back(state.tasks.len() + random.below(3)),
+        3 => state.queues[random.below(QUEUES)].push_back(state.tasks.len() + random.below(3)),
         4 => state.tasks[any].waiting = Some(random.within(0, 33) as u64),
         5 => state.tasks[any]
             .held
@@ -194,7 +195,7 @@ fn plant_beside_marks(random: &mut Random, state: &mut State) {
         13 => {
             if let Some(t) = ready {
                 leave_queue(state, t);
-                let queue = random.below(32);
+                let queue = random.below(QUEUES);
                 state.queues[queue].push_back(t);
             }
         }
@@ -241,7 +242,11 @@ fn hold_wrongly(random: &mut Random, state: &mut State) {
     let mut objects: Vec<usize> = (0..state.ceilings.len()).collect();
     objects.retain(|o| (state.ceilings[*o] < base) == below);
     objects.sort_by_key(|o| std::cmp::Reverse(state.ceilings[*o]));
-    objects.truncate(if below { 1 } else { random.within(2, 16) });
+    objects.truncate(if below {
+        1
+    } else {
+        random.within(2, MOST_OBJECTS)
+    });
     state.tasks[t].held = objects;
 }
 
@@ -249,7 +254,7 @@ fn hold_wrongly(random: &mut Random, state: &mut State) {
 fn queue_for(random: &mut Random, state: &State, t: usize) -> usize {
     match state.active(t) {
         Some(p @ 1..=32) if random.once_in(2) => p as usize - 1,
-        _ => random.below(32),
+        _ => random.below(QUEUES),
     }
 }
 

@@ -3,7 +3,7 @@
 use dispatch::roster::{self, Refusal, Step};
 use dispatch::{
     next, Answer, Object, Outcome, Place, Priority, Report, Row, State, Task, LONGEST_ADVANCE,
-    MOST_TASKS, REPLY_SIZE, STATE_SIZE,
+    MOST_OBJECTS, MOST_TASKS, REPLY_SIZE, STATE_SIZE,
 };
 use harness::report::bytes_of;
 use harness::rosters::{every_step, WHOLE_CASE};
@@ -154,6 +154,29 @@ fn a_board_is_filled_and_asked() {
     assert_eq!(next(&[Row::default()]), Err(Answer::BadPriority));
     assert_eq!(next(&[blank; MOST_TASKS + 1]), Err(Answer::BadCounts));
     assert_eq!(state.fill(&mut board[..2]), Answer::BadCounts);
+}
+
+/// All tasks, objects and rows that there can be, and one more of each.
+#[test]
+fn the_most_tasks_objects_and_rows() {
+    let (bases, ceilings) = ([9; MOST_TASKS + 1], [9; MOST_OBJECTS + 1]);
+    let (last, object) = (MOST_TASKS as u64 - 1, MOST_OBJECTS as u64 - 1);
+    let (answer, mut state) = State::fresh(&bases[1..], &ceilings[1..]);
+    assert_eq!((answer, state.running()), (Answer::Done, Some(Task(0))));
+    assert_eq!(State::fresh(&bases, &[]).0, Answer::BadCounts);
+    assert_eq!(State::fresh(&[9], &ceilings).0, Answer::BadCounts);
+    assert_eq!(state.release(Task(last)), done(Report::Unchanged));
+    assert_eq!(state.release(Task(last + 1)), refused(Answer::NoSuchTask));
+    assert_eq!(state.enter(Object(object)), done(Report::Unchanged));
+    let outcome = state.enter(Object(object + 1));
+    assert_eq!(outcome, refused(Answer::NoSuchObject));
+    let mut board = [Row::default(); MOST_TASKS];
+    assert_eq!(state.fill(&mut board), Answer::Done);
+    assert_eq!(state.fill(&mut board[1..]), Answer::BadCounts);
+    let row = board[last as usize];
+    let wanted = (Some(Place::Ready), 9, last as u8 - 1);
+    assert_eq!((row.place(), row.priority, row.position), wanted);
+    assert_eq!(next(&board), Ok(Some(1)));
 }
 
 #[test]

@@ -5,6 +5,7 @@ use harness::compare::compare_fill;
 use harness::layout::{bytes_of, mend_marks_in, put_rows, rows_of, state_of, ROW_SIZE, STATE_SIZE};
 use harness::random::Random;
 use harness::report::{hex, Histogram};
+use harness::sizes::{MOST_ROWS, MOST_TASKS};
 use harness::states::{plant, sound_state};
 use second::board::{self, Kind, Row};
 
@@ -37,7 +38,7 @@ fn filling_agrees_with_the_second_program() {
         // around the number of tasks, and now and then far from it; bytes behind the last whole row too
         let rows = match random.below(4) {
             0 => random.below(tasks + 1),
-            1 => random.below(40),
+            1 => random.below(MOST_TASKS + 8),
             _ => tasks + random.below(3),
         };
         let board: Vec<u8> = (0..ROW_SIZE * rows + random.below(3))
@@ -72,7 +73,12 @@ fn the_next_row_agrees_with_the_second_program() {
     let (mut nobody, mut last) = (0, 0);
     for seed in 0..CASES {
         let mut random = Random::new(seed);
-        let count = random.pick(&[0, 1, 2, 3, 8, 31, 32, 32, 33, 40]);
+        let count = match random.below(10) {
+            0..=3 => random.below(4),
+            4 => random.within(8, MOST_ROWS),
+            5..=7 => MOST_ROWS - random.below(2),
+            _ => MOST_ROWS + random.pick(&[1, 8]),
+        };
         let priorities = random.pick(&[1, 2, 32]);
         let rows: Vec<Row> = (0..count)
             .map(|_| made_row(&mut random, priorities))

@@ -2,20 +2,22 @@
 
 use dispatch::raw;
 use harness::compare::{compare_after, compare_run};
-use harness::events::{record_of, records_of, reply_of, room_for};
+use harness::events::{records_of, room_for, REPLY_SIZE, STEP};
 use harness::layout::{bytes_of, state_of};
 use harness::random::Random;
-use harness::report::{hex, save, seen, Histogram};
+use harness::report::{hex, seen, Histogram};
 use harness::rosters::{step, Plan, Step, AGAIN, DELAY, ENTER, LEAVE, RELEASE, SET, SUSPEND, WORK};
+use harness::runs::one_run;
+use harness::sizes::{EVENT_SIZE, LAST_OBJECT, LAST_TASK, MOST_EVENTS, MOST_OBJECTS, MOST_TASKS};
 use harness::states::{at_now, dues};
 use second::machine::{Event, Outcome};
-use second::roster::{read, Step as Read};
-use second::run::{Command, Run};
+use second::run::Command;
 use second::state::{fresh, Place, State};
 
-const RUNS: u64 = 4_500;
-const HISTORIES: u64 = 4_000;
-const EVENTS: usize = 120;
+const RUNS: u64 = 2_600;
+const HISTORIES: u64 = 2_200;
+/// Enough for all tasks to be delayed, and for all objects to be entered and left, more than once.
+const EVENTS: usize = 160;
 const LEAST: usize = 200;
 const LARGEST: u64 = 281_474_976_710_655;
 
@@ -33,9 +35,9 @@ enum Sight {
     WakesNone,
     WakesOne,
     WakesMany,
-    /// all but one of 32 tasks, and all 32
-    Wakes31,
-    Wakes32,
+    /// all but one of the most tasks, and all of them
+    WakesAllButOne,
+    WakesAll,
     WakesSomeOnly,
     /// two of one queue, with equal due times, and with due times against their numbers
     EqualDues,
@@ -76,8 +78,8 @@ const SIGHTS: [Sight; 30] = [
     WakesNone,
     WakesOne,
     WakesMany,
-    Wakes31,
-    Wakes32,
+    WakesAllButOne,
+    WakesAll,
     WakesSomeOnly,
     EqualDues,
     AgainstNumbers,
@@ -138,8 +140,8 @@ impl Watch {
 
     /// Another history begins.
     fn begin(&mut self) {
-        self.woken_at = vec![None; 32];
-        self.set = vec![false; 32];
+        self.woken_at = vec![None; MOST_TASKS];
+        self.set = vec![false; MOST_TASKS];
         (self.next, self.all, self.last) = (false, false, None);
     }
 
@@ -183,8 +185,8 @@ impl Watch {
             (WakesNone, n == 0 && left > 0 && reading > before.now),
             (WakesOne, n == 1),
             (WakesMany, n > 1),
-            (Wakes31, n == 31 && tasks == 32),
-            (Wakes32, n == 32),
+            (WakesAllButOne, n == LAST_TASK && tasks == MOST_TASKS),
+            (WakesAll, n == MOST_TASKS),
             (WakesSomeOnly, n > 0 && left > 0),
             (EqualDues, equal),
             (AgainstNumbers, against),
@@ -267,7 +269,7 @@ fn ticks_of(random: &mut Random, shape: Shape, t: usize) -> u16 {
         Shape::Any => random.pick(&[0, 1, 1, 2, 3, 5, 8, 300, 65_534, 65_535]),
         Shape::Equal => 7,
         Shape::Rising => 3 + t,
-        Shape::Falling => 40 - t,
+        Shape::Falling => MOST_TASKS as u16 + 8 - t,
         Shape::Short => random.pick(&[0, 1, 1, 2, 3]),
         Shape::Long => random.pick(&[65_535, 65_535 - t, 1 + t]),
     }
@@ -284,11 +286,12 @@ struct Crew {
 }
 
 fn crew_of(random: &mut Random) -> Crew {
-    let tasks = random.pick(&[1, 2, 3, 5, 8, 16, 31, 32, 32, 32, 32, 32]);
+    let few = random.pick(&[1, 2, 3, 5, 8, MOST_TASKS / 2, LAST_TASK]);
+    let tasks = random.pick(&[few, MOST_TASKS]);
     let spread = random.pick(&[1, 1, 2, 4, 31]);
     let mut bases: Vec<u8> = Vec::new();
     bases.resize_with(tasks, || random.within(2, spread + 1) as u8);
-    let idle = Some(random.below(tasks)).filter(|_| random.once_in(2));
+    let idle = Some(random.below(tasks)).filter(|_| random.once_in(3));
     if let Some(t) = idle {
         bases[t] = 1;
     }
@@ -328,7 +331,7 @@ fn reading_of(random: &mut Random, state: &State) -> u64 {
         return now + random.below(3) as u64;
     };
     let one = random.pick(&dues);
-    if dues.len() > 30 && random.once_in(2) {
+    if dues.len() >= LAST_TASK && !random.once_in(4) {
         return latest;
     }
     match random.below(18) {
@@ -350,74 +353,19 @@ fn reading_of(random: &mut Random, state: &State) -> u64 {
 fn outside(random: &mut Random, state: &State, calm: bool) -> Option<Event> {
     let delayed = delayed(state);
     let waiting = state.highest_ready().is_none() && !delayed.is_empty();
+    // while the last still runs it is mostly let go too
+    let often = if state.running.is_none() { 3 } else { 1 };
     let mut t = random.below(state.tasks.len());
     if !delayed.is_empty() && !random.once_in(4) {
         t = random.pick(&delayed).0;
     }
-    match random.below(if calm { 100 } else { 16 }) {
+    match random.below(if calm { 4 * MOST_TASKS } else { 16 }) {
         0 => Some(Event::Set(t, random.pick(&[1, 2, 2, 3, 3, 4, 31, 32]))),
         1 => Some(Event::Release(t)),
         2 => Some(Event::Clock(reading_of(random, state))),
-        n if n % 2 == 0 && waiting => Some(Event::Clock(reading_of(random, state))),
+        n if waiting && n % 4 < often => Some(Event::Clock(reading_of(random, state))),
         _ => None,
     }
-}
-
-fn command_of(event: Option<Event>) -> Command {
-    match event {
-        Some(Event::Clock(reading)) => Command::Clock(reading),
-        Some(Event::Release(t)) => Command::Release(t),
-        Some(Event::Set(t, p)) => Command::Set(t, p),
-        _ => Command::Step,
-    }
-}
-
-/// The event that the running task's next step is; Work stands for Again.
-fn step_of(run: &Run) -> Event {
-    let Some(t) = run.state.running else {
-        return Event::Finish;
-    };
-    match run.roster.tasks[t].script.get(run.places[t]) {
-        None => Event::Finish,
-        Some(Read::Enter(o)) => Event::Enter(*o),
-        Some(Read::Leave(o)) => Event::Leave(*o),
-        Some(Read::Delay(d)) => Event::Delay(*d),
-        Some(Read::Suspend) => Event::Suspend,
-        Some(Read::Release(t)) => Event::Release(*t),
-        Some(Read::Set(t, p)) => Event::Set(*t, *p),
-        Some(Read::Work | Read::Again) => Event::Work,
-    }
-}
-
-/// One run: its events are made along the second program's states, then the library takes them all. What is seen of an event is
-/// told before, the event, its outcome, and after.
-fn one_run(
-    name: &str,
-    seed: u64,
-    plan: &Plan,
-    mut next: impl FnMut(&State) -> Option<Event>,
-    see: &mut dyn FnMut(&State, Event, Outcome, &State),
-    length: usize,
-) {
-    let roster = plan.bytes();
-    let mut run = Run::start(read(&roster).expect("a roster of right form"));
-    let (mut events, mut wanted) = (Vec::new(), Vec::new());
-    for _ in 0..length {
-        let outer = next(&run.state);
-        let event = outer.unwrap_or_else(|| step_of(&run));
-        let before = run.state.clone();
-        let reply = reply_of(&mut run, command_of(outer));
-        let [answer, _, report] = reply;
-        see(&before, event, Outcome { answer, report }, &run.state);
-        events.extend(record_of(command_of(outer)));
-        wanted.extend(reply);
-    }
-    let mut found = vec![0xA5; wanted.len()];
-    let answer = raw::run(&roster, &events, &mut found);
-    let input = || format!("seed {seed}, {}", save(name, seed, &roster, &events));
-    assert_eq!(answer, (0, 0, 0), "answer, {}", input());
-    let differs = found.iter().zip(&wanted).position(|(a, b)| a != b);
-    assert!(differs.is_none(), "byte {differs:?}, {}", input());
 }
 
 #[test]
@@ -433,8 +381,8 @@ fn runs_with_due_times_agree_with_the_second_program() {
                 .map(|t| delays(&mut random, &crew, t))
                 .collect(),
         };
-        let calm = random.once_in(2);
-        let length = random.pick(&[40, 80, 150, 300]);
+        let calm = !random.once_in(3);
+        let length = random.pick(&[40, 100, 200, 400]);
         watch.begin();
         one_run(
             "due-runs",
@@ -478,7 +426,7 @@ fn histories_with_due_times_agree_with_the_second_program() {
         let bases: Vec<u64> = crew.bases.iter().map(|b| u64::from(*b)).collect();
         let start = at_now(&fresh(&bases, &[]).1, now_of(&mut random));
         let mut bytes = bytes_of(&start);
-        let calm = random.once_in(2);
+        let calm = !random.once_in(3);
         watch.begin();
         for i in 0..EVENTS {
             let before = state_of(&bytes);
@@ -494,43 +442,50 @@ fn histories_with_due_times_agree_with_the_second_program() {
     watch.sights.require(&SIGHTS, LEAST);
 }
 
-/// The Delay of each of 31 tasks, and the order in which they run.
+/// Those of the most tasks that wake: all but the last number, which never stops.
+const WAKING: u8 = LAST_TASK as u8;
+/// How many of their numbers are even.
+const EVEN: u8 = WAKING.div_ceil(2);
+
+/// The Delay of each of them, and the order in which they run.
 type Order = (fn(u16) -> u16, fn(u8) -> u8);
 
 const ORDERS: [Order; 4] = [
     (|_| 9, |i| i),
     (|t| 3 + t, |i| i),
-    (|t| 65_535 - t, |i| 30 - i),
+    (|t| 65_535 - t, |i| WAKING - 1 - i),
     // even numbers first
     (
         |t| 1 + t % 2,
-        |i| if i < 16 { 2 * i } else { 2 * (i - 16) + 1 },
+        |i| match i {
+            ..EVEN => 2 * i,
+            _ => 2 * (i - EVEN) + 1,
+        },
     ),
 ];
 
-/// 31 tasks of one queue, all awake by one reading, over a task that never stops: they run by due time, then by number, each to its
-/// end. Written out by hand, with the reading one below the earliest due time before.
+/// All but one of the most tasks in one queue, all awake by one reading, over a task that never stops: they run by due time, then by
+/// number, each to its end. Written out by hand, with the reading one below the earliest due time before.
 #[test]
-fn thirty_one_wake_in_order() {
+fn all_but_one_wake_in_order() {
     for (case, (ticks, order)) in ORDERS.iter().enumerate() {
         let delay = |t: u16| vec![step(DELAY, 0, ticks(t))];
-        let mut scripts: Vec<Vec<Step>> = (0..31).map(delay).collect();
+        let mut scripts: Vec<Vec<Step>> = (0..WAKING.into()).map(delay).collect();
         scripts.push(vec![step(WORK, 0, 0), step(AGAIN, 0, 0)]);
         let plan = Plan {
-            bases: [vec![10; 31], vec![1]].concat(),
+            bases: [vec![10; WAKING.into()], vec![1]].concat(),
             ceilings: Vec::new(),
             scripts,
         };
-        let due = |t| u64::from(ticks(t));
-        let (earliest, latest) = ((0..31).map(due).min(), (0..31).map(due).max());
-        let mut commands = vec![Command::Step; 31];
-        commands.extend(earliest.map(|r| Command::Clock(r - 1)));
-        commands.extend(latest.map(Command::Clock));
-        commands.extend([Command::Step; 31]);
-        let mut wanted: Vec<u8> = (1..=31).flat_map(|t| [0, t, 2]).collect();
-        wanted.extend([0, 31, 0, 0, order(0), 1]);
-        wanted.extend((1..31).flat_map(|i| [0, order(i), 2]));
-        wanted.extend([0, 31, 2]);
+        let dues = || (0..WAKING.into()).map(|t| u64::from(ticks(t)));
+        let mut commands = vec![Command::Step; WAKING.into()];
+        commands.extend(dues().min().map(|r| Command::Clock(r - 1)));
+        commands.extend(dues().max().map(Command::Clock));
+        commands.extend(vec![Command::Step; WAKING.into()]);
+        let mut wanted: Vec<u8> = (1..=WAKING).flat_map(|t| [0, t, 2]).collect();
+        wanted.extend([0, WAKING, 0, 0, order(0), 1]);
+        wanted.extend((1..WAKING).flat_map(|i| [0, order(i), 2]));
+        wanted.extend([0, WAKING, 2]);
         let events = records_of(&commands);
         let mut found = vec![0xA5; room_for(&events)];
         let answer = raw::run(&plan.bytes(), &events, &mut found);
@@ -562,14 +517,15 @@ enum Deep {
 
 use Deep::*;
 
-/// How many objects it holds: 1, 2 to 7, 8 to 15 or 16, by the least.
+/// Half of the most objects.
+const HALF: usize = MOST_OBJECTS / 2;
+/// The depths that are counted, each up to the next: one object, fewer than half of the most, half or more, all.
+const DEPTHS: [usize; 4] = [1, 2, HALF, MOST_OBJECTS];
+
+/// The last of these depths that so many held objects reach.
 fn depth(held: usize) -> usize {
-    match held {
-        0 | 1 => held,
-        2..=7 => 2,
-        8..=15 => 8,
-        _ => 16,
-    }
+    let reached = DEPTHS.into_iter().filter(|d| *d <= held);
+    reached.max().unwrap_or(0)
 }
 
 /// Whether the innermost two objects of the running task have the same ceiling.
@@ -632,17 +588,19 @@ struct Nest {
 }
 
 fn nest_of(random: &mut Random) -> Nest {
-    let objects = random.pick(&[16, 16, 16, 9, 3]);
+    let objects = random.pick(&[MOST_OBJECTS, MOST_OBJECTS, MOST_OBJECTS, HALF + 1, 3]);
     let (turn, rise) = (random.below(objects), random.pick(&[0, 1, 1, 2, 3, 4, 4]));
     let mut ceilings = vec![0; objects];
     let order: Vec<u8> = (0..objects)
         .map(|i| ((i * 5 + turn) % objects) as u8)
         .collect();
     for (i, o) in order.iter().enumerate() {
-        let ceiling = [10, 10 + i, 10 + i / 2, 10 + i / 8, 10 + i * 22 / 15][rise];
-        ceilings[*o as usize] = ceiling as u8;
+        // by how much it is above the lowest, 10, up to 32: one by one, the outermost being equal where there is no room for that
+        let one_by_one = (i + 22).saturating_sub(22.max(objects - 1));
+        let above = [0, one_by_one, i / 2, i / 8, i * 22 / LAST_OBJECT][rise];
+        ceilings[*o as usize] = 10 + above as u8;
     }
-    let tasks = random.pick(&[2, 3, 4, 6, 32]);
+    let tasks = random.pick(&[2, 3, 4, 6, MOST_TASKS]);
     let top = random.pick(&[10, 18, 26]);
     let base = |t: usize, random: &mut Random| match t % 2 {
         0 => random.within(1, 10) as u8,
@@ -701,14 +659,15 @@ fn between(random: &mut Random, state: &State) -> Option<Event> {
         return Some(Event::Set(runner, random.within(1, 10) as u64));
     }
     let active = task.active(&state.ceilings);
-    match random.below([30, 20, 9][task.held.len() / 8]) {
+    let ready = state.queues.iter().flatten().next();
+    match random.below([60, 40, 16][task.held.len() / HALF]) {
         0 => Some(Event::Release(away)),
         1 => Some(Event::Release(t)),
         2 => Some(Event::Clock(reading_of(random, state))),
         3 => Some(Event::Set(t, random.within(1, 10) as u64)),
         4 => Some(Event::Set(t, random.within(1, 32) as u64)),
-        5 | 6 if t != runner => Some(Event::Set(t, active)),
-        7 if t != runner => Some(Event::Set(t, (active + 1).min(32))),
+        5 | 6 => ready.map(|t| Event::Set(*t, active)),
+        7 => ready.map(|t| Event::Set(*t, (active + 1).min(32))),
         _ => None,
     }
 }
@@ -725,7 +684,7 @@ const DEEP: [Deep; 7] = [
 
 /// Every depth for each of these; one object alone has none outside it.
 fn each_depth(what: &[Deep]) -> Vec<(Deep, usize)> {
-    let depths = what.iter().flat_map(|w| [1, 2, 8, 16].map(|d| (*w, d)));
+    let depths = what.iter().flat_map(|w| DEPTHS.map(|d| (*w, d)));
     depths.filter(|pair| *pair != (LeaveOfEquals, 1)).collect()
 }
 
@@ -771,14 +730,16 @@ fn nested_step(random: &mut Random, nest: &Nest, state: &State, inwards: bool) -
     let any = random.below(nest.ceilings.len());
     let open = |o: &&u8| !task.held.contains(&usize::from(**o));
     let fits = |o: &&u8| state.ceilings[usize::from(**o)] >= task.active(&state.ceilings);
-    let next = nest.order.iter().filter(open).find(fits);
+    let may_enter = |o: &u8| open(&o) && fits(&o);
+    let next = nest.order.iter().find(|o| may_enter(o));
     let low = nest.order.iter().find(open);
-    let full = task.held.len() == 16 && random.once_in(2);
+    let full = task.held.len() == MOST_OBJECTS && random.once_in(2);
     match (random.below(20), inwards && !full) {
         (0..=10, true) | (0..=1, false) => Event::Enter(next.map_or(any, |o| usize::from(*o))),
         (11 | 12, true) | (2..=12, false) => Event::Leave(task.held.last().copied().unwrap_or(any)),
         (13, _) => Event::Enter(low.map_or(any, |o| usize::from(*o))),
-        (14, _) => Event::Enter(any),
+        // one that can be entered may lie far in, and closes all before it
+        (14, deeper) if !deeper || !may_enter(&(any as u8)) => Event::Enter(any),
         (15, _) => Event::Leave(any),
         (16, _) => Event::Delay(random.pick(&[0, 1, 3])),
         (17, _) => Event::Suspend,
@@ -797,7 +758,7 @@ fn histories_with_deep_nesting_agree_with_the_second_program() {
         for i in 0..2 * EVENTS {
             let before = state_of(&bytes);
             let event = between(&mut random, &before)
-                .unwrap_or_else(|| nested_step(&mut random, &nest, &before, i / 60 % 2 == 0));
+                .unwrap_or_else(|| nested_step(&mut random, &nest, &before, i / 100 % 2 == 0));
             let input = format!("seed {seed}, event {i}");
             let (outcome, after) = compare_after(&bytes, event, &input);
             see_deep(&mut counts, &before, event, outcome, &state_of(&after));
@@ -807,14 +768,14 @@ fn histories_with_deep_nesting_agree_with_the_second_program() {
     counts.print("nesting in histories on bytes");
     counts.require(&each_depth(&DEEP), LEAST);
     counts.require(&each_depth(&[HeldAlready, NotInnermost, BaseWaits]), LEAST);
-    // with all 16 held, none is left whose ceiling is below
-    let above = [1, 2, 8].map(|d| (AboveCeiling, d));
+    // with all of them held, none is left whose ceiling is below
+    let above = [1, 2, HALF].map(|d| (AboveCeiling, d));
     counts.require(&above, LEAST);
 }
 
 /// Document 01 on an event's 8 bytes: "kind, a, value (6). 1 Clock value; 2 Release a; 3 Step; 4 Set a, value. Unused fields are
 /// 0."
-fn is_good(record: [u8; 8]) -> bool {
+fn is_good(record: [u8; EVENT_SIZE]) -> bool {
     match record[0] {
         1 => record[1] == 0,
         2 => record[2..8] == [0; 6],
@@ -825,7 +786,7 @@ fn is_good(record: [u8; 8]) -> bool {
 }
 
 /// The reply to a good record, at now 0, of a single task that works on and on.
-fn reply_to(record: [u8; 8]) -> [u8; 3] {
+fn reply_to(record: [u8; EVENT_SIZE]) -> [u8; REPLY_SIZE] {
     let [kind, a, v @ ..] = record;
     let value = v.iter().rev().fold(0, |sum, b| 256 * sum + u64::from(*b));
     let answer = match kind {
@@ -838,7 +799,7 @@ fn reply_to(record: [u8; 8]) -> [u8; 3] {
 }
 
 /// Every kind byte, each without another bit and with each single bit of the other 7 bytes.
-fn records() -> Vec<[u8; 8]> {
+fn records() -> Vec<[u8; EVENT_SIZE]> {
     let bits = |kind: u8| (8..64).map(move |bit| u64::from(kind) | 1 << bit);
     let with = |kind: u8| std::iter::once(u64::from(kind)).chain(bits(kind));
     let all = (0..=255).flat_map(with);
@@ -846,8 +807,8 @@ fn records() -> Vec<[u8; 8]> {
 }
 
 /// Good records around, none of which changes what another is answered: the fields that a kind uses are full or empty.
-const AROUND: [[u8; 8]; 6] = [
-    [3, 0, 0, 0, 0, 0, 0, 0],
+const AROUND: [[u8; EVENT_SIZE]; 6] = [
+    STEP,
     [2, 0, 0, 0, 0, 0, 0, 0],
     [4, 255, 255, 255, 255, 255, 255, 255],
     [1, 0, 255, 255, 255, 255, 255, 255],
@@ -855,21 +816,20 @@ const AROUND: [[u8; 8]; 6] = [
     [4, 0, 5, 0, 0, 0, 0, 0],
 ];
 
-const MOST: usize = 4_096;
-
 /// That these events with this record at a place are answered as the rule says, and that nothing is written if they are refused;
 /// the replies to the others are given.
-fn assert_tested(roster: &[u8], events: &[u8], others: &[u8], at: usize, record: [u8; 8]) {
+fn assert_tested(roster: &[u8], events: &[u8], others: &[u8], at: usize, record: [u8; EVENT_SIZE]) {
     let mut found = vec![0xA5; others.len() + 1];
     let (number, task, step) = raw::run(roster, events, &mut found);
     let good = is_good(record);
-    let input = || format!("record {} at {at} of {}", hex(&record), events.len() / 8);
+    let count = events.len() / EVENT_SIZE;
+    let input = || format!("record {} at {at} of {count}", hex(&record));
     let wanted = if good { 0 } else { 21 };
     assert_eq!((number, task, step), (wanted, 0, 0), "{}", input());
     let mut replies = vec![0xA5; found.len()];
     if good {
         replies[..others.len()].copy_from_slice(others);
-        replies[3 * at..][..3].copy_from_slice(&reply_to(record));
+        replies[REPLY_SIZE * at..][..REPLY_SIZE].copy_from_slice(&reply_to(record));
     }
     assert!(found == replies, "buffer, {}", input());
 }
@@ -883,15 +843,16 @@ fn every_kind_with_every_single_bit_is_answered_by_the_rule() {
     };
     let roster = plan.bytes();
     let mut answers = Histogram::new();
-    let around: Vec<[u8; 8]> = AROUND.into_iter().cycle().take(MOST).collect();
+    let around: Vec<[u8; EVENT_SIZE]> = AROUND.into_iter().cycle().take(MOST_EVENTS).collect();
     let events = around.concat();
     let others: Vec<u8> = around.iter().flat_map(|r| reply_to(*r)).collect();
     let mut changed = events.clone();
     for record in records() {
-        assert_tested(&roster, &record, &[0; 3], 0, record);
-        compare_run(&roster, &record, 3, &format!("record {}", hex(&record)));
-        for at in [0, MOST / 2, MOST - 1] {
-            let place = 8 * at..8 * at + 8;
+        assert_tested(&roster, &record, &[0; REPLY_SIZE], 0, record);
+        let input = format!("record {}", hex(&record));
+        compare_run(&roster, &record, REPLY_SIZE, &input);
+        for at in [0, MOST_EVENTS / 2, MOST_EVENTS - 1] {
+            let place = EVENT_SIZE * at..EVENT_SIZE * (at + 1);
             changed[place.clone()].copy_from_slice(&record);
             assert_tested(&roster, &changed, &others, at, record);
             changed[place.clone()].copy_from_slice(&events[place]);

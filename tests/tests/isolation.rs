@@ -12,7 +12,8 @@ use harness::premises::{above, broken, Pair, Premise, PREMISES};
 use harness::programs::line_of;
 use harness::random::Random;
 use harness::report::{bytes_of, save, Histogram};
-use harness::rosters::{Plan, AGAIN, DELAY, ENTER, LEAVE, MOST_TASKS, RELEASE, SET, SUSPEND, WORK};
+use harness::rosters::{Plan, AGAIN, DELAY, ENTER, LEAVE, RELEASE, SET, SUSPEND, WORK};
+use harness::sizes::MOST_TASKS;
 use second::board::Row;
 use second::run::Command;
 use second::state::{Place, State, Task};
@@ -22,7 +23,7 @@ const LEAST: usize = 200;
 const LEAST_AT_LEVEL: usize = 50;
 /// The boards are compared after every so many events, the last included: after each would take half as long again.
 const BOARD_EACH: usize = 8;
-const BROKEN_PAIRS: u64 = 800;
+const BROKEN_PAIRS: u64 = 600;
 const APART_PAIRS: u64 = 1_000;
 const LEAST_BROKEN: usize = 20;
 

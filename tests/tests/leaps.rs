@@ -9,6 +9,7 @@ use harness::programs::{both_printed, lines_of};
 use harness::random::Random;
 use harness::report::{save, seen, Histogram};
 use harness::rosters::{passing, step, Plan, DELAY};
+use harness::sizes::MOST_EVENTS;
 use harness::states::{at_now, dues, plant, sound_state};
 use second::machine::Event;
 use second::roster::read;
@@ -382,12 +383,13 @@ fn the_longest_advances_of_a_whole_run() {
         scripts: vec![Vec::new()],
     };
     let events = |more: u64| -> Vec<u8> {
-        let readings = (1..=4096).map(|k| Command::Clock(k * LONGEST + more));
+        let readings = (1..=MOST_EVENTS as u64).map(|k| Command::Clock(k * LONGEST + more));
         records_of(&readings.collect::<Vec<_>>())
     };
     for (more, answer) in [(0, 0), (1, 4)] {
-        let mut buffer = vec![0xA5; REPLY_SIZE * 4096];
+        let mut buffer = vec![0xA5; REPLY_SIZE * MOST_EVENTS];
         let done = raw::run(&plan.bytes(), &events(more), &mut buffer);
-        assert_eq!((done, buffer), ((0, 0, 0), [answer, 0, 0].repeat(4096)));
+        let replies = [answer, 0, 0].repeat(MOST_EVENTS);
+        assert_eq!((done, buffer), ((0, 0, 0), replies));
     }
 }

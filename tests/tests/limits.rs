@@ -2,11 +2,17 @@
 
 use harness::calls::{self, done};
 use harness::compare::{compare_after, compare_event, compare_parts, compare_roster, compare_run};
-use harness::events::{record_of, REPLY_SIZE};
+use harness::events::{record_of, room_for, REPLY_SIZE, STEP};
 use harness::layout::{bytes_of, put_rows, rows_of, ROW_SIZE};
 use harness::random::Random;
 use harness::report::hex;
-use harness::rosters::{every_step, largest, step, Plan, AGAIN, DELAY, ENTER, LARGEST, WORK};
+use harness::rosters::{
+    every_step, largest, step, Plan, AGAIN, DELAY, ENTER, TASK_ROW, TRAILER, WORK,
+};
+use harness::sizes::{
+    LARGEST_ROSTER, LAST_OBJECT, LAST_TASK, MOST_EVENTS, MOST_OBJECTS, MOST_ROWS, MOST_TASKS,
+    SMALLEST_ROSTER,
+};
 use harness::states::sound_state;
 use second::board::{self, Kind, Row};
 use second::limits::{LARGEST_READING, LONGEST_ADVANCE};
@@ -14,10 +20,13 @@ use second::machine::Event;
 use second::run::Command;
 use second::state::fresh;
 
-const STEP: [u8; 8] = [3, 0, 0, 0, 0, 0, 0, 0];
-
 /// Tasks and objects with which whole steps fill the largest roster.
-const FULL: [(usize, usize); 4] = [(1, 1), (2, 0), (31, 15), (32, 16)];
+const FULL: [(usize, usize); 4] = [
+    (1, 1),
+    (2, 0),
+    (LAST_TASK, LAST_OBJECT),
+    (MOST_TASKS, MOST_OBJECTS),
+];
 
 #[test]
 fn a_roster_of_the_largest_size() {
@@ -25,10 +34,14 @@ fn a_roster_of_the_largest_size() {
         let plan = largest(tasks, objects);
         let bytes = plan.bytes();
         let input = format!("{tasks} tasks, {objects} objects");
-        assert_eq!(bytes.len(), LARGEST);
+        assert_eq!(bytes.len(), LARGEST_ROSTER);
         assert_eq!(compare_roster(&bytes, &input), 0);
-        compare_parts(&bytes, &[0, 1, 31, 32], &[0, 15, 16], &|| input.clone());
-        assert_eq!(compare_run(&bytes, &STEP.repeat(40), 120, &input), 0);
+        let ends = |last: usize| [0, 1, last as u64, last as u64 + 1];
+        let (ts, os) = (ends(LAST_TASK), ends(LAST_OBJECT));
+        compare_parts(&bytes, &ts, &os, &|| input.clone());
+        let steps = MOST_TASKS + 8;
+        let answer = compare_run(&bytes, &STEP.repeat(steps), REPLY_SIZE * steps, &input);
+        assert_eq!(answer, 0);
         // the last step is looked at too
         let mut late = plan.clone();
         *late.scripts[tasks - 1].last_mut().unwrap() = step(WORK, 1, 0);
@@ -38,7 +51,8 @@ fn a_roster_of_the_largest_size() {
             assert_eq!(compare_roster(&late.bytes(), &input), 17);
         }
         // one byte more, anywhere, and one step more
-        for at in [0, 4, LARGEST / 2, LARGEST - 8, LARGEST] {
+        let ends = [LARGEST_ROSTER - TRAILER, LARGEST_ROSTER];
+        for at in [0, 4, LARGEST_ROSTER / 2].into_iter().chain(ends) {
             let mut longer = bytes.clone();
             longer.insert(at, 0);
             assert_eq!(
@@ -56,12 +70,13 @@ fn a_roster_of_the_largest_size() {
 #[test]
 fn the_tables_of_a_roster_of_the_largest_size() {
     let bytes = largest(2, 0).bytes();
-    for at in LARGEST - 8 - 12..LARGEST {
+    let trailer = LARGEST_ROSTER - TRAILER;
+    for at in trailer - 2 * TASK_ROW..LARGEST_ROSTER {
         for bit in 0..8 {
             let mut changed = bytes.clone();
             changed[at] ^= 1 << bit;
             let number = compare_roster(&changed, &format!("bit {bit} of byte {at}"));
-            assert!(number != 0 || at < LARGEST - 8, "bit {bit} of byte {at}");
+            assert!(number != 0 || at < trailer, "bit {bit} of byte {at}");
         }
     }
 }
@@ -74,7 +89,7 @@ fn a_part_of_a_roster() {
         ceilings: Vec::new(),
         scripts: vec![Vec::new()],
     };
-    assert_eq!(smallest.bytes().len(), 14);
+    assert_eq!(smallest.bytes().len(), SMALLEST_ROSTER);
     for bytes in [smallest.bytes(), every_step().bytes()] {
         for cut in 0..=bytes.len() {
             compare_roster(&bytes[cut..], &format!("without the first {cut}"));
@@ -87,23 +102,25 @@ fn a_part_of_a_roster() {
 #[test]
 fn the_most_events() {
     let roster = every_step().bytes();
-    for count in [0, 1, 2, 4095, 4096, 4097, 4098, 8191, 8192, 8193, 10_000] {
+    let most = (MOST_EVENTS - 1..=MOST_EVENTS + 2).chain(2 * MOST_EVENTS - 1..=2 * MOST_EVENTS + 1);
+    for count in [0, 1, 2, 10_000].into_iter().chain(most) {
         let input = format!("{count} steps");
         let events = STEP.repeat(count);
         let needed = REPLY_SIZE * count;
         for size in [needed, needed + 1, needed + 9] {
-            let wanted = if count <= 4096 { 0 } else { 21 };
+            let wanted = if count <= MOST_EVENTS { 0 } else { 21 };
             assert_eq!(compare_run(&roster, &events, size, &input), wanted);
         }
         if count > 0 {
-            let wanted = if count <= 4096 { 22 } else { 21 };
-            for size in [0, count, 2 * count, needed - 3, needed - 1] {
+            let wanted = if count <= MOST_EVENTS { 22 } else { 21 };
+            for size in [0, count, 2 * count, needed - REPLY_SIZE, needed - 1] {
                 assert_eq!(compare_run(&roster, &events, size, &input), wanted);
             }
         }
         for more in 1..8 {
-            let longer = [&events[..], &[0; 8][..more]].concat();
-            assert_eq!(compare_run(&roster, &longer, needed + 3, &input), 21);
+            let longer = [&events[..], &STEP[..more]].concat();
+            let size = needed + REPLY_SIZE;
+            assert_eq!(compare_run(&roster, &longer, size, &input), 21);
         }
     }
 }
@@ -130,7 +147,8 @@ fn every_length_of_a_delay() {
             let due = now + d as u64;
             for reading in readings_around(due) {
                 let events = [clock(now), STEP, clock(reading), STEP, clock(due - 1)].concat();
-                compare_run(&plan.bytes(), &events, 15, &format!("{d} from {now}"));
+                let input = format!("{d} from {now}");
+                compare_run(&plan.bytes(), &events, room_for(&events), &input);
             }
         }
     }
@@ -192,7 +210,8 @@ fn the_most_rows() {
         Kind::Suspended,
         Kind::Ended,
     ];
-    for count in (0..=40).chain([64, 255, 256, 257, 288, 1000]) {
+    let far = [255, 256, 257, 256 + MOST_ROWS, 1000];
+    for count in (0..=MOST_ROWS + 8).chain([2 * MOST_ROWS]).chain(far) {
         for kind in kinds {
             let row = Row {
                 kind,
@@ -201,7 +220,7 @@ fn the_most_rows() {
             };
             let mut bytes = vec![0; ROW_SIZE * count];
             put_rows(&mut bytes, &vec![row; count]);
-            assert_eq!(compare_next(&bytes), count > 32);
+            assert_eq!(compare_next(&bytes), count > MOST_ROWS);
             for (at, value) in [(0, 0), (0, 33), (count / 2, 128), (count.max(1) - 1, 255)] {
                 let mut changed = bytes.clone();
                 if let Some(priority) = changed.get_mut(ROW_SIZE * at + 1) {
@@ -216,7 +235,7 @@ fn the_most_rows() {
 /// Events with numbers at the limits and far beyond, on sound states.
 #[test]
 fn every_number_of_an_event() {
-    let mut counts: Vec<usize> = (0..=34).collect();
+    let mut counts: Vec<usize> = (0..=MOST_TASKS + 2).collect();
     counts.extend([
         255,
         256,

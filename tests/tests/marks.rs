@@ -6,19 +6,21 @@ use harness::compare::{
     compare_after, compare_event, compare_fill, compare_readers, compare_state,
 };
 use harness::layout::{
-    bytes_of, marks_in, mend_marks_in, put_marks, state_of, ROW_SIZE, STATE_SIZE,
+    bytes_of, marks_in, mend_marks_in, put_marks, state_of, MARKS, READY, READY_ROW, ROW_SIZE,
+    STATE_SIZE, TASKS,
 };
 use harness::random::Random;
 use harness::report::{hex, seen, Histogram};
+use harness::sizes::{MOST_OBJECTS, MOST_ROWS, MOST_TASKS};
 use harness::states::{dues, event_of, one_of_each, sound_state};
 use second::machine::{apply, apply_to, Event, Outcome};
 use second::sound::broken;
 use second::state::{Place, State, Task};
 
 /// How many states for each priority have its mark wrong, each way.
-const EACH: u64 = 250;
-const STATES: u64 = 3_000;
-const HISTORIES: u64 = 4_000;
+const EACH: u64 = 220;
+const STATES: u64 = 2_600;
+const HISTORIES: u64 = 3_200;
 const EVENTS: usize = 100;
 const LEAST: usize = 200;
 
@@ -95,7 +97,7 @@ fn assert_refused(random: &mut Random, bytes: &[u8], input: &str) {
         assert_eq!(outcome, refusal(10), "{event:?}, {}", state());
     }
     assert!(!compare_readers(bytes, input), "sound, {}", state());
-    let rows = random.below(40);
+    let rows = random.below(MOST_ROWS + 8);
     let filled = compare_fill(bytes, &vec![0xA5; ROW_SIZE * rows], input);
     assert_eq!(filled, 10, "fill, {}", state());
 }
@@ -220,12 +222,12 @@ fn another_word_is_answered_10() {
 
 /// The mark of a priority in a state's bytes, by docs/LAYOUT.md.
 fn mark(bytes: &[u8], p: usize) -> bool {
-    bytes[12 + (p - 1) / 8] >> ((p - 1) % 8) & 1 == 1
+    bytes[MARKS + (p - 1) / 8] >> ((p - 1) % 8) & 1 == 1
 }
 
 /// Whether the ready queue for a priority has a length above 0, by docs/LAYOUT.md.
 fn is_filled(bytes: &[u8], p: usize) -> bool {
-    bytes[1088 + 33 * (p - 1)] > 0
+    bytes[READY + READY_ROW * (p - 1)] > 0
 }
 
 /// That a mark is on exactly where its queue is not empty, that counting zeros finds the highest such queue, and that the tests' own
@@ -247,7 +249,8 @@ fn assert_marked(bytes: &[u8], input: &dyn Fn() -> String) {
 /// A fresh start over bytes that hold anything: mostly of priorities of every height; now and then refused, with the state that is
 /// then written.
 fn started(random: &mut Random) -> (u8, Vec<u8>) {
-    let (tasks, objects) = (random.pick(&[2, 3, 5, 8, 16, 32]), random.below(17));
+    let tasks = random.pick(&[2, 3, 5, 8, MOST_TASKS / 2, MOST_TASKS]);
+    let objects = random.below(MOST_OBJECTS + 1);
     let mut values = |n: usize| -> Vec<u8> {
         let each = (0..n).map(|_| random.within(1, 32) as u8);
         each.collect()
@@ -443,11 +446,11 @@ fn marks_worked_out_by_hand() {
     for (case, (bases, marks, events)) in BY_HAND.iter().enumerate() {
         let mut state = [0xA5; STATE_SIZE];
         assert_eq!(raw::fresh(bases, &[], &mut state), 0, "case {case}");
-        assert_eq!(state[12..16], *marks, "case {case}");
+        assert_eq!(state[MARKS..TASKS], *marks, "case {case}");
         for (event, marks) in *events {
             let outcome = calls::event(&mut state, *event);
             assert_eq!(outcome.answer, 0, "case {case}, {event:?}");
-            assert_eq!(state[12..16], *marks, "case {case}, {event:?}");
+            assert_eq!(state[MARKS..TASKS], *marks, "case {case}, {event:?}");
         }
     }
 }

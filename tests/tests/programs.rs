@@ -3,11 +3,12 @@
 use std::fs;
 use std::path::Path;
 
-use harness::events::events_of;
+use harness::events::{events_of, STEP};
 use harness::programs::{folder_for, printed, proved, second};
 use harness::random::Random;
 use harness::report::{bytes_of, save, Histogram};
-use harness::rosters::{largest, made, passing, step, LARGEST, WHOLE_CASE, WORK};
+use harness::rosters::{largest, made, passing, step, WHOLE_CASE, WORK};
+use harness::sizes::{EVENT_SIZE, LARGEST_ROSTER, MOST_EVENTS, MOST_OBJECTS, MOST_TASKS};
 
 const CASES: u64 = 600;
 /// Of each refusal a few are enough: the run's own test has hundreds of each.
@@ -84,18 +85,16 @@ fn odd_files_are_refused() {
         alone("empty", |at| fs::write(at, []).unwrap(), &[]),
         "refused 11\n"
     );
-    for length in [32_769, 65_535, 65_536, 65_537, 200_000] {
+    let far = [65_535, 65_536, 65_537, 200_000];
+    for length in [LARGEST_ROSTER + 1].into_iter().chain(far) {
         let long = vec![0; length];
-        assert_eq!(
-            alone("long", |at| fs::write(at, &long).unwrap(), &[]),
-            "refused 11\n",
-            "{length}"
-        );
-        assert_eq!(
-            alone("long-events", good, &long),
-            "refused 21\n",
-            "{length}"
-        );
+        let lines = alone("long", |at| fs::write(at, &long).unwrap(), &[]);
+        assert_eq!(lines, "refused 11\n", "{length}");
+    }
+    let most = EVENT_SIZE * MOST_EVENTS;
+    for length in [most + 1, LARGEST_ROSTER].into_iter().chain(far) {
+        let lines = alone("long-events", good, &vec![0; length]);
+        assert_eq!(lines, "refused 21\n", "{length}");
     }
     assert_eq!(alone("no-events", good, &[]), "passed\nend\n");
     assert_eq!(alone("odd-events", good, &[3, 0, 0]), "refused 21\n");
@@ -106,24 +105,23 @@ fn odd_files_are_refused() {
 fn files_at_their_limits() {
     let whole = bytes_of(WHOLE_CASE);
     let good = |at: &Path| fs::write(at, &whole).unwrap();
-    let steps = |count: usize| [3, 0, 0, 0, 0, 0, 0, 0].repeat(count);
-    let lines = alone("most-events", good, &steps(4096));
-    assert_eq!(lines.lines().count(), 4098);
+    let lines = alone("most-events", good, &STEP.repeat(MOST_EVENTS));
+    assert_eq!(lines.lines().count(), MOST_EVENTS + 2);
     assert!(lines.starts_with("passed\n0 0 2\n0 0 0\n"));
     assert!(lines.ends_with("5 - 0\nend\n"));
-    for count in [4097, 4098, 8192, 8193, 12_288] {
-        let lines = alone("more-events", good, &steps(count));
-        assert_eq!(lines, "refused 21\n", "{count} steps");
+    for more in [1, 2, MOST_EVENTS, MOST_EVENTS + 1, 2 * MOST_EVENTS] {
+        let lines = alone("more-events", good, &STEP.repeat(MOST_EVENTS + more));
+        assert_eq!(lines, "refused 21\n", "{more} steps more");
     }
     for more in [1, 7] {
-        let events = [&steps(4096)[..], &[0; 7][..more]].concat();
+        let events = [&STEP.repeat(MOST_EVENTS)[..], &[0; 7][..more]].concat();
         let lines = alone("stray-bytes", good, &events);
         assert_eq!(lines, "refused 21\n", "{more} bytes more");
     }
     let roster = largest(1, 1).bytes();
     let most = |at: &Path| fs::write(at, &roster).unwrap();
     assert_eq!(alone("most-roster", most, &[]), "passed\nend\n");
-    for more in [1, 8, LARGEST, 2 * LARGEST] {
+    for more in [1, 8, LARGEST_ROSTER, 2 * LARGEST_ROSTER] {
         let roster = [&roster[..], &vec![0; more]].concat();
         let lines = alone("more-roster", |at| fs::write(at, &roster).unwrap(), &[]);
         assert_eq!(lines, "refused 11\n", "{more} bytes more");
@@ -133,9 +131,9 @@ fn files_at_their_limits() {
 /// The place of a fault far back in a script, with every number of digits.
 #[test]
 fn a_late_fault_is_named() {
-    for (tasks, objects) in [(1, 1), (32, 16)] {
+    for (tasks, objects) in [(1, 1), (MOST_TASKS, MOST_OBJECTS)] {
         let last = largest(tasks, objects).scripts[tasks - 1].len() - 1;
-        for index in [0, 9, 10, 99, 100, 255, 256, 999, 1000, last] {
+        for index in [0, 9, 10, 99, 100, 255, 256, 999, 1000, 9999, 10_000, last] {
             let mut plan = largest(tasks, objects);
             plan.scripts[tasks - 1][index] = step(WORK, 1, 0);
             let prepare = |at: &Path| fs::write(at, plan.bytes()).unwrap();

@@ -4,8 +4,9 @@ use dispatch::raw;
 use harness::compare::{compare_parts, compare_roster};
 use harness::report::{bytes_of, hex, Histogram};
 use harness::rosters::{made, WHOLE_CASE};
+use harness::sizes::{LAST_OBJECT, LAST_TASK, MOST_OBJECTS, MOST_TASKS};
 
-const CASES: u64 = 24_000;
+const CASES: u64 = 18_000;
 const LEAST: usize = 200;
 
 #[test]
@@ -21,8 +22,13 @@ fn form_and_check_agree_with_the_second_program() {
 
 #[test]
 fn the_parts_agree_with_the_second_program() {
-    let tasks = [0, 1, 4, 31, 32, 200, 256, 1 << 32, (1 << 32) + 1, u64::MAX];
-    let objects = [0, 1, 3, 15, 16, 200, 256, 1 << 32, (1 << 32) + 1, u64::MAX];
+    let around = |numbers: [usize; 4]| {
+        let far = [200, 256, 1 << 32, (1 << 32) + 1, u64::MAX];
+        let near = numbers.map(|n| n as u64).into_iter();
+        [0].into_iter().chain(near).chain(far).collect::<Vec<u64>>()
+    };
+    let tasks = around([1, 4, LAST_TASK, MOST_TASKS]);
+    let objects = around([1, 3, LAST_OBJECT, MOST_OBJECTS]);
     for seed in (0..CASES).step_by(12) {
         let bytes = made(seed);
         let input = || format!("seed {seed}, roster {}", hex(&bytes));

@@ -5,9 +5,10 @@ use harness::events::{assert_no_change_is_0, events_of, room_for, REPLY_SIZE, WH
 use harness::random::Random;
 use harness::report::{bytes_of, save, Histogram};
 use harness::rosters::{made, passing, WHOLE_CASE};
+use harness::sizes::MOST_EVENTS;
 use second::run as other;
 
-const CASES: u64 = 24_000;
+const CASES: u64 = 18_000;
 const LEAST: usize = 200;
 
 /// Mostly a roster that passes; else one with a fault of each kind in turn, or with whatever else is made.
@@ -24,7 +25,7 @@ fn room_around(random: &mut Random, needed: usize) -> usize {
     match random.below(12) {
         0 => random.below(needed + 1),
         1 => needed.saturating_sub(1),
-        2 => needed + 4096,
+        2 => needed + MOST_EVENTS,
         _ => needed + random.below(5),
     }
 }

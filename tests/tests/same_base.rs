@@ -8,6 +8,7 @@ use harness::layout::{bytes_of, state_of};
 use harness::random::Random;
 use harness::report::{save, Histogram};
 use harness::rosters::{passing, step, Plan, SET};
+use harness::sizes::MOST_TASKS;
 use harness::states::sound_state;
 use second::machine::{Event, Outcome};
 use second::roster::{read, Step};
@@ -105,7 +106,13 @@ fn a_set_to_the_same_base_agrees_with_the_second_program_and_with_the_rule() {
     for seed in 0..STATES {
         let state = sound_state(&mut Random::new(seed));
         let before = bytes_of(&state);
+        // of many tasks every eighth, and those inside an action
+        let few = state.tasks.len() < MOST_TASKS;
+        let looked_at = |t: usize| few || t as u64 % 8 == seed % 8;
         for (t, task) in state.tasks.iter().enumerate() {
+            if !looked_at(t) && task.held.is_empty() {
+                continue;
+            }
             let event = Event::Set(t, task.base);
             let input = format!("seed {seed}");
             let (outcome, after) = compare_after(&before, event, &input);

@@ -2,18 +2,16 @@
 //! change empties a ready queue or fills an empty one, it is looked at with the marks as they were and with the marks set right.
 
 use harness::compare::{compare_event, compare_fill, compare_readers, compare_state};
-use harness::layout::{bytes_of, mend_marks_in, ROW_SIZE};
+use harness::layout::{
+    bytes_of, mend_marks_in, CEILINGS, HELD, HELD_ROW, OBJECT_COUNT, READY, READY_ROW, ROW_SIZE,
+    TASKS, TASK_COUNT, TASK_ROW,
+};
 use harness::random::Random;
+use harness::sizes::{LAST_OBJECT, LAST_TASK, MOST_OBJECTS, MOST_TASKS};
 use harness::states::{event_of, mend_marks, sound_state};
+use second::limits::QUEUES;
 use second::machine::{apply_to, Event};
 use second::state::{fresh, Place, State};
-
-const TASKS: usize = 16;
-const TASK_ROW: usize = 16;
-const HELD: usize = 544;
-const HELD_ROW: usize = 17;
-const READY: usize = 1088;
-const READY_ROW: usize = 33;
 
 /// The state after these events, all of which are accepted.
 fn after(bases: &[u64], ceilings: &[u64], events: &[Event]) -> State {
@@ -27,13 +25,26 @@ fn after(bases: &[u64], ceilings: &[u64], events: &[Event]) -> State {
 /// Sound states of many kinds: all the tasks and objects there can be, tasks in all places, nested holders, one that holds all, a
 /// base that waits, nobody running, and everybody ended.
 fn sound_states() -> Vec<State> {
-    let bases: Vec<u64> = (0..32).map(|t| 1 + t / 2).collect();
-    let ceilings: Vec<u64> = (0..16).map(|o| 17 + o).collect();
-    let inside = [Event::Enter(0), Event::Enter(15), Event::Set(30, 3)];
+    // bases from 1 to 16, ceilings from 17 to 32, rising with the numbers
+    let rising = |most: usize| move |n: usize| (n * 16 / most) as u64;
+    let bases: Vec<u64> = (0..MOST_TASKS)
+        .map(rising(MOST_TASKS))
+        .map(|p| 1 + p)
+        .collect();
+    let ceilings: Vec<u64> = (0..MOST_OBJECTS)
+        .map(rising(MOST_OBJECTS))
+        .map(|p| 17 + p)
+        .collect();
+    let first = MOST_TASKS - MOST_TASKS / 16;
+    let inside = [
+        Event::Enter(0),
+        Event::Enter(LAST_OBJECT),
+        Event::Set(first, 3),
+    ];
     let waiting = [Event::Delay(0), Event::Suspend, Event::Enter(0)];
     let late = [Event::Delay(0), Event::Delay(9), Event::Clock(3)];
     let nested = [Event::Enter(0), Event::Enter(1), Event::Set(2, 4)];
-    let all: Vec<Event> = (0..16).map(Event::Enter).collect();
+    let all: Vec<Event> = (0..MOST_OBJECTS).map(Event::Enter).collect();
     let away = [
         Event::Suspend,
         Event::Delay(7),
@@ -65,6 +76,33 @@ fn both_ways(changed: Vec<u8>) -> Vec<(&'static str, Vec<u8>)> {
     ways
 }
 
+/// Whether a byte is read, or comes next behind those that are: behind the listed tasks and objects, or the end of a list.
+fn is_near(bytes: &[u8], at: usize) -> bool {
+    let (tasks, objects) = (bytes[TASK_COUNT] as usize, bytes[OBJECT_COUNT] as usize);
+    let in_list = |rows: usize, size: usize| {
+        let place = (at - rows) % size;
+        place <= bytes[at - place] as usize + 1
+    };
+    match at {
+        ..TASKS => true,
+        TASKS..CEILINGS => (at - TASKS) / TASK_ROW <= tasks,
+        CEILINGS..HELD => at - CEILINGS <= objects,
+        HELD..READY => (at - HELD) / HELD_ROW <= tasks && in_list(HELD, HELD_ROW),
+        _ => in_list(READY, READY_ROW),
+    }
+}
+
+/// What a byte is changed to: a few values, and of those that are not read just two.
+fn values_at(random: &mut Random, bytes: &[u8], at: usize) -> Vec<u8> {
+    let old = bytes[at];
+    let mut values = vec![255, random.byte()];
+    if is_near(bytes, at) {
+        values.extend([0, 1, 2, 5, MOST_OBJECTS as u8 + 1, MOST_TASKS as u8 + 1]);
+        values.extend([old ^ 1, old.wrapping_add(1)]);
+    }
+    values
+}
+
 /// Every byte of these states as a few others: soundness, the running task, an event and the board.
 #[test]
 fn every_byte_of_a_state() {
@@ -77,19 +115,7 @@ fn every_byte_of_a_state() {
             "state {which} is sound"
         );
         for at in 0..bytes.len() {
-            let old = bytes[at];
-            for value in [
-                0,
-                1,
-                2,
-                5,
-                17,
-                33,
-                255,
-                old ^ 1,
-                old.wrapping_add(1),
-                random.byte(),
-            ] {
+            for value in values_at(&mut random, &bytes, at) {
                 let mut changed = bytes.clone();
                 changed[at] = value;
                 let event = event_of(&mut random, state);
@@ -111,7 +137,7 @@ fn every_value_of_a_field() {
     for (which, state) in sound_states().iter().enumerate() {
         let bytes = bytes_of(state);
         let tasks = state.tasks.len();
-        let rows = [0, tasks - 1, tasks.min(31), 31];
+        let rows = [0, tasks - 1, tasks.min(LAST_TASK), LAST_TASK];
         let fields = rows
             .iter()
             .flat_map(|t| (7..13).map(move |at| TASKS + TASK_ROW * t + at));
@@ -122,7 +148,7 @@ fn every_value_of_a_field() {
                 let input = format!("state {which}, byte {at} as {value}");
                 compare_readers(&changed, &input);
                 compare_event(&changed, Event::Work, &input);
-                compare_fill(&changed, &[0xA5; ROW_SIZE * 33], &input);
+                compare_fill(&changed, &[0xA5; ROW_SIZE * (MOST_TASKS + 1)], &input);
             }
         }
     }
@@ -133,14 +159,16 @@ fn every_value_of_a_field() {
 fn every_list_of_a_state() {
     for (which, state) in sound_states().iter().enumerate() {
         let bytes = bytes_of(state);
-        let held = (0..32).map(|t| (HELD + HELD_ROW * t, HELD_ROW));
-        let ready = (0..32).map(|q| (READY + READY_ROW * q, READY_ROW));
+        // those of the listed tasks, and of the next
+        let rows = MOST_TASKS.min(state.tasks.len() + 1);
+        let held = (0..rows).map(|t| (HELD + HELD_ROW * t, HELD_ROW));
+        let ready = (0..QUEUES).map(|q| (READY + READY_ROW * q, READY_ROW));
         for (at, size) in held.chain(ready) {
             let length = bytes[at] as usize;
             let list = &bytes[at + 1..][..length];
             let mut lists = vec![list.iter().rev().copied().collect::<Vec<u8>>()];
             lists.extend((1..=length).map(|n| [&list[..n - 1], &list[n..]].concat()));
-            for n in (0..=33).chain([254, 255]) {
+            for n in (0..=size as u8).chain([254, 255]) {
                 lists.push([list, &[n]].concat());
                 lists.push([&[n], list].concat());
             }
@@ -196,7 +224,7 @@ fn changes(state: &State) -> Vec<Change> {
         }
     }
     for q in 0..3 {
-        for queue in QUEUES {
+        for queue in QUEUE_LISTS {
             all.push(Box::new(move |s| {
                 s.queues[q] = queue.iter().copied().collect();
                 mend_marks(s);
@@ -221,7 +249,7 @@ const HELD_LISTS: [&[usize]; 9] = [
     &[2],
     &[0, 2],
 ];
-const QUEUES: [&[usize]; 8] = [&[], &[0], &[1], &[0, 1], &[1, 0], &[1, 1], &[0, 1, 0], &[2]];
+const QUEUE_LISTS: [&[usize]; 8] = [&[], &[0], &[1], &[0, 1], &[1, 0], &[1, 1], &[0, 1, 0], &[2]];
 
 /// Small sound states, and every pair of changes of each.
 #[test]
@@ -264,7 +292,7 @@ fn every_pair_of_changes_of_a_small_state() {
 /// A byte of a sound state changed at random, and another with it now and then.
 #[test]
 fn any_byte_of_a_state() {
-    for seed in 0..12_000 {
+    for seed in 0..10_000 {
         let mut random = Random::new(seed);
         let state = sound_state(&mut random);
         let mut bytes = bytes_of(&state);

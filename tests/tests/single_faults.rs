@@ -3,7 +3,8 @@
 use harness::compare::{compare_fresh, compare_roster, compare_run};
 use harness::random::Random;
 use harness::report::{bytes_of, Histogram};
-use harness::rosters::{every_step, most_rows, Plan, WHOLE_CASE};
+use harness::rosters::{every_step, most_rows, Plan, OBJECT_ROW, TASK_ROW, WHOLE_CASE};
+use harness::sizes::{LAST_OBJECT, LAST_TASK, MOST_OBJECTS, MOST_TASKS};
 
 /// Every byte of a roster as every other byte.
 #[test]
@@ -29,20 +30,11 @@ fn every_byte_of_the_most_rows() {
     let bytes = most_rows().bytes();
     assert_eq!(compare_roster(&bytes, "as it is"), 0);
     for at in 0..bytes.len() {
-        for value in [
-            0,
-            1,
-            2,
-            9,
-            16,
-            17,
-            32,
-            33,
-            128,
-            255,
-            bytes[at] ^ 1,
-            bytes[at] ^ 128,
-        ] {
+        let (tasks, objects) = (MOST_TASKS as u8, MOST_OBJECTS as u8);
+        let limits = [objects, objects + 1, tasks, tasks + 1];
+        let turned = [bytes[at] ^ 1, bytes[at] ^ 128];
+        let few = [0, 1, 2, 9, 128, 255];
+        for value in few.into_iter().chain(limits).chain(turned) {
             let mut changed = bytes.clone();
             changed[at] = value;
             compare_roster(&changed, &format!("byte {at} as {value}"));
@@ -70,8 +62,8 @@ fn two_bytes_of_a_roster() {
 /// A bad base, ceiling or zero byte in one row alone, at every row and every count of rows.
 #[test]
 fn one_bad_row() {
-    for tasks in [1, 2, 31, 32] {
-        for objects in [0, 1, 2, 15, 16] {
+    for tasks in [1, 2, LAST_TASK, MOST_TASKS] {
+        for objects in [0, 1, 2, LAST_OBJECT, MOST_OBJECTS] {
             let plan = Plan {
                 bases: vec![7; tasks],
                 ceilings: vec![7; objects],
@@ -79,8 +71,8 @@ fn one_bad_row() {
             };
             let bytes = plan.bytes();
             assert_eq!(compare_roster(&bytes, "as it is"), 0);
-            let rows = (0..tasks).map(|t| 6 * t);
-            let rows = rows.chain((0..objects).map(|o| 6 * tasks + 2 * o));
+            let rows = (0..tasks).map(|t| TASK_ROW * t);
+            let rows = rows.chain((0..objects).map(|o| TASK_ROW * tasks + OBJECT_ROW * o));
             for row in rows {
                 for (at, value) in [
                     (row, 0),
@@ -213,10 +205,10 @@ fn every_pair_of_faults_of_a_run() {
 /// A fresh start of every number of tasks and objects around the limits, and with one bad value at every place.
 #[test]
 fn every_value_of_a_fresh_start() {
-    for tasks in 0..=34 {
-        for objects in 0..=18 {
+    for tasks in 0..=MOST_TASKS + 2 {
+        for objects in 0..=MOST_OBJECTS + 2 {
             let (mut bases, mut ceilings) = (vec![9; tasks], vec![9; objects]);
-            let counted = (1..=32).contains(&tasks) && objects <= 16;
+            let counted = (1..=MOST_TASKS).contains(&tasks) && objects <= MOST_OBJECTS;
             let wanted = if counted { 0 } else { 13 };
             assert_eq!(
                 compare_fresh(&bases, &ceilings, "one fault"),
@@ -231,12 +223,12 @@ fn every_value_of_a_fresh_start() {
             compare_fresh(&bases, &ceilings, "one fault");
         }
     }
-    for place in 0..48 {
+    for place in 0..MOST_TASKS + MOST_OBJECTS {
         for value in 0..=255 {
-            let (mut bases, mut ceilings) = ([9; 32], [9; 16]);
+            let (mut bases, mut ceilings) = ([9; MOST_TASKS], [9; MOST_OBJECTS]);
             match place {
-                0..=31 => bases[place] = value,
-                _ => ceilings[place - 32] = value,
+                0..=LAST_TASK => bases[place] = value,
+                _ => ceilings[place - MOST_TASKS] = value,
             }
             compare_fresh(&bases, &ceilings, "one fault");
         }

@@ -1,10 +1,21 @@
 //! Holds the stack of every exported call to the figure that docs/INTEGRATION.md states for it: each call is made on a painted
-//! stack, and the deepest byte that it has touched is looked for.
+//! stack, and the deepest byte that it has touched is looked for. The program is held to its figure by a limit of its stack.
 
 use std::arch::asm;
 use std::collections::BTreeMap;
+use std::fs;
+use std::path::Path;
 
-use harness::events::{room_for, REPLY_SIZE};
+use harness::events::{record_of, room_for, REPLY_SIZE};
+use harness::layout::{ROW_SIZE, RUNNING, STATE_SIZE, TASKS};
+use harness::programs::{folder_for, printed, printed_within, proved, second};
+use harness::report::bytes_of;
+use harness::rosters::{busiest, rising, WHOLE_CASE};
+use harness::sizes::{
+    EVENT_SIZE, LARGEST_ROSTER, LAST_OBJECT, LAST_TASK, MOST_EVENTS, MOST_OBJECTS, MOST_ROWS,
+    MOST_TASKS,
+};
+use second::run::Command;
 
 macro_rules! functions {
     ($($name:ident),* $(,)?) => {
@@ -41,7 +52,6 @@ functions!(
     dispatch_next,
 );
 
-const STATE_SIZE: usize = 2144;
 const STACK_SIZE: usize = 1 << 18;
 const PAINTS: [u8; 2] = [0xA5, 0x5A];
 
@@ -163,7 +173,8 @@ impl Stack {
     /// Every event on copies of a state, and what only reads it.
     fn all_on(&mut self, state: &[u8]) {
         for (event, operands) in EVENTS {
-            for first in [0, 1, 7, 15, 31, 300, u64::MAX] {
+            let last = [LAST_OBJECT as u64, LAST_TASK as u64];
+            for first in [0, 1, 7, 300, u64::MAX].into_iter().chain(last) {
                 for second in [1, 10, 32, u64::MAX] {
                     for paint in PAINTS {
                         let mut copy = state.to_vec();
@@ -175,8 +186,8 @@ impl Stack {
         for paint in PAINTS {
             self.call("dispatch_sound", &lent(state), paint);
             self.call("dispatch_running", &lent(state), paint);
-            for rows in [0, 1, 32, 33] {
-                let mut board = vec![0; 3 * rows];
+            for rows in [0, 1, MOST_ROWS, MOST_ROWS + 1] {
+                let mut board = vec![0; ROW_SIZE * rows];
                 let all = [lent(state), lent_mut(&mut board)].concat();
                 self.call("dispatch_fill", &all, paint);
                 self.call("dispatch_next", &lent(&board), paint);
@@ -189,7 +200,7 @@ impl Stack {
         for paint in PAINTS {
             self.call("dispatch_form", &lent(roster), paint);
             self.call("dispatch_check", &lent(roster), paint);
-            for number in [0, 1, 31, u64::MAX] {
+            for number in [0, 1, LAST_OBJECT as u64, LAST_TASK as u64, u64::MAX] {
                 let all = [&lent(roster)[..], &[number, number]].concat();
                 for reader in [
                     "script_number",
@@ -203,7 +214,7 @@ impl Stack {
                     self.call(&format!("dispatch_{reader}"), &all, paint);
                 }
             }
-            for size in [0, room_for(events), REPLY_SIZE * 4096] {
+            for size in [0, room_for(events), REPLY_SIZE * MOST_EVENTS] {
                 let mut buffer = vec![0; size];
                 let all = [lent(roster), lent(events), lent_mut(&mut buffer)].concat();
                 self.call("dispatch_run", &all, paint);
@@ -212,11 +223,42 @@ impl Stack {
     }
 }
 
-/// A state of 32 tasks and 16 objects, all of one ceiling.
+/// A state of all tasks and objects, all of one base and one ceiling.
 fn crowd(stack: &mut Stack) -> Vec<u8> {
     let mut state = vec![0; STATE_SIZE];
-    assert_eq!(stack.fresh(&[10; 32], &[20; 16], &mut state), 0);
+    let answer = stack.fresh(&[10; MOST_TASKS], &[20; MOST_OBJECTS], &mut state);
+    assert_eq!(answer, 0);
     state
+}
+
+/// A state of all tasks over all priorities, with rising ceilings.
+fn spread(stack: &mut Stack) -> Vec<u8> {
+    let mut state = vec![0; STATE_SIZE];
+    let answer = stack.fresh(&rising(MOST_TASKS), &rising(MOST_OBJECTS), &mut state);
+    assert_eq!(answer, 0);
+    state
+}
+
+/// The first task inside all objects, of equal ceilings and of rising ones, with a base that waits.
+fn holders(stack: &mut Stack) -> Vec<Vec<u8>> {
+    let mut equal = crowd(stack);
+    let mut by_ceilings = vec![0; STATE_SIZE];
+    let ceilings = rising(MOST_OBJECTS);
+    assert_eq!(
+        stack.fresh(&[1; MOST_TASKS], &ceilings, &mut by_ceilings),
+        0
+    );
+    for state in [&mut equal, &mut by_ceilings] {
+        for o in 0..MOST_OBJECTS as u64 {
+            stack.done(state, "dispatch_enter", &[o]);
+        }
+        stack.done(state, "dispatch_set", &[0, 1]);
+    }
+    // with all others above it, which it holds off until it leaves
+    for t in 1..MOST_TASKS as u64 {
+        stack.done(&mut by_ceilings, "dispatch_set", &[t, 32]);
+    }
+    vec![equal, by_ceilings]
 }
 
 /// States that are far from fresh: many to wake, everything held, everybody suspended, nobody left; and bytes that are no state.
@@ -224,111 +266,48 @@ fn states(stack: &mut Stack) -> Vec<Vec<u8>> {
     let mut sleepers = crowd(stack);
     let mut suspended = crowd(stack);
     let mut ended = crowd(stack);
-    for t in 0..31 {
+    for t in 0..LAST_TASK as u64 {
         stack.done(&mut sleepers, "dispatch_delay", &[300 - t]);
         stack.done(&mut suspended, "dispatch_suspend", &[]);
         stack.done(&mut ended, "dispatch_finish", &[]);
     }
-    let mut holder = crowd(stack);
-    for o in 0..16 {
-        stack.done(&mut holder, "dispatch_enter", &[o]);
-    }
-    stack.done(&mut holder, "dispatch_set", &[0, 1]);
+    let mut all_asleep = sleepers.clone();
+    stack.done(&mut all_asleep, "dispatch_delay", &[1]);
     // The last Leave, at which the base that waits takes effect, goes by the object 0.
     let mut leaving = crowd(stack);
     stack.done(&mut leaving, "dispatch_enter", &[0]);
     stack.done(&mut leaving, "dispatch_set", &[0, 1]);
     let mut nobody = ended.clone();
     stack.done(&mut nobody, "dispatch_finish", &[]);
-    let mut spread = vec![0; STATE_SIZE];
-    assert_eq!(
-        stack.fresh(&(1..=32).collect::<Vec<u8>>(), &[32; 16], &mut spread),
-        0
-    );
-    let mut damaged = spread.clone();
-    damaged[8] = 3;
-    // The mark of the running task's priority, whose queue is empty.
-    let mut marked = spread.clone();
-    marked[15] ^= 0x80;
+    let mut damaged = spread(stack);
+    damaged[RUNNING] = 3;
+    // The mark of the highest priority, whose queue has the other task of that base.
+    let mut marked = spread(stack);
+    marked[TASKS - 1] ^= 0x80;
     let wrong = [
         vec![0; STATE_SIZE],
         vec![0xFF; STATE_SIZE],
         vec![0; STATE_SIZE - 1],
         vec![],
     ];
-    let mut all = vec![
-        crowd(stack),
-        sleepers,
-        suspended,
-        ended,
-        holder,
-        leaving,
-        nobody,
-        spread,
-        damaged,
-        marked,
-    ];
+    let mut all = vec![crowd(stack), sleepers, all_asleep, suspended, ended];
+    all.extend([leaving, nobody, spread(stack), damaged, marked]);
+    all.extend(holders(stack));
     all.extend(wrong);
     all
-}
-
-/// A roster of scripts, with the bases and ceilings given.
-fn roster(scripts: &[Vec<[u8; 4]>], bases: &[u8], ceilings: &[u8]) -> Vec<u8> {
-    let mut bytes = scripts.concat().concat();
-    let task_table = bytes.len() as u16;
-    let mut start = 0u16;
-    for (script, base) in scripts.iter().zip(bases) {
-        let length = 4 * script.len() as u16;
-        bytes.extend([*base, 0]);
-        bytes.extend(start.to_le_bytes());
-        bytes.extend(length.to_le_bytes());
-        start += length;
-    }
-    let object_table = bytes.len() as u16;
-    for ceiling in ceilings {
-        bytes.extend([*ceiling, 0]);
-    }
-    bytes.extend([0x52, 0x35, scripts.len() as u8, ceilings.len() as u8]);
-    bytes.extend(object_table.to_le_bytes());
-    bytes.extend(task_table.to_le_bytes());
-    bytes
-}
-
-/// A roster near the largest: 32 tasks that hold all 16 objects at once, set their bases, release each other and wait.
-fn large_roster() -> Vec<u8> {
-    let scripts: Vec<Vec<[u8; 4]>> = (0..32u8)
-        .map(|t| {
-            let mut script = Vec::new();
-            while script.len() < 200 {
-                script.extend((0..16).map(|o| [1, o, 0, 0]));
-                script.push([7, t, 1 + t % 20, 0]);
-                script.extend((0..16).rev().map(|o| [2, o, 0, 0]));
-                script.extend([
-                    [6, (t + 1) % 32, 0, 0],
-                    [4, 0, 0, 0],
-                    [5, 0, 0, 0],
-                    [3, 0, t, 0],
-                ]);
-            }
-            script.push([8, 0, 0, 0]);
-            script
-        })
-        .collect();
-    roster(&scripts, &[10; 32], &[20; 16])
 }
 
 /// As many events as a run takes: steps, and between them readings, releases and sets.
 fn many_events() -> Vec<u8> {
     let mut events = Vec::new();
-    for i in 0..4096u16 {
-        let [low, high] = (i * 2).to_le_bytes();
-        let task = (i % 33) as u8;
-        events.extend(match i % 16 {
-            3 => [1, 0, low, high, 0, 0, 0, 0],
-            7 => [2, task, 0, 0, 0, 0, 0, 0],
-            11 => [4, task, (i % 35) as u8, 0, 0, 0, 0, 0],
-            _ => [3, 0, 0, 0, 0, 0, 0, 0],
-        });
+    for i in 0..MOST_EVENTS {
+        let task = i % (MOST_TASKS + 1);
+        events.extend(record_of(match i % 16 {
+            3 => Command::Clock(2 * i as u64),
+            7 => Command::Release(task),
+            11 => Command::Set(task, i as u64 % 35),
+            _ => Command::Step,
+        }));
     }
     events
 }
@@ -362,7 +341,52 @@ fn declared(header: &str) -> Vec<String> {
 
 fn read(path: &str) -> String {
     let path = format!("{}/../{path}", env!("CARGO_MANIFEST_DIR"));
-    std::fs::read_to_string(&path).unwrap_or_else(|e| panic!("{path}: {e}"))
+    fs::read_to_string(&path).unwrap_or_else(|e| panic!("{path}: {e}"))
+}
+
+/// Fresh starts that are refused, also into too few bytes, and boards at their limits.
+fn refused_starts_and_boards(stack: &mut Stack) {
+    let mut state = vec![0; STATE_SIZE];
+    for (bases, ceilings) in [
+        (&[40; MOST_TASKS][..], &[0; MOST_OBJECTS][..]),
+        (&[], &[]),
+        (&[1; MOST_TASKS + 1], &[1; MOST_OBJECTS + 1]),
+    ] {
+        stack.fresh(bases, ceilings, &mut state);
+        stack.fresh(bases, ceilings, &mut state[..5]);
+    }
+    for rows in [
+        vec![],
+        [1, 10, 0].repeat(MOST_ROWS),
+        [1, 99, 0].repeat(MOST_ROWS),
+        vec![0; ROW_SIZE * (MOST_ROWS + 8) + 1],
+    ] {
+        for paint in PAINTS {
+            stack.call("dispatch_next", &lent(&rows), paint);
+        }
+    }
+}
+
+/// The busiest roster under the most events, a small one with every byte changed, and what is too long or nothing.
+fn rosters(stack: &mut Stack) {
+    let events = many_events();
+    let large = busiest().bytes();
+    let answer = stack.call("dispatch_check", &lent(&large), PAINTS[0]);
+    assert_eq!((large.len(), answer), (LARGEST_ROSTER, 0));
+    stack.all_of(&large, &events);
+    let small = bytes_of(WHOLE_CASE);
+    let few = &events[..11 * EVENT_SIZE];
+    stack.all_of(&small, few);
+    for i in 0..small.len() {
+        for value in [0, 1, 7, 255] {
+            let mut wrong = small.clone();
+            wrong[i] = value;
+            stack.all_of(&wrong, few);
+        }
+    }
+    stack.all_of(&[], &[]);
+    let too_long = [0; LARGEST_ROSTER + 1];
+    stack.all_of(&too_long, &too_long);
 }
 
 #[test]
@@ -371,70 +395,73 @@ fn no_call_goes_deeper_than_stated() {
     for state in states(&mut stack) {
         stack.all_on(&state);
     }
-    let mut state = vec![0; STATE_SIZE];
-    for (bases, ceilings) in [
-        (&[40; 32][..], &[0; 16][..]),
-        (&[], &[]),
-        (&[1; 33], &[1; 17]),
-    ] {
-        stack.fresh(bases, ceilings, &mut state);
-        stack.fresh(bases, ceilings, &mut state[..5]);
-    }
-    for rows in [
-        vec![],
-        vec![1, 10, 0].repeat(32),
-        vec![1, 99, 0].repeat(32),
-        vec![0; 3 * 40 + 1],
-    ] {
-        stack.call("dispatch_next", &lent(&rows), PAINTS[0]);
-        stack.call("dispatch_next", &lent(&rows), PAINTS[1]);
-    }
-
-    let events = many_events();
-    let large = large_roster();
-    assert_eq!(
-        stack.call("dispatch_check", &lent(&large), PAINTS[0]),
-        0,
-        "the large roster passes"
-    );
-    stack.all_of(&large, &events);
-    let scripts = [
-        vec![[1, 0, 0, 0], [4, 0, 0, 0], [2, 0, 0, 0]],
-        vec![[3, 0, 5, 0], [1, 0, 0, 0], [2, 0, 0, 0]],
-    ];
-    let small = roster(&scripts, &[10, 20], &[20]);
-    stack.all_of(&small, &events[..88]);
-    for i in 0..small.len() {
-        for value in [0, 1, 7, 255] {
-            let mut wrong = small.clone();
-            wrong[i] = value;
-            stack.all_of(&wrong, &events[..88]);
-        }
-    }
-    stack.all_of(&[], &[]);
-    stack.all_of(&vec![0; 40_000], &vec![9; 40_000]);
-
+    refused_starts_and_boards(&mut stack);
+    rosters(&mut stack);
     let stated = stated(&read("docs/INTEGRATION.md"));
     let declared = declared(&read("include/dispatch.h"));
-    assert_eq!(
-        declared.len(),
-        stack.deepest.len(),
-        "every function of the header is measured"
-    );
-    assert_eq!(
-        declared.len(),
-        stated.len(),
-        "every function of the header has a row in docs/INTEGRATION.md, and no other"
-    );
+    let measured = stack.deepest.len();
+    assert_eq!(declared.len(), measured, "every function of the header");
+    assert_eq!(declared.len(), stated.len(), "a row for every function");
+    let mut deeper = Vec::new();
     for name in &declared {
         let depth = stack.deepest[name.as_str()];
-        let figure = *stated
-            .get(name)
-            .unwrap_or_else(|| panic!("docs/INTEGRATION.md has no row for {name}"));
+        let figure = stated.get(name).copied().unwrap_or(0);
         println!("{name}: {depth} bytes of stack, stated {figure}");
+        if depth > figure {
+            deeper.push(name);
+        }
+    }
+    assert!(
+        deeper.is_empty(),
+        "deeper than docs/INTEGRATION.md says: {deeper:?}"
+    );
+}
+
+/// The figure of the program: the number before "bytes of stack" in the sentence about it.
+fn stated_of_program(page: &str) -> usize {
+    let from = page.split_once("The program itself takes at most ");
+    let figure = from.and_then(|(_, rest)| rest.split_once(" bytes of stack"));
+    let (figure, _) = figure.expect("docs/INTEGRATION.md states the program's stack");
+    figure.replace(',', "").parse().expect("a number of bytes")
+}
+
+/// The least stack with which the program prints this in a folder, in whole KB.
+fn least_stack(folder: &Path, wanted: &(String, bool)) -> usize {
+    let (mut short, mut enough) = (0, 1 << 20);
+    while enough - short > 1 << 10 {
+        let middle = (short + enough) / 2;
+        match printed_within(&proved(), folder, middle) == *wanted {
+            true => enough = middle,
+            false => short = middle,
+        }
+    }
+    enough
+}
+
+/// The program with just the stated stack: on the largest roster and the most events, and on more events than it takes in at once, the
+/// rest of which it reads too. With half of it the program fails, so that the limit is one.
+#[test]
+fn the_program_takes_no_more_stack_than_stated() {
+    let figure = stated_of_program(&read("docs/INTEGRATION.md"));
+    let folder = folder_for("stack");
+    fs::write(folder.join("roster.bin"), busiest().bytes()).unwrap();
+    for (name, events) in [("most", many_events()), ("more", vec![0; 3 << 16])] {
+        fs::write(folder.join("events.bin"), &events).unwrap();
+        let wanted = printed(&second(), &folder);
+        let least = least_stack(&folder, &wanted);
+        println!("the program, {name} events: {least} bytes of stack, stated {figure}");
+        // where a stack begins varies by some 8 KB from run to run
+        for _ in 0..30 {
+            let found = printed_within(&proved(), &folder, figure);
+            assert!(
+                found == wanted,
+                "{name} events with {figure} bytes of stack"
+            );
+        }
         assert!(
-            depth <= figure,
-            "{name} takes {depth} bytes of stack, docs/INTEGRATION.md says {figure}"
+            least > figure / 2,
+            "{least} bytes of stack, {figure} stated"
         );
     }
+    fs::remove_dir_all(&folder).unwrap();
 }
