@@ -2,15 +2,12 @@
 
 use harness::layout::bytes_of;
 use harness::random::Random;
-use harness::rosters::{
-    step, Plan, AGAIN, DELAY, ENTER, LEAVE, MOST_OBJECTS, RELEASE, SET, SUSPEND, WORK,
-};
+use harness::rosters::{step, Plan, AGAIN, DELAY, ENTER, LEAVE, RELEASE, SET, SUSPEND, WORK};
 use second::machine::Event;
 use second::roster::{self, Step};
 use second::run::{decode, Command, Run};
 
-/// The outer objects, which have the lower ceilings, are the first half.
-const HALF: usize = MOST_OBJECTS / 2;
+use crate::limits::Size;
 
 /// A mix of events: of 100, how many are Clock, Release and Set; the others are Step.
 #[derive(Clone, Copy)]
@@ -36,12 +33,14 @@ pub const STEP_HEAVY: Mix = Mix {
     set: 0,
 };
 
-/// A control loop: some work, a protected record or two nested, a signal to another task, then a wait; and again.
-fn script_of(random: &mut Random, t: usize, tasks: usize) -> Vec<harness::rosters::Step> {
+/// A control loop: some work, a protected record or two nested, a signal to another task, then a wait; and again. The outer objects,
+/// which have the lower ceilings, are the first half.
+fn script_of(random: &mut Random, t: usize, size: Size) -> Vec<harness::rosters::Step> {
+    let half = size.objects / 2;
     let mut script = Vec::new();
     for _ in 0..random.within(2, 6) {
-        let outer = random.below(HALF) as u8;
-        let inner = (HALF + random.below(HALF)) as u8;
+        let outer = random.below(half) as u8;
+        let inner = (half + random.below(half)) as u8;
         for _ in 0..random.within(1, 4) {
             script.push(step(WORK, 0, 0));
         }
@@ -57,7 +56,7 @@ fn script_of(random: &mut Random, t: usize, tasks: usize) -> Vec<harness::roster
         script.push(step(LEAVE, outer, 0));
         match random.below(8) {
             0 => script.push(step(SUSPEND, 0, 0)),
-            1 | 2 => script.push(step(RELEASE, random.below(tasks) as u8, 0)),
+            1 | 2 => script.push(step(RELEASE, random.below(size.tasks) as u8, 0)),
             3 => script.push(step(DELAY, 0, 0)),
             4 => script.push(step(SET, t as u8, random.within(1, 20) as u16)),
             _ => script.push(step(DELAY, 0, random.within(1, 40) as u16)),
@@ -67,18 +66,20 @@ fn script_of(random: &mut Random, t: usize, tasks: usize) -> Vec<harness::roster
     script
 }
 
-fn plan_of(random: &mut Random, tasks: usize) -> Plan {
-    let outer = (0..HALF).map(|_| random.within(20, 26) as u8);
+pub fn plan_of(random: &mut Random, size: Size) -> Plan {
+    let half = size.objects / 2;
+    let outer = (0..half).map(|_| random.within(20, 26) as u8);
     let mut ceilings: Vec<u8> = outer.collect();
-    ceilings.extend((0..HALF).map(|_| random.within(26, 32) as u8));
+    ceilings.extend((0..half).map(|_| random.within(26, 32) as u8));
+    let tasks = 0..size.tasks;
     Plan {
-        bases: (0..tasks).map(|_| random.within(1, 20) as u8).collect(),
+        bases: tasks.clone().map(|_| random.within(1, 20) as u8).collect(),
         ceilings,
-        scripts: (0..tasks).map(|t| script_of(random, t, tasks)).collect(),
+        scripts: tasks.map(|t| script_of(random, t, size)).collect(),
     }
 }
 
-fn events_of(random: &mut Random, mix: Mix, tasks: usize, count: usize) -> Vec<u8> {
+pub fn events_of(random: &mut Random, mix: Mix, tasks: usize, count: usize) -> Vec<u8> {
     let mut now: u64 = 0;
     let mut events = Vec::with_capacity(8 * count);
     for _ in 0..count {
@@ -109,10 +110,10 @@ pub struct Case {
     pub events: Vec<u8>,
 }
 
-pub fn case_of(seed: u64, mix: Mix, tasks: usize, count: usize) -> Case {
+pub fn case_of(seed: u64, mix: Mix, size: Size, count: usize) -> Case {
     let mut random = Random::new(seed);
-    let roster = plan_of(&mut random, tasks).bytes();
-    let events = events_of(&mut random, mix, tasks, count);
+    let roster = plan_of(&mut random, size).bytes();
+    let events = events_of(&mut random, mix, size.tasks, count);
     Case { roster, events }
 }
 

@@ -9,11 +9,11 @@ use std::path::Path;
 use std::process::{Command, Stdio};
 
 use crate::cases::{case_of, REALISTIC, STEP_HEAVY};
-use crate::jobs::{Call, Job};
+use crate::jobs::Job;
+use crate::limits::{FULL, HALF, MOST_EVENTS, SMALL};
 use crate::table::{self, Figures};
 
 const SEEDS: u64 = 8;
-const MANY: usize = 4096;
 const ON_BYTES: usize = 256;
 
 /// The argument that asks for the counted calls alone.
@@ -21,15 +21,6 @@ pub const COUNTED: &str = "--counted";
 
 /// Instructions by each of a job's codes, in their order.
 pub type Counts = Vec<u64>;
-
-/// How many of each job's codes are counted: all, or the first two.
-pub const ALL_CODES: usize = 3;
-pub const WITHOUT_LEAN: usize = 2;
-
-fn codes_of(job: &Job, most: usize) -> &'static [Call] {
-    let codes = job.codes();
-    &codes[..codes.len().min(most)]
-}
 
 /// A call that callgrind knows by its name.
 #[no_mangle]
@@ -39,11 +30,11 @@ pub fn bench_counted(call: &mut dyn FnMut()) {
 }
 
 /// Calls each job twice by each code, once to have all in place and once counted; the parent reads the counts in this order.
-pub fn call_all(jobs: &[Job], most: usize) {
+pub fn call_all(jobs: &[Job]) {
     bench_counted(&mut || {});
     for job in jobs {
         let mut room = job.room();
-        for call in codes_of(job, most) {
+        for call in job.codes() {
             job.renew(&mut room);
             call(job, &mut room);
             job.renew(&mut room);
@@ -62,18 +53,24 @@ fn total_in(file: &Path) -> Option<u64> {
 }
 
 /// The counts of all jobs, or why there are none.
-pub fn counts_of(jobs: &[Job], argument: &str, most: usize) -> Result<Vec<Counts>, String> {
+pub fn counts_of(jobs: &[Job], argument: &str) -> Result<Vec<Counts>, String> {
     let folder = std::env::temp_dir().join(format!("bench-counts-{}", std::process::id()));
     fs::create_dir_all(&folder).map_err(|error| error.to_string())?;
-    let counted = call_counted(&folder, argument).and_then(|()| read_counts(&folder, jobs, most));
+    let counted = call_counted(&folder, argument).and_then(|()| read_counts(&folder, jobs));
     fs::remove_dir_all(&folder).map_err(|error| error.to_string())?;
     counted
 }
+
+/// Callgrind counts a string instruction once for every byte that it writes or copies: the C library shall use none for long fills and
+/// copies, but vectors as for short ones.
+const NO_STRING_INSTRUCTIONS: &str = "glibc.cpu.x86_rep_stosb_threshold=1000000000:\
+    glibc.cpu.x86_rep_movsb_threshold=1000000000";
 
 fn call_counted(folder: &Path, argument: &str) -> Result<(), String> {
     let own = std::env::current_exe().map_err(|error| error.to_string())?;
     let out = folder.join("out");
     let status = Command::new("valgrind")
+        .env("GLIBC_TUNABLES", NO_STRING_INSTRUCTIONS)
         .args(["--tool=callgrind", "--quiet"])
         .args(["--zero-before=bench_counted", "--dump-after=bench_counted"])
         .arg(format!("--callgrind-out-file={}", out.display()))
@@ -89,7 +86,7 @@ fn call_counted(folder: &Path, argument: &str) -> Result<(), String> {
 }
 
 /// Callgrind's files are numbered in the order of the calls, the empty one first.
-fn read_counts(folder: &Path, jobs: &[Job], most: usize) -> Result<Vec<Counts>, String> {
+fn read_counts(folder: &Path, jobs: &[Job]) -> Result<Vec<Counts>, String> {
     let mut next = 0;
     let mut total = || {
         next += 1;
@@ -98,7 +95,7 @@ fn read_counts(folder: &Path, jobs: &[Job], most: usize) -> Result<Vec<Counts>, 
     };
     let empty = total()?;
     let mut counts_of = |job: &Job| {
-        let calls = codes_of(job, most).iter();
+        let calls = job.codes().iter();
         calls.map(|_| Ok(total()? - empty)).collect()
     };
     jobs.iter().map(&mut counts_of).collect()
@@ -117,22 +114,24 @@ fn group(label: String, job_of: impl Fn(u64) -> Job) -> Group {
 
 fn groups() -> Vec<Group> {
     let mut all = Vec::new();
-    for tasks in [32, 8] {
+    for size in [FULL, HALF, SMALL] {
         for mix in [REALISTIC, STEP_HEAVY] {
-            let label = format!("a run, {}, {tasks} tasks, per event", mix.name);
+            let label = format!("a run, {}, {size}, per event", mix.name);
             all.push(group(label, |seed| {
-                Job::Run(case_of(seed, mix, tasks, MANY))
+                Job::Run(case_of(seed, mix, size, MOST_EVENTS))
             }));
         }
     }
-    all.push(group("the check, 32 tasks, per roster".into(), |seed| {
-        Job::Check(case_of(seed, REALISTIC, 32, 0).roster)
-    }));
-    for tasks in [32, 8] {
+    for size in [FULL, HALF, SMALL] {
+        all.push(group(format!("the check, {size}, per roster"), |seed| {
+            Job::Check(case_of(seed, REALISTIC, size, 0).roster)
+        }));
+    }
+    for size in [FULL, HALF, SMALL] {
         for mix in [REALISTIC, STEP_HEAVY] {
-            let label = format!("on bytes, {}, {tasks} tasks, per event", mix.name);
+            let label = format!("on bytes, {}, {size}, per event", mix.name);
             all.push(group(label, |seed| {
-                Job::history(&case_of(seed, mix, tasks, ON_BYTES))
+                Job::history(&case_of(seed, mix, size, ON_BYTES))
             }));
         }
     }
@@ -152,7 +151,7 @@ pub fn print() {
         }
     }
     table::title(&format!("instructions, the mean of {SEEDS} seeds"), true);
-    let counts = match counts_of(&jobs(), "counts", ALL_CODES) {
+    let counts = match counts_of(&jobs(), "counts") {
         Ok(counts) => counts,
         Err(why) => return println!("not counted: {why}"),
     };

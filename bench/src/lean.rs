@@ -5,84 +5,9 @@
 //! has one holder, so that the priority to go back to is kept with the object. So it has no state to hand out at an event. Its check is
 //! one pass, and looks for the place again on a refusal.
 
-const MOST_TASKS: usize = 32;
-const MOST_OBJECTS: usize = 16;
-const MOST_PRIORITIES: usize = 32;
-const LARGEST: usize = 32_768;
-const LONGEST_ADVANCE: u64 = 86_400_000;
-const TRAILER: usize = 8;
-const NOBODY: u8 = 255;
-const REPLY: usize = 3;
-/// A delayed task's due time is multiplied by this, its number added: the order in which they wake.
-const KEY: u64 = MOST_TASKS as u64;
-
-/// The most frequent step, which is tested before the others.
-const WORK: u32 = 4;
-
-/// The record of a Step, which has no unused field but 0.
-const STEP: u64 = 3;
-
-/// Number, task and step.
-pub type Answer = (u8, usize, usize);
-
-fn word(bytes: &[u8], at: usize) -> usize {
-    bytes[at] as usize | (bytes[at + 1] as usize) << 8
-}
-
-fn good(priority: u8) -> bool {
-    (1..=32).contains(&priority)
-}
-
-/// Where the parts of a roster are.
-struct Shape {
-    tasks: usize,
-    objects: usize,
-    task_table: usize,
-    object_table: usize,
-}
-
-fn shape_of(roster: &[u8]) -> Result<Shape, u8> {
-    let size = roster.len();
-    if !(TRAILER + 6..=LARGEST).contains(&size) {
-        return Err(11);
-    }
-    let end = &roster[size - TRAILER..];
-    if end[0] != 0x52 || end[1] != 0x35 {
-        return Err(12);
-    }
-    let (tasks, objects) = (end[2] as usize, end[3] as usize);
-    if tasks == 0 || tasks > MOST_TASKS || objects > MOST_OBJECTS {
-        return Err(13);
-    }
-    let (object_table, task_table) = (word(end, 4), word(end, 6));
-    let shape = Shape {
-        tasks,
-        objects,
-        task_table,
-        object_table,
-    };
-    if object_table + 2 * objects + TRAILER != size || task_table + 6 * tasks != object_table {
-        return Err(14);
-    }
-    let mut next = 0;
-    for row in roster[task_table..object_table].chunks_exact(6) {
-        let length = word(row, 4);
-        if word(row, 2) != next || !length.is_multiple_of(4) {
-            return Err(14);
-        }
-        next += length;
-    }
-    if next != task_table {
-        return Err(14);
-    }
-    let bad_task = |row: &[u8]| !good(row[0]) || row[1] != 0;
-    let mut rows = roster[task_table..object_table].chunks_exact(6);
-    let mut ceilings = roster[object_table..size - TRAILER].chunks_exact(2);
-    if rows.any(bad_task) || ceilings.any(bad_task) {
-        return Err(15);
-    }
-    Ok(shape)
-}
+use crate::limits::{LONGEST_ADVANCE, MOST_OBJECTS, MOST_TASKS, NOBODY, PRIORITIES, REPLY_SIZE};
+use crate::queues::Queues;
+use crate::shape::{self, is_priority, shape_of, word, Answer, Shape, OBJECT_ROW, STEP, WORK};
 
 fn step_is_good(step: &[u8], last: bool, tasks: usize, objects: usize) -> bool {
     let (a, b) = (step[1] as usize, word(step, 2));
@@ -91,14 +16,17 @@ fn step_is_good(step: &[u8], last: bool, tasks: usize, objects: usize) -> bool {
         3 => a == 0,
         4 | 5 => a == 0 && b == 0,
         6 => a < tasks && b == 0,
-        7 => a < tasks && (1..=32).contains(&b),
+        7 => a < tasks && is_priority(b as u64),
         8 => a == 0 && b == 0 && last,
         _ => false,
     }
 }
 
+/// An object's row of a roster: its ceiling, and 0.
+type Row = [u8; OBJECT_ROW];
+
 /// What is wrong with one script, and at which step: 17 to 20.
-fn script_fault(script: &[u8], t: usize, base: u8, ceilings: &[u8]) -> Option<(u8, usize)> {
+fn script_fault(script: &[u8], t: usize, base: u8, objects: &[Row]) -> Option<(u8, usize)> {
     let sets = script
         .chunks_exact(4)
         .filter(|s| s[0] == 7 && s[1] as usize == t);
@@ -114,11 +42,11 @@ fn script_fault(script: &[u8], t: usize, base: u8, ceilings: &[u8]) -> Option<(u
                     return Some((17, k));
                 }
                 let level = if depth == 0 { top } else { levels[depth - 1] };
-                if ceilings[2 * a] < level {
+                if objects[a][0] < level {
                     return Some((18, k));
                 }
                 held[depth] = s[1];
-                levels[depth] = ceilings[2 * a];
+                levels[depth] = objects[a][0];
                 depth += 1;
             }
             2 => {
@@ -138,7 +66,7 @@ fn script_fault(script: &[u8], t: usize, base: u8, ceilings: &[u8]) -> Option<(u
 /// What a script holds while it is walked through. The innermost object is kept as the step that leaves it, with its ceiling above
 /// that, and 0 for none; an object that is held keeps what was innermost before it.
 struct Holding<'a> {
-    ceilings: &'a [[u8; 2]],
+    objects: &'a [Row],
     innermost: u64,
     outer: [u64; MOST_OBJECTS],
     lowest: u8,
@@ -155,7 +83,7 @@ fn operands(s: u32, code: u32) -> u32 {
 impl Holding<'_> {
     fn enter(&mut self, s: u32) -> bool {
         let o = operands(s, 1) as usize;
-        let Some(&[ceiling, _]) = self.ceilings.get(o) else {
+        let Some(&[ceiling, _]) = self.objects.get(o) else {
             return false;
         };
         let outer = &mut self.outer[o % MOST_OBJECTS];
@@ -179,7 +107,7 @@ impl Holding<'_> {
     /// Each step is compared as one word, operands and all. No ceiling entered may be below the base and the own Set values, wherever
     /// these come, so the highest of these and the lowest ceiling are compared at the end.
     fn walks(&mut self, script: &[[u8; 4]], own_set: u32, base: u8, tasks: u32) -> bool {
-        self.lowest = 32;
+        self.lowest = PRIORITIES as u8;
         let mut highest = base as u32;
         let mut steps = script.iter();
         while let Some(step) = steps.next() {
@@ -208,12 +136,12 @@ impl Holding<'_> {
 /// The refusal of a roster with a script that is not good.
 #[cold]
 fn first_fault(roster: &[u8], shape: &Shape) -> Answer {
-    let rows = &roster[shape.task_table..shape.object_table];
+    let rows = || shape.task_rows(roster).enumerate();
     let script = |row: &[u8]| {
         let start = word(row, 2);
         &roster[start..start + word(row, 4)]
     };
-    for (t, row) in rows.chunks_exact(6).enumerate() {
+    for (t, row) in rows() {
         let count = word(row, 4) / 4;
         for (k, step) in script(row).chunks_exact(4).enumerate() {
             if !step_is_good(step, k + 1 == count, shape.tasks, shape.objects) {
@@ -221,9 +149,9 @@ fn first_fault(roster: &[u8], shape: &Shape) -> Answer {
             }
         }
     }
-    let ceilings = &roster[shape.object_table..roster.len() - TRAILER];
-    for (t, row) in rows.chunks_exact(6).enumerate() {
-        if let Some((number, k)) = script_fault(script(row), t, row[0], ceilings) {
+    let objects = shape.object_rows(roster);
+    for (t, row) in rows() {
+        if let Some((number, k)) = script_fault(script(row), t, row[0], objects) {
             return (number, t, k);
         }
     }
@@ -233,16 +161,14 @@ fn first_fault(roster: &[u8], shape: &Shape) -> Answer {
 fn checked(roster: &[u8]) -> Result<Shape, Answer> {
     let shape = shape_of(roster).map_err(|number| (number, 0, 0))?;
     let (steps, _) = roster[..shape.task_table].as_chunks();
-    let (ceilings, _) = roster[shape.object_table..roster.len() - TRAILER].as_chunks();
     let mut holding = Holding {
-        ceilings,
+        objects: shape.object_rows(roster),
         innermost: 0,
         outer: [FREE; MOST_OBJECTS],
-        lowest: 32,
+        lowest: 0,
     };
     let mut start = 0;
-    let rows = roster[shape.task_table..shape.object_table].chunks_exact(6);
-    for (t, row) in rows.enumerate() {
+    for (t, row) in shape.task_rows(roster).enumerate() {
         let end = start + word(row, 4) / 4;
         let own_set = 7 | (t as u32) << 8;
         if !holding.walks(&steps[start..end], own_set, row[0], shape.tasks as u32) {
@@ -258,49 +184,16 @@ pub fn check(roster: &[u8]) -> Answer {
     checked(roster).map_or_else(|refusal| refusal, |_| (0, 0, 0))
 }
 
-/// For each kind of event, the bits of a record that have to be 0; for what is no kind, the kind itself.
-const UNUSED: [u64; 256] = {
-    let mut masks = [0xFF; 256];
-    masks[1] = 0xFF00;
-    masks[2] = 0xFFFF_FFFF_FFFF_0000;
-    masks[3] = 0xFFFF_FFFF_FFFF_FF00;
-    masks[4] = 0;
-    masks
-};
-
-/// A kind: where the bits of no kind are looked at, they differ from it.
-const SOME_KIND: u64 = 4;
-
-/// Without jumps: what is wrong with any record is or-ed together.
-fn events_are_good(events: &[u8]) -> bool {
-    let record = |e: &[u8]| u64::from_le_bytes(e.try_into().unwrap());
-    let wrong = |e: u64| (e ^ SOME_KIND) & UNUSED[e as u8 as usize];
-    let records = events.chunks_exact(8);
-    events.len().is_multiple_of(8)
-        && events.len() <= LARGEST
-        && records.fold(0, |bad, e| bad | wrong(record(e))) == 0
-}
-
-/// Where a task is; who is running is kept apart.
+/// Where a task is; of those awake one may be running, and the others are ready.
 #[derive(Clone, Copy, PartialEq)]
 enum Place {
-    Ready,
+    Awake,
     Delayed,
     Suspended,
     Ended,
 }
 
-/// A ready queue as a ring: the cells from `first` to before `end`, both counted on and on and taken modulo the size. Each has a
-/// cache line of its own.
-#[derive(Clone, Copy)]
-#[repr(align(64))]
-struct Queue {
-    first: u8,
-    end: u8,
-    cells: [u8; MOST_TASKS],
-}
-
-/// All that a run changes. Whether a task runs or is ready is told by `running`; a bit of `marks` is on per nonempty queue.
+/// All that a run changes.
 struct Machine {
     now: u64,
     running: u8,
@@ -316,130 +209,70 @@ struct Machine {
     ceilings: [u8; MOST_OBJECTS],
     /// The active priority that the Leave of an object goes back to: in a run an object has one holder.
     outer: [u8; MOST_OBJECTS],
-    /// Due time and number of the delayed tasks, the next to wake last.
-    delayed: [u64; MOST_TASKS],
-    sleepers: usize,
-    next_due: u64,
-    /// The queue for priority 32 is the first.
-    queues: [Queue; MOST_PRIORITIES],
-    marks: u64,
+    queues: Queues,
     /// Where scripts start, end and are at, in steps.
-    start: [u16; MOST_TASKS],
+    first: [u16; MOST_TASKS],
     end: [u16; MOST_TASKS],
     at: [u16; MOST_TASKS],
 }
 
 impl Machine {
-    fn new(roster: &[u8], shape: &Shape) -> Machine {
-        let empty = Queue {
-            first: 0,
-            end: 0,
-            cells: [0; MOST_TASKS],
-        };
-        let mut m = Machine {
+    /// Without what `start` reads: filled here, it would be copied as a whole.
+    fn empty(tasks: usize) -> Machine {
+        Machine {
             now: 0,
             running: NOBODY,
             report: 0,
-            tasks: shape.tasks,
-            place: [Place::Ready; MOST_TASKS],
+            tasks,
+            place: [Place::Awake; MOST_TASKS],
             active: [0; MOST_TASKS],
             waiting: [0; MOST_TASKS],
             permit: [false; MOST_TASKS],
             depth: [0; MOST_TASKS],
             ceilings: [0; MOST_OBJECTS],
             outer: [0; MOST_OBJECTS],
-            delayed: [0; MOST_TASKS],
-            sleepers: 0,
-            next_due: u64::MAX,
-            queues: [empty; MOST_PRIORITIES],
-            marks: 0,
-            start: [0; MOST_TASKS],
+            queues: Queues::new(),
+            first: [0; MOST_TASKS],
             end: [0; MOST_TASKS],
             at: [0; MOST_TASKS],
-        };
-        let ceilings = &roster[shape.object_table..roster.len() - TRAILER];
-        for (o, row) in ceilings.chunks_exact(2).enumerate() {
-            m.ceilings[o] = row[0];
         }
-        let rows = &roster[shape.task_table..shape.object_table];
-        for (t, row) in rows.chunks_exact(6).enumerate() {
-            m.active[t] = row[0];
-            m.start[t] = (word(row, 2) / 4) as u16;
-            m.at[t] = m.start[t];
-            m.end[t] = m.start[t] + (word(row, 4) / 4) as u16;
-            m.push_tail(t);
+    }
+
+    fn start(&mut self, roster: &[u8], shape: &Shape) {
+        for (ceiling, row) in self.ceilings.iter_mut().zip(shape.object_rows(roster)) {
+            *ceiling = row[0];
         }
-        m.pick();
-        m
+        for (t, row) in shape.task_rows(roster).enumerate() {
+            self.active[t] = row[0];
+            self.first[t] = (word(row, 2) / 4) as u16;
+            self.at[t] = self.first[t];
+            self.end[t] = self.first[t] + (word(row, 4) / 4) as u16;
+            self.push_tail(t);
+        }
+        self.pick();
     }
 
     fn push_tail(&mut self, t: usize) {
-        let p = self.active[t];
-        let queue = &mut self.queues[p as usize % MOST_PRIORITIES];
-        queue.cells[queue.end as usize % MOST_TASKS] = t as u8;
-        queue.end = queue.end.wrapping_add(1);
-        self.marks |= 1 << p;
-    }
-
-    fn push_head(&mut self, t: usize) {
-        let p = self.active[t];
-        let queue = &mut self.queues[p as usize % MOST_PRIORITIES];
-        queue.first = queue.first.wrapping_sub(1);
-        queue.cells[queue.first as usize % MOST_TASKS] = t as u8;
-        self.marks |= 1 << p;
-    }
-
-    fn take_out(&mut self, t: usize) {
-        let p = self.active[t];
-        let queue = &mut self.queues[p as usize % MOST_PRIORITIES];
-        let mut i = queue.first;
-        while queue.cells[i as usize % MOST_TASKS] != t as u8 {
-            i = i.wrapping_add(1);
-        }
-        queue.end = queue.end.wrapping_sub(1);
-        while i != queue.end {
-            let next = i.wrapping_add(1);
-            queue.cells[i as usize % MOST_TASKS] = queue.cells[next as usize % MOST_TASKS];
-            i = next;
-        }
-        if queue.first == queue.end {
-            self.marks &= !(1 << p);
-        }
-    }
-
-    /// The head of the highest queue, which is not empty, runs.
-    fn run_head(&mut self, p: usize) {
-        let queue = &mut self.queues[p % MOST_PRIORITIES];
-        self.running = queue.cells[queue.first as usize % MOST_TASKS];
-        queue.first = queue.first.wrapping_add(1);
-        if queue.first == queue.end {
-            self.marks &= !(1 << p);
-        }
-    }
-
-    /// The highest priority whose queue is not empty, or 0.
-    fn highest(&self) -> usize {
-        (self.marks | 1).ilog2() as usize
+        self.queues.join_tail(self.active[t], t as u8);
     }
 
     /// The running task has stopped: the head of the highest queue runs, or nobody.
     fn pick(&mut self) {
         let before = self.running;
-        let highest = self.highest();
-        if highest == 0 {
-            self.running = NOBODY;
-        } else {
-            self.run_head(highest);
-        }
+        let highest = self.queues.highest();
+        self.running = match highest {
+            0 => NOBODY,
+            _ => self.queues.pop(highest),
+        };
         self.report = 2 * (self.running != before) as u8;
     }
 
     /// The running task goes on, unless a higher one is ready.
     fn preempt(&mut self, t: usize) {
-        let highest = self.highest();
-        if highest > self.active[t] as usize {
-            self.push_head(t);
-            self.run_head(highest);
+        let highest = self.queues.highest();
+        if highest > self.active[t] {
+            self.queues.join_head(self.active[t], t as u8);
+            self.running = self.queues.pop(highest);
             self.report = 1;
         }
     }
@@ -458,31 +291,21 @@ impl Machine {
             return 4;
         }
         self.now = r;
-        if self.next_due <= r {
-            self.wake(r);
+        if self.queues.next_due <= r {
+            let (place, active) = (&mut self.place, &self.active);
+            self.queues.wake(r, |t| {
+                let t = t as usize % MOST_TASKS;
+                place[t] = Place::Awake;
+                active[t]
+            });
             self.dispatch();
         }
         0
     }
 
-    /// Everybody due, by due time, lower number first when equal.
-    fn wake(&mut self, r: u64) {
-        self.next_due = u64::MAX;
-        while let Some(&key) = self.delayed[..self.sleepers].last() {
-            if key / KEY > r {
-                self.next_due = key / KEY;
-                return;
-            }
-            self.sleepers -= 1;
-            let t = (key % KEY) as usize;
-            self.place[t] = Place::Ready;
-            self.push_tail(t);
-        }
-    }
-
     fn release(&mut self, t: usize) {
         if self.place[t] == Place::Suspended {
-            self.place[t] = Place::Ready;
+            self.place[t] = Place::Awake;
             self.push_tail(t);
             self.dispatch();
         } else {
@@ -494,7 +317,7 @@ impl Machine {
         if t >= self.tasks || t >= MOST_TASKS {
             return 1;
         }
-        if !(1..=32).contains(&p) {
+        if !is_priority(p) {
             return 3;
         }
         if self.place[t] == Place::Ended {
@@ -503,12 +326,12 @@ impl Machine {
         let p = p as u8;
         if self.depth[t] > 0 {
             self.waiting[t] = p;
-        } else if self.place[t] != Place::Ready {
+        } else if self.place[t] != Place::Awake {
             self.active[t] = p;
         } else if self.running as usize == t {
             self.rebase_running(t, p);
         } else {
-            self.take_out(t);
+            self.queues.take_out(self.active[t], t as u8);
             self.active[t] = p;
             self.push_tail(t);
             self.dispatch();
@@ -549,17 +372,8 @@ impl Machine {
         if d == 0 {
             self.push_tail(t);
         } else {
-            let due = self.now + d;
             self.place[t] = Place::Delayed;
-            self.next_due = self.next_due.min(due);
-            let key = due * KEY + t as u64;
-            let mut i = self.sleepers;
-            self.sleepers += 1;
-            while i > 0 && self.delayed[i - 1] < key {
-                self.delayed[i] = self.delayed[i - 1];
-                i -= 1;
-            }
-            self.delayed[i] = key;
+            self.queues.delay(t as u8, self.now + d);
         }
         self.pick();
     }
@@ -611,7 +425,7 @@ impl Machine {
                 self.set(t, value());
             }
             // Again is 8
-            0 => self.at[t] = self.start[t],
+            0 => self.at[t] = self.first[t],
             _ => {}
         }
         0
@@ -638,19 +452,21 @@ pub fn run(roster: &[u8], events: &[u8], buffer: &mut [u8]) -> Answer {
         Ok(shape) => shape,
         Err(refusal) => return refusal,
     };
-    if !events_are_good(events) {
+    if !shape::events_are_good(events) {
         return (21, 0, 0);
     }
-    if buffer.len() < events.len() / 8 * REPLY {
+    if buffer.len() < shape::count_of(events) * REPLY_SIZE {
         return (22, 0, 0);
     }
-    let mut m = Machine::new(roster, &shape);
+    let mut m = Machine::empty(shape.tasks);
+    m.start(roster, &shape);
     let (steps, _) = roster[..shape.task_table].as_chunks();
-    for (e, reply) in events.chunks_exact(8).zip(buffer.chunks_exact_mut(REPLY)) {
+    let replies = buffer.chunks_exact_mut(REPLY_SIZE);
+    for (event, reply) in shape::records(events).zip(replies) {
         m.report = 0;
-        reply[0] = match u64::from_le_bytes(e.try_into().unwrap()) {
+        reply[0] = match event {
             STEP => m.step(steps),
-            event => m.take_outside(event),
+            _ => m.take_outside(event),
         };
         reply[1] = m.running;
         reply[2] = m.report;

@@ -7,17 +7,21 @@ mod cases;
 mod counting;
 mod jobs;
 mod lean;
+mod limits;
 mod plain;
 mod plain_state;
+mod queues;
 mod same;
+mod scenarios;
+mod shape;
 mod table;
 mod timing;
 mod worst;
 
 fn counted(what: &str) {
     match what {
-        "worst" => counting::call_all(&worst::jobs(), counting::WITHOUT_LEAN),
-        _ => counting::call_all(&counting::jobs(), counting::ALL_CODES),
+        "worst" => counting::call_all(&worst::jobs()),
+        _ => counting::call_all(&counting::jobs()),
     }
 }
 

@@ -4,89 +4,11 @@
 //! time and held objects, outermost first; the ready queues in order; now and who is running. It relies on the check, which is local: a
 //! script that passes cannot be refused with 1, 2, 3, 6, 7 or 9, so these are not tested for a Step. It uses no fact about whole runs.
 
-use std::collections::VecDeque;
-
 use second::state::{self, State};
 
-const MOST_TASKS: usize = 32;
-const MOST_OBJECTS: usize = 16;
-const MOST_PRIORITIES: usize = 32;
-const LARGEST: usize = 32_768;
-const LONGEST_ADVANCE: u64 = 86_400_000;
-const TRAILER: usize = 8;
-const NOBODY: u8 = 255;
-const REPLY: usize = 3;
-
-/// A delayed task's due time is multiplied by this, its number added: the order in which they wake.
-const KEY: u64 = MOST_TASKS as u64;
-
-/// The most frequent step, which is tested before the others.
-const WORK: u32 = 4;
-
-/// The record of a Step, which has no unused field but 0.
-const STEP: u64 = 3;
-
-/// Number, task and step.
-pub type Answer = (u8, usize, usize);
-
-fn word(bytes: &[u8], at: usize) -> usize {
-    bytes[at] as usize | (bytes[at + 1] as usize) << 8
-}
-
-fn good(priority: u8) -> bool {
-    (1..=32).contains(&priority)
-}
-
-/// Where the parts of a roster are.
-struct Shape {
-    tasks: usize,
-    objects: usize,
-    task_table: usize,
-    object_table: usize,
-}
-
-fn shape_of(roster: &[u8]) -> Result<Shape, u8> {
-    let size = roster.len();
-    if !(TRAILER + 6..=LARGEST).contains(&size) {
-        return Err(11);
-    }
-    let end = &roster[size - TRAILER..];
-    if end[0] != 0x52 || end[1] != 0x35 {
-        return Err(12);
-    }
-    let (tasks, objects) = (end[2] as usize, end[3] as usize);
-    if tasks == 0 || tasks > MOST_TASKS || objects > MOST_OBJECTS {
-        return Err(13);
-    }
-    let (object_table, task_table) = (word(end, 4), word(end, 6));
-    let shape = Shape {
-        tasks,
-        objects,
-        task_table,
-        object_table,
-    };
-    if object_table + 2 * objects + TRAILER != size || task_table + 6 * tasks != object_table {
-        return Err(14);
-    }
-    let mut next = 0;
-    for row in roster[task_table..object_table].chunks_exact(6) {
-        let length = word(row, 4);
-        if word(row, 2) != next || !length.is_multiple_of(4) {
-            return Err(14);
-        }
-        next += length;
-    }
-    if next != task_table {
-        return Err(14);
-    }
-    let bad_task = |row: &[u8]| !good(row[0]) || row[1] != 0;
-    let mut rows = roster[task_table..object_table].chunks_exact(6);
-    let mut ceilings = roster[object_table..size - TRAILER].chunks_exact(2);
-    if rows.any(bad_task) || ceilings.any(bad_task) {
-        return Err(15);
-    }
-    Ok(shape)
-}
+use crate::limits::{LONGEST_ADVANCE, MOST_OBJECTS, MOST_TASKS, NOBODY, REPLY_SIZE};
+use crate::queues::Queues;
+use crate::shape::{self, is_priority, shape_of, word, Answer, Shape, STEP, WORK};
 
 /// By code, what the operands of a step have to be below, so that most steps need one comparison; 0 where another test is needed, or
 /// where there is no such code.
@@ -107,7 +29,7 @@ fn other_is_good(s: u32, last: bool, tasks: usize) -> bool {
     let (a, b) = (s as usize / 256 % 256, s >> 16);
     match s as u8 {
         3 => a == 0,
-        7 => a < tasks && (1..=32).contains(&b),
+        7 => a < tasks && is_priority(b as u64),
         8 => s == 8 && last,
         _ => false,
     }
@@ -212,8 +134,8 @@ fn own_set(t: usize) -> u32 {
 
 fn ceilings_of(roster: &[u8], shape: &Shape) -> [u8; MOST_OBJECTS] {
     let mut ceilings = [0; MOST_OBJECTS];
-    let rows = roster[shape.object_table..].chunks_exact(2);
-    for (ceiling, row) in ceilings[..shape.objects].iter_mut().zip(rows) {
+    let rows = shape.object_rows(roster);
+    for (ceiling, row) in ceilings.iter_mut().zip(rows) {
         *ceiling = row[0];
     }
     ceilings
@@ -227,7 +149,7 @@ fn script_of<'a>(roster: &'a [u8], row: &[u8]) -> &'a [[u8; 4]] {
 /// The form of all scripts comes first, then what they do, in the order of the answers.
 fn checked(roster: &[u8]) -> Result<Shape, Answer> {
     let shape = shape_of(roster).map_err(|number| (number, 0, 0))?;
-    let rows = roster[shape.task_table..shape.object_table].chunks_exact(6);
+    let rows = shape.task_rows(roster);
     let limits = limits_of(&shape);
     let mut highest = [0; MOST_TASKS];
     for (t, row) in rows.clone().enumerate() {
@@ -252,61 +174,16 @@ pub fn check(roster: &[u8]) -> Answer {
     checked(roster).map_or_else(|refusal| refusal, |_| (0, 0, 0))
 }
 
-/// For each kind of event, the bits of a record that have to be 0; for what is no kind, the kind itself.
-const UNUSED: [u64; 256] = {
-    let mut masks = [0xFF; 256];
-    masks[1] = 0xFF00;
-    masks[2] = 0xFFFF_FFFF_FFFF_0000;
-    masks[3] = 0xFFFF_FFFF_FFFF_FF00;
-    masks[4] = 0;
-    masks
-};
-
-/// A kind: where the bits of no kind are looked at, they differ from it.
-const SOME_KIND: u64 = 4;
-
-fn record(e: &[u8]) -> u64 {
-    u64::from_le_bytes(e.try_into().unwrap())
-}
-
-/// Without jumps: what is wrong with any record is or-ed together.
-fn events_are_good(events: &[u8]) -> bool {
-    let wrong = |e: u64| (e ^ SOME_KIND) & UNUSED[e as u8 as usize];
-    let records = events.chunks_exact(8);
-    events.len().is_multiple_of(8)
-        && events.len() <= LARGEST
-        && records.fold(0, |bad, e| bad | wrong(record(e))) == 0
-}
-
+/// Where a task is; of those awake one may be running, and the others are ready.
 #[derive(Clone, Copy, PartialEq)]
 enum Place {
-    Running,
-    Ready,
+    Awake,
     Delayed,
     Suspended,
     Ended,
 }
 
-/// A ready queue as a ring: the cells from `first` to before `end`, both counted on and on and taken modulo the size. Each has a
-/// cache line of its own.
-#[derive(Clone, Copy)]
-#[repr(align(64))]
-struct Queue {
-    first: u8,
-    end: u8,
-    cells: [u8; MOST_TASKS],
-}
-
-impl Queue {
-    const EMPTY: Queue = Queue {
-        first: 0,
-        end: 0,
-        cells: [0; MOST_TASKS],
-    };
-}
-
-/// All that a run changes: the whole state of the rules, and beside it what is kept so that it need not be worked out again: the active
-/// priorities, the next due time, and a bit of `marks` per nonempty queue.
+/// All that a run changes: the whole state of the rules, and beside it the active priorities, so that they need not be worked out again.
 struct Machine<'a> {
     now: u64,
     running: u8,
@@ -318,17 +195,11 @@ struct Machine<'a> {
     active: [u8; MOST_TASKS],
     waiting: [u8; MOST_TASKS],
     permit: [bool; MOST_TASKS],
-    /// Due times of the delayed tasks, each with the task's number below it, the next to wake last.
-    delayed: [u64; MOST_TASKS],
-    sleepers: usize,
-    next_due: u64,
+    queues: Queues,
     /// The objects held, outermost first, and how many.
     held: [[u8; MOST_OBJECTS]; MOST_TASKS],
     depth: [u8; MOST_TASKS],
     ceilings: [u8; MOST_OBJECTS],
-    /// The queue for priority 32 is the first.
-    queues: [Queue; MOST_PRIORITIES],
-    marks: u64,
     /// Each task's script, and what is left of it.
     scripts: [Script<'a>; MOST_TASKS],
     left: [Script<'a>; MOST_TASKS],
@@ -337,115 +208,58 @@ struct Machine<'a> {
 type Script<'a> = std::slice::Iter<'a, [u8; 4]>;
 
 impl<'a> Machine<'a> {
-    fn new(roster: &'a [u8], shape: &Shape) -> Machine<'a> {
-        let mut m = Machine {
+    /// Without the tasks, which `start` adds where it then stands: filled here, it would be copied as a whole.
+    fn empty(roster: &[u8], shape: &Shape) -> Machine<'a> {
+        Machine {
             now: 0,
             running: NOBODY,
             report: 0,
             tasks: shape.tasks,
-            place: [Place::Ready; MOST_TASKS],
+            place: [Place::Awake; MOST_TASKS],
             base: [0; MOST_TASKS],
             active: [0; MOST_TASKS],
             waiting: [0; MOST_TASKS],
             permit: [false; MOST_TASKS],
-            delayed: [0; MOST_TASKS],
-            sleepers: 0,
-            next_due: u64::MAX,
+            queues: Queues::new(),
             held: [[0; MOST_OBJECTS]; MOST_TASKS],
             depth: [0; MOST_TASKS],
             ceilings: ceilings_of(roster, shape),
-            queues: [Queue::EMPTY; MOST_PRIORITIES],
-            marks: 0,
             scripts: std::array::from_fn(|_| [].iter()),
             left: std::array::from_fn(|_| [].iter()),
-        };
-        let rows = &roster[shape.task_table..shape.object_table];
-        for (t, row) in rows.chunks_exact(6).enumerate() {
-            m.base[t] = row[0];
-            m.active[t] = row[0];
-            m.scripts[t] = script_of(roster, row).iter();
-            m.left[t] = m.scripts[t].clone();
-            m.push_tail(t);
         }
-        m.pick();
-        m
+    }
+
+    fn start(&mut self, roster: &'a [u8], shape: &Shape) {
+        for (t, row) in shape.task_rows(roster).enumerate() {
+            self.rebase(t, row[0]);
+            self.scripts[t] = script_of(roster, row).iter();
+            self.left[t] = self.scripts[t].clone();
+            self.push_tail(t);
+        }
+        self.pick();
     }
 
     fn push_tail(&mut self, t: usize) {
-        let p = self.active[t];
-        let queue = &mut self.queues[p as usize % MOST_PRIORITIES];
-        queue.cells[queue.end as usize % MOST_TASKS] = t as u8;
-        queue.end = queue.end.wrapping_add(1);
-        self.marks |= 1 << p;
-        self.place[t] = Place::Ready;
-    }
-
-    fn push_head(&mut self, t: usize) {
-        let p = self.active[t];
-        let queue = &mut self.queues[p as usize % MOST_PRIORITIES];
-        queue.first = queue.first.wrapping_sub(1);
-        queue.cells[queue.first as usize % MOST_TASKS] = t as u8;
-        self.marks |= 1 << p;
-        self.place[t] = Place::Ready;
-    }
-
-    fn pop(&mut self, p: usize) -> u8 {
-        let queue = &mut self.queues[p % MOST_PRIORITIES];
-        let t = queue.cells[queue.first as usize % MOST_TASKS];
-        queue.first = queue.first.wrapping_add(1);
-        if queue.first == queue.end {
-            self.marks &= !(1 << p);
-        }
-        t
-    }
-
-    fn take_out(&mut self, t: usize) {
-        let p = self.active[t];
-        let queue = &mut self.queues[p as usize % MOST_PRIORITIES];
-        let mut i = queue.first;
-        while queue.cells[i as usize % MOST_TASKS] != t as u8 {
-            i = i.wrapping_add(1);
-        }
-        queue.end = queue.end.wrapping_sub(1);
-        while i != queue.end {
-            let next = i.wrapping_add(1);
-            queue.cells[i as usize % MOST_TASKS] = queue.cells[next as usize % MOST_TASKS];
-            i = next;
-        }
-        if queue.first == queue.end {
-            self.marks &= !(1 << p);
-        }
-    }
-
-    /// The head of the highest queue, which is not empty, runs.
-    fn run_head(&mut self, p: usize) {
-        self.running = self.pop(p);
-        self.place[self.running as usize % MOST_TASKS] = Place::Running;
-    }
-
-    /// The highest priority whose queue is not empty, or 0.
-    fn highest(&self) -> usize {
-        (self.marks | 1).ilog2() as usize
+        self.queues.join_tail(self.active[t], t as u8);
     }
 
     /// The running task has stopped: the head of the highest queue runs, or nobody.
     fn pick(&mut self) {
         let before = self.running;
-        let highest = self.highest();
-        if highest == 0 {
-            self.running = NOBODY;
-        } else {
-            self.run_head(highest);
-        }
+        let highest = self.queues.highest();
+        self.running = match highest {
+            0 => NOBODY,
+            _ => self.queues.pop(highest),
+        };
         self.report = 2 * (self.running != before) as u8;
     }
 
     /// The running task goes on, unless a higher one is ready.
     fn preempt(&mut self, t: usize) {
-        let highest = self.highest();
-        if highest > self.active[t] as usize {
-            self.push_head(t);
-            self.run_head(highest);
+        let highest = self.queues.highest();
+        if highest > self.active[t] {
+            self.queues.join_head(self.active[t], t as u8);
+            self.running = self.queues.pop(highest);
             self.report = 1;
         }
     }
@@ -465,28 +279,21 @@ impl<'a> Machine<'a> {
             return 4;
         }
         self.now = r;
-        if self.next_due <= r {
-            self.wake(r);
+        if self.queues.next_due <= r {
+            let (place, active) = (&mut self.place, &self.active);
+            self.queues.wake(r, |t| {
+                let t = t as usize % MOST_TASKS;
+                place[t] = Place::Awake;
+                active[t]
+            });
             self.dispatch();
         }
         0
     }
 
-    /// Everybody due, by due time, lower number first when equal.
-    fn wake(&mut self, r: u64) {
-        self.next_due = u64::MAX;
-        while let Some(&key) = self.delayed[..self.sleepers].last() {
-            if key / KEY > r {
-                self.next_due = key / KEY;
-                return;
-            }
-            self.sleepers -= 1;
-            self.push_tail((key % KEY) as usize);
-        }
-    }
-
     fn release(&mut self, t: usize) {
         if self.place[t] == Place::Suspended {
+            self.place[t] = Place::Awake;
             self.push_tail(t);
             self.dispatch();
         } else {
@@ -498,7 +305,7 @@ impl<'a> Machine<'a> {
         if t >= self.tasks || t >= MOST_TASKS {
             return 1;
         }
-        if !(1..=32).contains(&p) {
+        if !is_priority(p) {
             return 3;
         }
         if self.place[t] == Place::Ended {
@@ -507,28 +314,26 @@ impl<'a> Machine<'a> {
         let p = p as u8;
         if self.depth[t] > 0 {
             self.waiting[t] = p;
-            return 0;
-        }
-        match self.place[t] {
-            Place::Ready => {
-                self.take_out(t);
-                self.base[t] = p;
-                self.active[t] = p;
-                self.push_tail(t);
-                self.dispatch();
-            }
-            Place::Running => self.rebase_running(t, p),
-            _ => {
-                self.base[t] = p;
-                self.active[t] = p;
-            }
+        } else if self.place[t] != Place::Awake {
+            self.rebase(t, p);
+        } else if self.running as usize == t {
+            self.rebase_running(t, p);
+        } else {
+            self.queues.take_out(self.active[t], t as u8);
+            self.rebase(t, p);
+            self.push_tail(t);
+            self.dispatch();
         }
         0
     }
 
-    fn rebase_running(&mut self, t: usize, p: u8) {
+    fn rebase(&mut self, t: usize, p: u8) {
         self.base[t] = p;
         self.active[t] = p;
+    }
+
+    fn rebase_running(&mut self, t: usize, p: u8) {
+        self.rebase(t, p);
         self.push_tail(t);
         self.pick();
     }
@@ -566,17 +371,8 @@ impl<'a> Machine<'a> {
         if d == 0 {
             self.push_tail(t);
         } else {
-            let due = self.now + d;
             self.place[t] = Place::Delayed;
-            self.next_due = self.next_due.min(due);
-            let key = due * KEY + t as u64;
-            let mut i = self.sleepers;
-            self.sleepers += 1;
-            while i > 0 && self.delayed[i - 1] < key {
-                self.delayed[i] = self.delayed[i - 1];
-                i -= 1;
-            }
-            self.delayed[i] = key;
+            self.queues.delay(t as u8, self.now + d);
         }
         self.pick();
     }
@@ -633,11 +429,12 @@ impl<'a> Machine<'a> {
 
     /// Writes three bytes per event: answer, running task or 255, report.
     fn take_all(&mut self, events: &[u8], buffer: &mut [u8]) {
-        for (e, reply) in events.chunks_exact(8).zip(buffer.chunks_exact_mut(REPLY)) {
+        let replies = buffer.chunks_exact_mut(REPLY_SIZE);
+        for (event, reply) in shape::records(events).zip(replies) {
             self.report = 0;
-            reply[0] = match record(e) {
+            reply[0] = match event {
                 STEP => self.step(),
-                event => self.take_outside(event),
+                _ => self.take_outside(event),
             };
             reply[1] = self.running;
             reply[2] = self.report;
@@ -661,15 +458,15 @@ impl<'a> Machine<'a> {
 
 impl Machine<'_> {
     fn task(&self, t: usize) -> state::Task {
-        let keys = &self.delayed[..self.sleepers];
-        let due = || keys.iter().find(|key| *key % KEY == t as u64).unwrap() / KEY;
         let held = &self.held[t][..self.depth[t] as usize];
         state::Task {
             base: self.base[t] as u64,
             place: match self.place[t] {
-                Place::Running => state::Place::Running,
-                Place::Ready => state::Place::Ready,
-                Place::Delayed => state::Place::Delayed { due: due() },
+                Place::Awake if self.running as usize == t => state::Place::Running,
+                Place::Awake => state::Place::Ready,
+                Place::Delayed => state::Place::Delayed {
+                    due: self.queues.due(t),
+                },
                 Place::Suspended => state::Place::Suspended,
                 Place::Ended => state::Place::Ended,
             },
@@ -679,22 +476,16 @@ impl Machine<'_> {
         }
     }
 
-    fn queue(&self, p: usize) -> VecDeque<usize> {
-        let queue = &self.queues[p % MOST_PRIORITIES];
-        let count = queue.end.wrapping_sub(queue.first);
-        let cell = |i: u8| queue.cells[queue.first.wrapping_add(i) as usize % MOST_TASKS];
-        (0..count).map(|i| cell(i) as usize).collect()
-    }
-
     /// The whole state of the rules.
     fn state(&self, objects: usize) -> State {
         let ceilings = self.ceilings[..objects].iter();
+        let queue = |i: usize| self.queues.queue(i as u8 + 1).collect();
         State {
             now: self.now,
             tasks: (0..self.tasks).map(|t| self.task(t)).collect(),
             ceilings: ceilings.map(|c| *c as u64).collect(),
-            queues: std::array::from_fn(|i| self.queue(i + 1)),
-            marks: (self.marks >> 1) as u32,
+            queues: std::array::from_fn(queue),
+            marks: self.queues.marks(),
             running: (self.running != NOBODY).then_some(self.running as usize),
         }
     }
@@ -705,9 +496,10 @@ pub fn states(roster: &[u8], events: &[u8]) -> Vec<State> {
     let Ok(shape) = checked(roster) else {
         return Vec::new();
     };
-    let mut m = Machine::new(roster, &shape);
+    let mut m = Machine::empty(roster, &shape);
+    m.start(roster, &shape);
     let after = |e| {
-        m.take_all(e, &mut [0; REPLY]);
+        m.take_all(e, &mut [0; REPLY_SIZE]);
         m.state(shape.objects)
     };
     events.chunks_exact(8).map(after).collect()
@@ -719,13 +511,14 @@ pub fn run(roster: &[u8], events: &[u8], buffer: &mut [u8]) -> Answer {
         Ok(shape) => shape,
         Err(refusal) => return refusal,
     };
-    if !events_are_good(events) {
+    if !shape::events_are_good(events) {
         return (21, 0, 0);
     }
-    if buffer.len() < events.len() / 8 * REPLY {
+    if buffer.len() < shape::count_of(events) * REPLY_SIZE {
         return (22, 0, 0);
     }
-    let mut m = Machine::new(roster, &shape);
+    let mut m = Machine::empty(roster, &shape);
+    m.start(roster, &shape);
     m.take_all(events, buffer);
     (0, 0, 0)
 }

@@ -5,25 +5,27 @@
 
 use second::machine::Event;
 
-const SIZE: usize = 2144;
+use crate::limits::{
+    LARGEST_READING, LONGEST_ADVANCE, LONGEST_DELAY, MOST_OBJECTS, MOST_TASKS, NOBODY, PRIORITIES,
+    STATE_SIZE,
+};
+
 const RUNNING: usize = 8;
 const TASK_COUNT: usize = 9;
 const OBJECT_COUNT: usize = 10;
+const UNREAD: usize = 11;
 const MARKS: usize = 12;
 const TASKS: usize = 16;
 const TASK_ROW: usize = 16;
-const CEILINGS: usize = 528;
-const HELD: usize = 544;
-const HELD_ROW: usize = 17;
-const READY: usize = 1088;
-const READY_ROW: usize = 33;
-const MOST_TASKS: usize = 32;
-const MOST_OBJECTS: usize = 16;
-const NOBODY: u8 = 255;
-
-const LARGEST_READING: u64 = 281_474_976_710_655;
-const LONGEST_ADVANCE: u64 = 86_400_000;
-const LONGEST_DELAY: u64 = 65_535;
+const CEILINGS: usize = TASKS + TASK_ROW * MOST_TASKS;
+const HELD: usize = CEILINGS + MOST_OBJECTS;
+const HELD_ROW: usize = 1 + MOST_OBJECTS;
+const READY: usize = HELD + HELD_ROW * MOST_TASKS;
+const READY_ROW: usize = 1 + MOST_TASKS;
+const SIZE: usize = READY + READY_ROW * PRIORITIES;
+const _: () = assert!(SIZE == STATE_SIZE);
+// a bit for each task in 64 of them, for each object and each priority in 32
+const _: () = assert!(MOST_TASKS <= 64 && MOST_OBJECTS <= 32 && PRIORITIES <= 32);
 
 const IS_RUNNING: u8 = 0;
 const IS_READY: u8 = 1;
@@ -45,29 +47,40 @@ fn marks_in(bytes: &Bytes) -> u32 {
     u32::from_le_bytes(bytes[MARKS..MARKS + 4].try_into().unwrap())
 }
 
-fn good(priority: u8) -> bool {
-    priority.wrapping_sub(1) < 32
+/// The highest priority whose queue is not empty, or 0.
+fn highest_in(bytes: &Bytes) -> usize {
+    (u32::BITS - marks_in(bytes).leading_zeros()) as usize
 }
 
-/// What the test of the tasks finds: who is in each kind of place, a bit for each task, and the active priorities.
+fn good(priority: u8) -> bool {
+    priority.wrapping_sub(1) < PRIORITIES as u8
+}
+
+/// What the test of the tasks finds: who is in each kind of place and who holds objects, a bit for each task, and the active priorities.
 struct Found {
-    places: [u32; 8],
+    places: [u64; 8],
+    holders: u64,
     active: [u8; MOST_TASKS],
 }
 
 /// The active priority of a task that holds `held`, outermost first; 0 where an object is not listed or held twice, or where the
 /// ceilings fall inwards or start below the base.
 fn raised(held: &[u8], base: u8, ceilings: &[u8]) -> u8 {
-    let (mut level, mut seen) = (base, 0u32);
+    let (mut level, mut falls, mut seen) = (base, 0, 0u32);
     for &object in held {
-        let bit = 1u32.wrapping_shl(object as u32);
-        match ceilings.get(object as usize) {
-            Some(&ceiling) if ceiling >= level && seen & bit == 0 => level = ceiling,
-            _ => return 0,
-        }
-        seen |= bit;
+        let Some(&ceiling) = ceilings.get(object as usize) else {
+            return 0;
+        };
+        // priorities are small: the highest bit is on where it falls
+        falls |= ceiling.wrapping_sub(level);
+        seen |= 1 << object;
+        level = ceiling;
     }
-    level
+    let once = seen.count_ones() as usize == held.len();
+    match once && falls < 0x80 {
+        true => level,
+        false => 0,
+    }
 }
 
 /// A task row's last 8 bytes as one number: kind, base, whether a base waits, which, permit.
@@ -77,33 +90,47 @@ const WAITS: u64 = 0x01_0000;
 const TO_TOO_MUCH: u64 = 0x007E_007E_607B;
 const TOO_MUCH: u64 = 0x0080_0080_8080;
 
+/// Those of these 8 bytes that are not read, and one more where no base waits.
+const NEVER_READ: u64 = 0xFFFF_FF00_0000_0000;
+const NO_BASE: u64 = 0xFF00_0000;
+
+/// The task rows, each in two halves.
+fn rows_in(bytes: &[u8]) -> &[[[u8; 8]; 2]] {
+    bytes.as_chunks::<8>().0.as_chunks::<2>().0
+}
+
+/// A row's due time, and its last 8 bytes.
+fn due_and_word(row: &[[u8; 8]; 2]) -> (u64, u64) {
+    (u64::from_le_bytes(row[0]), u64::from_le_bytes(row[1]))
+}
+
 /// The task rows and held lists. Faults are or-ed together, so that the common way has few jumps.
 fn test_tasks(bytes: &Bytes, tasks: usize, ceilings: &[u8]) -> Option<Found> {
     let now = long(bytes, 0);
     let mut found = Found {
         places: [0; 8],
+        holders: 0,
         active: [0; MOST_TASKS],
     };
     let (mut faults, mut bad, mut bit) = (0, false, 1);
-    let rows = bytes[TASKS..CEILINGS].chunks_exact(TASK_ROW);
-    let lists = bytes[HELD..READY].chunks_exact(HELD_ROW);
-    let actives = found.active.iter_mut();
-    for ((row, list), active) in rows.zip(lists).zip(actives).take(tasks) {
-        let word = u64::from_le_bytes(row[8..].try_into().unwrap());
+    let rows = &rows_in(&bytes[TASKS..CEILINGS])[..tasks];
+    let lists = &bytes[HELD..READY].as_chunks::<HELD_ROW>().0[..tasks];
+    for ((row, list), active) in rows.iter().zip(lists).zip(&mut found.active) {
+        let (due, word) = due_and_word(row);
         let less = word.wrapping_sub(ONE_BASE);
         faults |= less | less.wrapping_add(TO_TOO_MUCH);
-        let (kind, base, depth) = (word as u8, row[9], list[0] as usize);
+        let (kind, base, depth) = (word as u8, (word >> 8) as u8, list[0] as usize);
         if kind == IS_DELAYED {
-            let due = u64::from_le_bytes(row[..8].try_into().unwrap());
             bad |= due.wrapping_sub(now).wrapping_sub(1) >= LONGEST_DELAY;
         }
         if word & WAITS != 0 {
-            bad |= !good(row[11]) | (depth == 0);
+            bad |= !good((word >> 24) as u8) | (depth == 0);
         }
         *active = base;
         if depth > 0 {
             *active = raised(list.get(1..=depth)?, base, ceilings);
             bad |= (kind > IS_READY) | (*active == 0);
+            found.holders |= bit;
         }
         found.places[kind as usize % 8] |= bit;
         bit <<= 1;
@@ -120,7 +147,7 @@ fn test_queues(bytes: &Bytes, found: &Found) -> bool {
         filled |= ((row[0] != 0) as u32) << q;
     }
     let ready = found.places[IS_READY as usize];
-    let (mut queued, mut count, mut bad, mut left) = (0u32, 0, filled ^ marks, filled);
+    let (mut queued, mut count, mut bad, mut left) = (0u64, 0, filled ^ marks, filled);
     while left != 0 {
         let q = left.trailing_zeros();
         left &= left - 1;
@@ -140,8 +167,8 @@ fn test_queues(bytes: &Bytes, found: &Found) -> bool {
     bad == 0 && queued == ready && count == ready.count_ones()
 }
 
-/// The active priorities of a sound state's tasks.
-fn sound(bytes: &Bytes) -> Option<[u8; MOST_TASKS]> {
+/// What is found in a sound state.
+fn sound(bytes: &Bytes) -> Option<Found> {
     let (tasks, objects) = (bytes[TASK_COUNT] as usize, bytes[OBJECT_COUNT] as usize);
     if long(bytes, 0) > LARGEST_READING || tasks.wrapping_sub(1) >= MOST_TASKS {
         return None;
@@ -156,19 +183,19 @@ fn sound(bytes: &Bytes) -> Option<[u8; MOST_TASKS]> {
     if !test_queues(bytes, &found) {
         return None;
     }
-    let highest = 32 - marks_in(bytes).leading_zeros();
+    let highest = highest_in(bytes);
     let running = found.places[IS_RUNNING as usize];
     let fits = match bytes[RUNNING] {
         NOBODY => running == 0 && highest == 0,
         t => {
-            let active = *found.active.get(t as usize)? as u32;
+            let active = *found.active.get(t as usize)? as usize;
             running == 1 << t && active >= highest
         }
     };
-    fits.then_some(found.active)
+    fits.then_some(found)
 }
 
-/// For each length of a list, which of its row's cells it fills.
+/// For each length of a queue, which of its row's cells it fills.
 const FILLED: [[u8; MOST_TASKS]; MOST_TASKS + 1] = {
     let mut masks = [[0; MOST_TASKS]; MOST_TASKS + 1];
     let mut cell = 0;
@@ -180,45 +207,62 @@ const FILLED: [[u8; MOST_TASKS]; MOST_TASKS + 1] = {
     masks
 };
 
-/// Writes 0 over the cells behind each row's list.
-fn tidy_lists<const CELLS: usize>(lists: &mut [u8]) {
-    for row in lists.chunks_exact_mut(CELLS + 1) {
-        let filled = &FILLED[row[0] as usize];
-        let cells: &mut [u8; CELLS] = row.last_chunk_mut().unwrap();
-        for (cell, mask) in cells.iter_mut().zip(filled) {
+/// Writes 0 behind each queue; many are empty.
+fn tidy_queues(queues: &mut [u8]) {
+    for [length, cells @ ..] in queues.as_chunks_mut::<READY_ROW>().0 {
+        if *length == 0 {
+            *cells = [0; MOST_TASKS];
+            continue;
+        }
+        for (cell, mask) in cells.iter_mut().zip(&FILLED[*length as usize]) {
             *cell &= mask;
         }
     }
 }
 
-/// A task row's last 8 bytes that are read, without and with a base that waits.
-const READ: [u64; 2] = [0x00FF_00FF_FFFF, 0x00FF_FFFF_FFFF];
+/// Writes 0 behind the holders' lists, up to the next of them at once: they are few.
+fn tidy_held(lists: &mut [u8], mut holders: u64) {
+    let mut from = 0;
+    while holders != 0 {
+        let row = HELD_ROW * holders.trailing_zeros() as usize;
+        holders &= holders - 1;
+        lists[from..row].fill(0);
+        from = row + 1 + lists[row] as usize;
+    }
+    lists[from..].fill(0);
+}
+
+fn tidy_rows(rows: &mut [[[u8; 8]; 2]]) {
+    for row in rows {
+        let (due, word) = due_and_word(row);
+        let due = if word as u8 == IS_DELAYED { due } else { 0 };
+        let no_base = if word & WAITS == 0 { NO_BASE } else { 0 };
+        let word = word & !(NEVER_READ | no_base);
+        *row = [due.to_le_bytes(), word.to_le_bytes()];
+    }
+}
 
 /// Writes 0 over all that is not read, and an ended task in every row behind the count.
-fn tidy(bytes: &mut Bytes) {
+fn tidy(bytes: &mut Bytes, holders: u64) {
     let (tasks, objects) = (bytes[TASK_COUNT] as usize, bytes[OBJECT_COUNT] as usize);
-    bytes[11] = 0;
-    let (rows, _) = bytes[TASKS..CEILINGS].as_chunks_mut::<8>();
-    let (listed, others) = rows.split_at_mut(2 * tasks);
-    for row in listed.chunks_exact_mut(2) {
-        let word = u64::from_le_bytes(row[1]);
-        let keep = (word as u8 == IS_DELAYED) as u64;
-        row[0] = (u64::from_le_bytes(row[0]) * keep).to_le_bytes();
-        row[1] = (word & READ[(word & WAITS != 0) as usize]).to_le_bytes();
-    }
-    for row in others.chunks_exact_mut(2) {
-        row.copy_from_slice(&[[0; 8], (IS_ENDED as u64).to_le_bytes()]);
-    }
+    bytes[UNREAD] = 0;
+    let rows = bytes[TASKS..CEILINGS].as_chunks_mut::<8>().0;
+    let (listed, others) = rows.as_chunks_mut().0.split_at_mut(tasks);
+    tidy_rows(listed);
+    others.fill([[0; 8], (IS_ENDED as u64).to_le_bytes()]);
     bytes[CEILINGS + objects..HELD].fill(0);
-    bytes[HELD + HELD_ROW * tasks..READY].fill(0);
-    tidy_lists::<MOST_OBJECTS>(&mut bytes[HELD..READY]);
-    tidy_lists::<MOST_TASKS>(&mut bytes[READY..]);
+    tidy_held(&mut bytes[HELD..READY], holders);
+    tidy_queues(&mut bytes[READY..]);
 }
+
+/// A due time is multiplied by this and the task's number added: the order in which the delayed wake.
+const KEY: u64 = MOST_TASKS as u64;
 
 /// A sound state under an event.
 struct State<'a> {
     bytes: &'a mut Bytes,
-    active: [u8; MOST_TASKS],
+    /// What was found before the event; the active priorities are kept right.
+    found: Found,
     preempted: bool,
 }
 
@@ -259,7 +303,7 @@ impl State<'_> {
     }
 
     fn push_tail(&mut self, t: usize) {
-        let p = self.active[t] as usize;
+        let p = self.found.active[t] as usize;
         let row = self.queue(p);
         let length = row[0] as usize;
         row[length + 1] = t as u8;
@@ -270,7 +314,7 @@ impl State<'_> {
 
     /// The whole row moves, which needs no loop: behind the list are zeros.
     fn push_head(&mut self, t: usize) {
-        let p = self.active[t] as usize;
+        let p = self.found.active[t] as usize;
         let row = self.queue(p);
         row.copy_within(1..READY_ROW - 1, 2);
         row[1] = t as u8;
@@ -291,7 +335,7 @@ impl State<'_> {
     }
 
     fn take_out(&mut self, t: usize) {
-        let p = self.active[t] as usize;
+        let p = self.found.active[t] as usize;
         let row = self.queue(p);
         let place = row[1..].iter().position(|other| *other == t as u8);
         let place = 1 + place.expect("a ready task stands in its queue");
@@ -303,12 +347,12 @@ impl State<'_> {
     }
 
     fn dispatch(&mut self) {
-        let highest = 32 - marks_in(self.bytes).leading_zeros() as usize;
+        let highest = highest_in(self.bytes);
         if highest == 0 {
             return;
         }
         if let Some(t) = self.runner() {
-            if self.active[t] as usize >= highest {
+            if self.found.active[t] as usize >= highest {
                 return;
             }
             self.push_head(t);
@@ -332,7 +376,7 @@ impl State<'_> {
 
     fn rebase(&mut self, t: usize, p: u8) {
         self.row(t)[9] = p;
-        self.active[t] = p;
+        self.found.active[t] = p;
     }
 
     /// The number of the answer; the lowest wins.
@@ -344,7 +388,7 @@ impl State<'_> {
             Event::Release(t) => return (t >= tasks) as u8,
             Event::Clock(r) => return 4 * self.no_reading(r) as u8,
             Event::Set(t, _) if t >= tasks => return 1,
-            Event::Set(_, p) if p.wrapping_sub(1) >= 32 => return 3,
+            Event::Set(_, p) if p.wrapping_sub(1) >= PRIORITIES as u64 => return 3,
             Event::Set(t, _) => return 6 * (self.kind(t) == IS_ENDED) as u8,
             _ => {}
         }
@@ -354,7 +398,7 @@ impl State<'_> {
         let held = self.held(t);
         match event {
             Event::Enter(o) if held.contains(&(o as u8)) => 7,
-            Event::Enter(o) => 8 * (self.active[t] > self.bytes[CEILINGS + o]) as u8,
+            Event::Enter(o) => 8 * (self.found.active[t] > self.bytes[CEILINGS + o]) as u8,
             Event::Leave(o) => 9 * (held.last() != Some(&(o as u8))) as u8,
             Event::Work => 0,
             _ => 7 * !held.is_empty() as u8,
@@ -414,13 +458,13 @@ impl State<'_> {
         list[0] -= 1;
         if depth > 1 {
             let innermost = list[depth - 1] as usize;
-            self.active[t] = self.bytes[CEILINGS + innermost];
+            self.found.active[t] = self.bytes[CEILINGS + innermost];
             return;
         }
         let row = self.row(t);
         let (base, waits, waiting) = (row[9], row[10], row[11]);
         row[10..12].fill(0);
-        self.active[t] = base;
+        self.found.active[t] = base;
         if waits != 0 {
             self.rebase(t, waiting);
             self.go_to_tail(t);
@@ -447,18 +491,22 @@ impl State<'_> {
     /// Everybody due, by due time, lower number first when equal.
     fn clock(&mut self, r: u64) {
         put_long(self.bytes, 0, r);
-        let mut woken = [(0u64, 0usize); MOST_TASKS];
+        let mut woken = [0; MOST_TASKS];
         let mut count = 0;
-        for t in 0..self.bytes[TASK_COUNT] as usize {
+        let mut left = self.found.places[IS_DELAYED as usize];
+        while left != 0 {
+            let t = left.trailing_zeros() as usize;
+            left &= left - 1;
             let due = long(self.bytes, TASKS + TASK_ROW * t);
-            if self.kind(t) == IS_DELAYED && due <= r {
-                woken[count] = (due, t);
+            if due <= r {
+                woken[count] = due * KEY + t as u64;
                 count += 1;
             }
         }
         let woken = &mut woken[..count];
         woken.sort_unstable();
-        for &(_, t) in &*woken {
+        for key in woken {
+            let t = (*key % KEY) as usize;
             put_long(self.bytes, TASKS + TASK_ROW * t, 0);
             self.push_tail(t);
         }
@@ -470,20 +518,20 @@ pub fn event(state: &mut [u8], event: Event) -> (u8, u8) {
     let Some(bytes) = state.first_chunk_mut::<SIZE>() else {
         return (10, 0);
     };
-    let Some(active) = sound(bytes) else {
+    let Some(found) = sound(bytes) else {
         return (10, 0);
     };
     let before = bytes[RUNNING];
     let mut state = State {
         bytes,
-        active,
+        found,
         preempted: false,
     };
     let answer = state.answer(event);
     if answer != 0 {
         return (answer, 0);
     }
-    tidy(state.bytes);
+    tidy(state.bytes, state.found.holders);
     state.perform(event);
     let report = match state.preempted {
         true => 1,

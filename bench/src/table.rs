@@ -1,5 +1,8 @@
 //! The lines of figures: the proved code, each plain opponent and how many times its figure the proved one is.
 
+/// How wide the labels are.
+const LABEL: usize = 56;
+
 /// One figure for each code; events on bytes have no lean code.
 #[derive(Clone, Copy)]
 pub struct Figures {
@@ -34,7 +37,7 @@ pub fn title(what: &str, with_lean: bool) {
         String::new()
     };
     println!(
-        "\n{what:<52} {:>8} {:>8} {:>5}{lean}",
+        "\n{what:<LABEL$} {:>8} {:>8} {:>5}{lean}",
         "proved", "plain", "ratio"
     );
 }
@@ -51,7 +54,7 @@ fn columns(label: &str, figures: &Figures, ratio: f64, lean_ratio: Option<f64>) 
         (Some(lean), Some(ratio)) => format!(" {} {ratio:5.2}", figure(lean)),
         _ => String::new(),
     };
-    format!("{label:<52} {proved} {plain} {ratio:5.2}{lean}")
+    format!("{label:<LABEL$} {proved} {plain} {ratio:5.2}{lean}")
 }
 
 pub fn line(label: &str, figures: &Figures) {
@@ -82,7 +85,8 @@ pub fn medians(label: &str, all: &[Figures]) {
     let label = format!("{label}, median of the seeds");
     println!("{}", columns(&label, &middle, of_ratios.0, of_ratios.1));
     let lean = lean_ratios.map_or(String::new(), |ratios| format!("{:>15}", range(&ratios)));
-    println!("{:<52} {:>23}{lean}", "  ratios from - to", range(&ratios));
+    let (below, ratios) = ("  ratios from - to", range(&ratios));
+    println!("{below:<LABEL$} {ratios:>23}{lean}");
 }
 
 fn range(ratios: &[f64]) -> String {

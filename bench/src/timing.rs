@@ -5,13 +5,12 @@ use std::time::Instant;
 
 use harness::events::REPLY_SIZE;
 
-use crate::cases::{case_of, Mix, REALISTIC, STEP_HEAVY};
+use crate::cases::{case_of, REALISTIC, STEP_HEAVY};
 use crate::jobs::{Call, Job};
+use crate::limits::{Size, FULL, HALF, MOST_EVENTS};
 use crate::table::{line, medians, title, Figures};
 
-const TASKS: usize = 32;
 const FEW: usize = 64;
-const MANY: usize = 4096;
 /// Fewer events on bytes fill a batch, since each tests the whole state.
 const ON_BYTES: usize = 256;
 const SEEDS: u64 = 8;
@@ -73,30 +72,59 @@ fn seeds(label: &str, job_of: impl Fn(u64) -> Job) {
     medians(label, &all);
 }
 
-fn runs(mix: Mix, count: usize) {
-    seeds(&format!("{}, {count} events", mix.name), |seed| {
-        Job::Run(case_of(seed, mix, TASKS, count))
+fn print_runs(size: Size) {
+    title(&format!("a run, ns per event, {size}"), true);
+    for (mix, count) in [
+        (REALISTIC, FEW),
+        (REALISTIC, MOST_EVENTS),
+        (STEP_HEAVY, FEW),
+        (STEP_HEAVY, MOST_EVENTS),
+    ] {
+        seeds(&format!("{}, {count} events", mix.name), |seed| {
+            Job::Run(case_of(seed, mix, size, count))
+        });
+    }
+}
+
+fn print_check(size: Size) {
+    title(&format!("the check, ns per roster, {size}"), true);
+    seeds("check", |seed| {
+        Job::Check(case_of(seed, REALISTIC, size, 0).roster)
     });
 }
 
-fn print_by_size() {
-    title("a run, ns per event, by the number of tasks", true);
-    for tasks in [1, 2, 4, 8, 16, 32] {
-        let job = Job::Run(case_of(100, REALISTIC, tasks, MANY));
-        job.same("seed 100");
-        line(
-            &format!("realistic, {tasks} tasks, {MANY} events"),
-            &times_of(&job),
-        );
+fn print_on_bytes(size: Size) {
+    let what = format!("events on bytes, ns per event, {size}");
+    title(&what, false);
+    for mix in [REALISTIC, STEP_HEAVY] {
+        seeds(&format!("{}, on bytes", mix.name), |seed| {
+            Job::history(&case_of(seed, mix, size, ON_BYTES))
+        });
     }
-    title("a run, ns per event, by the number of events", true);
-    for count in [64, 256, 1024, 4096] {
-        let job = Job::Run(case_of(200, REALISTIC, TASKS, count));
-        job.same("seed 200");
-        line(
-            &format!("realistic, {TASKS} tasks, {count} events"),
-            &times_of(&job),
-        );
+}
+
+/// One line of one seed, where it is the growth that counts.
+fn one(label: &str, seed: u64, size: Size, count: usize) {
+    let job = Job::Run(case_of(seed, REALISTIC, size, count));
+    job.same(&format!("seed {seed}"));
+    line(label, &times_of(&job));
+}
+
+/// Only the tasks differ: there are as many objects with each number of them.
+fn print_by_tasks() {
+    let objects = HALF.objects;
+    let what = format!("a run, ns per event, by tasks, {objects} objects");
+    title(&what, true);
+    for tasks in [1, 2, 4, 8, 16, HALF.tasks, FULL.tasks] {
+        let label = format!("realistic, {tasks} tasks, {MOST_EVENTS} events");
+        one(&label, 100, Size { tasks, objects }, MOST_EVENTS);
+    }
+}
+
+fn print_by_events(size: Size) {
+    title(&format!("a run, ns per event, by events, {size}"), true);
+    for count in [FEW, 256, 1024, MOST_EVENTS] {
+        one(&format!("realistic, {count} events"), 200, size, count);
     }
 }
 
@@ -104,25 +132,11 @@ pub fn print() {
     println!(
         "each time is the least of {BATCHES} batches, the proved and the plain codes turn by turn"
     );
-    title(&format!("a run, ns per event, {TASKS} tasks"), true);
-    for (mix, count) in [
-        (REALISTIC, FEW),
-        (REALISTIC, MANY),
-        (STEP_HEAVY, FEW),
-        (STEP_HEAVY, MANY),
-    ] {
-        runs(mix, count);
-    }
-    print_by_size();
-    title(&format!("the check, ns per roster, {TASKS} tasks"), true);
-    seeds("check", |seed| {
-        Job::Check(case_of(seed, REALISTIC, TASKS, 0).roster)
-    });
-    let on_bytes = format!("events on a state as bytes, ns per event, {TASKS} tasks");
-    title(&on_bytes, false);
-    for mix in [REALISTIC, STEP_HEAVY] {
-        seeds(&format!("{}, on bytes", mix.name), |seed| {
-            Job::history(&case_of(seed, mix, TASKS, ON_BYTES))
-        });
+    print_by_tasks();
+    for size in [FULL, HALF] {
+        print_runs(size);
+        print_by_events(size);
+        print_check(size);
+        print_on_bytes(size);
     }
 }
