@@ -4,7 +4,7 @@ use mathlib.Core.Bool.{true, false}
 use mathlib.Core.List.{List}
 use Prim.Native.Nat.{ℕ}
 use Rattle.rules.specs.Priorities.{inRange}
-use Rattle.rules.specs.Fresh.{Setup, freshModel, singleTask, refusedFresh, setupCounted, setupInRange, fresh, Startable}
+use Rattle.rules.specs.Fresh.{Setup, freshModel, singleTask, refusedFresh, setupCounted, setupInRange, Startable}
 use Rattle.rules.specs.declared.Answer.the-variants.{Done, BadCounts, BadBases}
 use Rattle.rules.specs.Lists.{allOf}
 use Rattle.rules.proofs.Choices.{and-make}

@@ -16,8 +16,9 @@ use Rattle.rules.proofs.Choices.{and-left, and-right}
 use Rattle.rules.proofs.LimitLaws.{counted-by}
 use Rattle.memory.specs.Rows.{rowFor, lists, heldWidth, heldIn, queueWidth, queuesIn, Queues}
 use Rattle.memory.specs.Tasks.{blankTask, tasksIn, TaskBecame}
-use Rattle.memory.specs.Memory.{marksIn, runnerOf, together, allRecords, Means}
+use Rattle.memory.specs.Memory.{marksIn, nextIn, runnerOf, together, allRecords, Means}
 use Rattle.memory.proofs.GridLaws.{list-count}
+use Rattle.memory.proofs.MemoryLaws.{all-expected}
 use Rattle.dispatch.specs.declared.State.{State}
 use Rattle.dispatch.specs.State.{level, view, padded}
 use Rattle.loading.specs.Loading.{lengthsGood, codeOf, headFor}
@@ -167,6 +168,6 @@ module _ (s : State) (fit : Fitting s) (known : Shaped s) where
           unused = rw (e, all) (padded-rest n taskLimit (take n ks) blank count);
           zeros = rw (e, g) (padded-rest o objectLimit (take o (map level (s .ceilings))) 0 cs-count);
           marks = ap marksIn e;
-          next = record { due = λ t d p. rw e (omega arith) };
+          next = all-expected h ts hd cs qs (ap nextIn e) (rw e);
         };
       }

@@ -9,6 +9,7 @@ ghost use Rattle.rules.specs.Fresh.{unstarted, joinFrom, freshModel, Startable}
 ghost use Rattle.memory.specs.Tasks.{Tasks};
 ghost use Rattle.memory.specs.Memory.{taskCountIn, modelOf, LaidOut, Means};
 ghost use Rattle.fresh.specs.Slices.{Sized, Enrolled, JoinAll};
+use memory::sizes::DELAYED_CELL;
 use memory::sizes::HEAD_WIDTH;
 use memory::sizes::HELD_CELLS;
 use memory::sizes::MARKS_CELL;
@@ -130,6 +131,7 @@ fn lay_out(
     head[OBJECTS_CELL] = given.len() as u64;
     head[MARKS_CELL] = 0;
     head[NEXT_CELL] = NO_DUE;
+    head[DELAYED_CELL] = 0;
 }
 
 pub fn fresh(

@@ -1,7 +1,7 @@
 -- What stands between a state in rows of its own and the engine's slices: the test of its sizes, and the head that it is loaded into.
 use mathlib.Core.Bool.{Bool, _&&_}
 use mathlib.Core.List.{List, [], _∷_}
-use Prim.Native.Nat.{ℕ, _+_, _*_}
+use Prim.Native.Nat.{ℕ, _+_, _-_, _*_, _^_}
 use lib.Dec.{ltb}
 use lib.ListN.{getD}
 use Rattle.rules.specs.Limits.{lastPriority, countsGood}
@@ -24,6 +24,6 @@ abbrev pub codeOf : Runner → ℕ
 codeOf Nobody = 0
 codeOf (Runs t) = t + 1
 
--- the head, with the marks of the ready queues that were loaded, and a bound before which nobody is ever due
+-- the head, with the marks of the ready queues that were loaded, a bound before which nobody is ever due, and the bits of all tasks
 abbrev pub headFor : ℕ → Runner → ℕ → ℕ → List ℕ → List ℕ
-headFor now running n m queues = now ∷ (codeOf running ∷ (n ∷ (m ∷ (marksOf (queuesIn queues) ∷ (0 ∷ [])))))
+headFor now running n m queues = now ∷ (codeOf running ∷ (n ∷ (m ∷ (marksOf (queuesIn queues) ∷ (0 ∷ ((2 ^ n - 1) ∷ []))))))

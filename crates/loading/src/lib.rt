@@ -90,7 +90,7 @@ fn running_code(running: Runner) -> u64
 }
 
 // The head. Its marks are reckoned from the queues: whether the state holds the same is tested afterwards. The bound before which nobody
-// is due begins with 0.
+// is due begins with 0, and the word of who is delayed with the bits of all tasks: no place is looked at.
 pub fn head(
     reading: u64,
     running: Runner,
@@ -99,9 +99,19 @@ pub fn head(
     queues: &[u8],
 ) -> [u64; HEAD_WIDTH]
     requires { ⌜ Queues (now queues) ⌝ }
+    requires { ⌜ tasks ≤ taskLimit ⌝ }
     ensures { λ r. ⌜ r ≡ headFor reading running tasks objects (now (queues .entry)) ⌝ }
 {
     let code = running_code(running);
     let marks = memory::queues::marks_of(queues);
-    [reading, code, tasks as u64, objects as u64, marks, 0]
+    let delayed = marks::first_bits(tasks as usize);
+    [
+        reading,
+        code,
+        tasks as u64,
+        objects as u64,
+        marks,
+        0,
+        delayed,
+    ]
 }

@@ -1,21 +1,21 @@
--- Laws of the word of marks: its bits, its highest bit, and what a change of one queue does to it.
-use mathlib.Core.Path.{_≡_, refl, sym, ap, _∙_}
-use mathlib.Core.Bool.{Bool, true, false, cond}
+-- Laws of words of bits and of the word of marks: the bits, the highest bit, and what a change of one queue does.
+use mathlib.Core.Path.{_≡_, refl, sym, ap, _∙_, subst}
+use mathlib.Core.Bool.{Bool, true, false, cond, not}
 use mathlib.Core.List.{List, [], _∷_}
 use mathlib.Core.Logic.{_↔_}
 use Prim.Native.Nat.{ℕ, zero, suc, _+_, _-_, _*_, _/_, _%_, _^_, _≤_, _<_}
 use native.Mathlib.Nat.{pow-suc, not-suc-le-zero, le-of-suc-le-suc, mul-assoc, one-mul, zero-mul, div-eq-of-lt, mod-lt}
 use native.Mathlib.Omega.{arith}
-use borrow.Author.Tests.{eqb-true, eqb-false, ne-eqb}
+use borrow.Author.Tests.{eqb-true, eqb-false, eq-eqb, ne-eqb}
 use lib.Bits.{bitAnd, bitOr, or-add-and, and-high, and-le-l}
-use lib.Count.{leadingZeros, leading-unique}
-use lib.Dec.{eqb}
-use lib.Pow.{pow-pos, pow-add, shr-shr, shr-lt, split as cut}
+use lib.Count.{leadingZeros, leading-top, leading-unique}
+use lib.Dec.{eqb, lit<}
+use lib.Pow.{pow-pos, pow-mono, pow-add, shr-shr, shr-lt, shl-exact, split as cut}
 use lib.ListN.{length, getD, set, drop, replicate}
 use lib.Seq.{drop-cons}
 use Rattle.rules.specs.Moves.{highestTo}
 use Rattle.rules.proofs.Choices.{compare}
-use Rattle.marks.specs.Marks.{bitAt, withBit, highestOn, markFor, marksOf, MarksClaim}
+use Rattle.marks.specs.Marks.{wordBits, bitAt, withBit, Highest, highestOn, markFor, marksOf, MarksClaim}
 
 -- the lowest bit, and the others
 bit-first : (w : ℕ) → bitAt w 0 ≡ w % 2
@@ -144,6 +144,30 @@ highest-by-zeros k w h =
     let z = leading-unique k w (k - highestOn w k) (highestOn w k) (omega (arith, highest-le k w)) (top .low) (top .high) in
     omega (arith, z, highest-le k w)
 
+-- .. that of a word which is not 0
+at-top : (w i : ℕ) → i < wordBits → 2 ^ i ≤ w → w < 2 ^ suc i → Highest w i
+unfolding bitAt
+at-top w i g l h =
+    let some : bitAt w i ≡ 0 → ⊥ = λ e. omega (arith, bit-off i w h e) in
+    record {
+      within = g;
+      on = omega (arith, bit-small w i, some);
+      above = λ u k. let less : w < 2 ^ u = omega (arith, pow-mono k) in ap (λ (x : ℕ). x % 2) (div-eq-of-lt less);
+    }
+
+pub zeros-few : (w : ℕ) → 0 < w → w < 2 ^ wordBits → leadingZeros wordBits w < wordBits
+zeros-few w p h = omega (arith, leading-top wordBits w p h .1)
+
+pub top-by-zeros : (w : ℕ) → 0 < w → w < 2 ^ wordBits → Highest w (wordBits - 1 - leadingZeros wordBits w)
+top-by-zeros w p h =
+    let top = leading-top wordBits w p h in
+    let e : top .0 ≡ wordBits - 1 - leadingZeros wordBits w = omega (arith, top .1) in
+    subst (Highest w) e (at-top w (top .0) (omega (arith, top .1)) (top .2) (top .3))
+
+-- a shift of 1 drops no bit
+pub one-shl : (k : ℕ) → k < wordBits → (1 * 2 ^ k) % 2 ^ wordBits ≡ 2 ^ k
+one-shl k h = shl-exact {a = 1} 1 k wordBits (lit< tt) (omega arith) ∙ one-mul (2 ^ k)
+
 -- one bit made 0 or 1, as code does it
 bit-part : (w i : ℕ) → bitAnd w (2 ^ i) ≡ bitAt w i * 2 ^ i
 unfolding bitAt
@@ -163,6 +187,15 @@ pub bit-set : (w i : ℕ) → bitOr w (2 ^ i) ≡ withBit w i 1
 unfolding withBit
 bit-set w i = omega (arith, bit-part w i, or-add-and w (2 ^ i), one-mul (2 ^ i), part-le w i)
 
+-- one bit tested
+pub bit-test : (w i : ℕ) → not (eqb (bitAnd w (2 ^ i)) 0) ≡ eqb (bitAt w i) 1
+bit-test w i = rw (bit-part w i) (go (bitAt w i) (bit-small w i))
+  where
+    go : (b : ℕ) → b ≤ 1 → not (eqb (b * 2 ^ i) 0) ≡ eqb b 1
+    go zero h = rw (eq-eqb (0 * 2 ^ i) 0 (zero-mul (2 ^ i)))
+    go (suc zero) h = rw (ne-eqb (1 * 2 ^ i) 0 (λ e. omega (arith, one-mul (2 ^ i), pow-pos i)))
+    go (suc (suc b)) h = absurd (omega arith)
+
 -- a queue replaced: its bit is made its mark
 bit-of-first : (c m b : ℕ) → c ≤ 1 → withBit (c + 2 * m) 0 b ≡ b + 2 * m
 unfolding withBit
@@ -175,6 +208,55 @@ bit-of-next c m i b h =
     let e : bitAt (c + 2 * m) (suc i) ≡ bitAt m i = bit-next (c + 2 * m) i ∙ ap (λ (w : ℕ). bitAt w i) half in
     let p : 2 ^ suc i ≡ 2 ^ i * 2 = pow-suc 2 i in
     rw (e, p, ← mul-assoc (bitAt m i) (2 ^ i) 2, ← mul-assoc b (2 ^ i) 2) (omega (arith, part-le m i))
+
+-- a word with one bit made 0 or 1: that bit, and the others
+put-first : (w b : ℕ) → withBit w 0 b ≡ b + 2 * (w / 2)
+put-first w b =
+    let e : w ≡ w % 2 + 2 * (w / 2) = omega arith in
+    ap (λ (x : ℕ). withBit x 0 b) e ∙ bit-of-first (w % 2) (w / 2) b (omega arith)
+
+put-next : (w i b : ℕ) → withBit w (suc i) b ≡ w % 2 + 2 * withBit (w / 2) i b
+put-next w i b =
+    let e : w ≡ w % 2 + 2 * (w / 2) = omega arith in
+    ap (λ (x : ℕ). withBit x (suc i) b) e ∙ bit-of-next (w % 2) (w / 2) i b (omega arith)
+
+pub bit-made : (w i b : ℕ) → b ≤ 1 → bitAt (withBit w i b) i ≡ b
+bit-made w zero b h = bit-first (withBit w 0 b) ∙ omega (arith, put-first w b)
+bit-made w (suc i) b h =
+    let half : withBit w (suc i) b / 2 ≡ withBit (w / 2) i b = omega (arith, put-next w i b) in
+    bit-next (withBit w (suc i) b) i ∙ (ap (λ (x : ℕ). bitAt x i) half ∙ bit-made (w / 2) i b h)
+
+pub bit-kept : (w i b u : ℕ) → b ≤ 1 → (u ≡ i → ⊥) → bitAt (withBit w i b) u ≡ bitAt w u
+bit-kept w zero b zero h n = absurd (n refl)
+bit-kept w zero b (suc u) h n =
+    let half : withBit w 0 b / 2 ≡ w / 2 = omega (arith, put-first w b) in
+    bit-next (withBit w 0 b) u ∙ (ap (λ (x : ℕ). bitAt x u) half ∙ sym (bit-next w u))
+bit-kept w (suc i) b zero h n =
+    let low : withBit w (suc i) b % 2 ≡ w % 2 = omega (arith, put-next w i b) in
+    bit-first (withBit w (suc i) b) ∙ (low ∙ sym (bit-first w))
+bit-kept w (suc i) b (suc u) h n =
+    let half : withBit w (suc i) b / 2 ≡ withBit (w / 2) i b = omega (arith, put-next w i b) in
+    bit-next (withBit w (suc i) b) u ∙
+    (ap (λ (x : ℕ). bitAt x u) half ∙ (bit-kept (w / 2) i b u h (λ e. n (ap suc e)) ∙ sym (bit-next w u)))
+
+-- a bit that was on lowers the word
+pub cleared-less : (w i : ℕ) → bitAt w i ≡ 1 → withBit w i 0 < w
+unfolding withBit
+cleared-less w i e =
+    let part : 1 * 2 ^ i ≤ w = rw e at (part-le w i) in
+    rw e (omega (arith, part, one-mul (2 ^ i), zero-mul (2 ^ i), pow-pos i))
+
+-- words of no bit, and of all
+pub none-on : (i : ℕ) → bitAt 0 i ≡ 0
+unfolding bitAt
+none-on i = ap (λ (x : ℕ). x % 2) (div-eq-of-lt (pow-pos i))
+
+pub all-on : (k i : ℕ) → i < k → bitAt (2 ^ k - 1) i ≡ 1
+all-on zero i h = absurd (not-suc-le-zero h)
+all-on (suc k) zero h = bit-first (2 ^ suc k - 1) ∙ omega (arith, pow-suc 2 k, pow-pos k)
+all-on (suc k) (suc i) h =
+    let half : (2 ^ suc k - 1) / 2 ≡ 2 ^ k - 1 = omega (arith, pow-suc 2 k, pow-pos k) in
+    bit-next (2 ^ suc k - 1) i ∙ (ap (λ (x : ℕ). bitAt x i) half ∙ all-on k i (le-of-suc-le-suc h))
 
 pub marks-put : (qs : List (List ℕ)) (i : ℕ) (x : List ℕ) → i < length qs →
     marksOf (set qs i x) ≡ withBit (marksOf qs) i (markFor (length x))

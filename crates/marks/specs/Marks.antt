@@ -1,4 +1,4 @@
--- One word of marks for the ready queues (2026-02): "a mark on exactly when its queue is nonempty".
+-- Words of bits, and one word of marks for the ready queues (2026-02): "a mark on exactly when its queue is nonempty".
 use mathlib.Core.Path.{_≡_}
 use mathlib.Core.Bool.{cond}
 use mathlib.Core.List.{List, [], _∷_}
@@ -8,12 +8,22 @@ use lib.Dec.{eqb}
 use lib.ListN.{length, getD}
 use Rattle.rules.specs.Moves.{highestTo}
 
+-- the bits of a word
+abbrev pub wordBits : ℕ
+wordBits = 64
+
 -- the bit i of a word, 1 where it is on; the word with that bit made b, which is 0 or 1
 unfoldable pub bitAt : ℕ → ℕ → ℕ
 bitAt w i = w / 2 ^ i % 2
 
 unfoldable pub withBit : ℕ → ℕ → ℕ → ℕ
 withBit w i b = w - bitAt w i * 2 ^ i + b * 2 ^ i
+
+-- of the bits of a word that are on, i is the highest
+pub record Highest (w i : ℕ) : Type 0 where
+  pub within : i < wordBits
+  pub on : bitAt w i ≡ 1
+  pub above : (u : ℕ) → i < u → bitAt w u ≡ 0
 
 -- the highest of the lowest n bits that is on, counted from 1, or 0
 unfoldable pub highestOn : ℕ → ℕ → ℕ

@@ -1,4 +1,5 @@
 pub mod TestLaws
+pub mod DistinctLaws
 pub mod ShiftLaws
 pub mod RowLaws
 pub mod GridLaws

@@ -2,17 +2,12 @@
 use mathlib.Core.Path.{_≡_, refl, _∙_, sym}
 use mathlib.Core.Bool.{Bool, true, false, _&&_}
 use mathlib.Core.List.{List}
-use Prim.Native.Nat.{ℕ, suc, _+_, _-_, _≤_, _<_}
+use Prim.Native.Nat.{ℕ, suc, _+_, _≤_, _<_}
 use native.Mathlib.Numerals.{add-one}
-use native.Mathlib.Omega.{arith}
-use borrow.Author.Tests.{eqb-true, eq-eqb}
-use lib.Dec.{eqb}
 use lib.ListN.{length, drop, getD, drop-of-length-le}
 use lib.Seq.{drop-cons}
-use Rattle.rules.specs.Sound.{distinct}
-use Rattle.rules.specs.Lists.{allOf, timesIn, below}
-use Rattle.rules.proofs.Choices.{compare, clash, and-make}
-use Rattle.rules.proofs.HeldLaws.{all-at, all-make, distinct-once, once-distinct}
+use Rattle.rules.specs.Lists.{allOf, below}
+use Rattle.rules.proofs.Choices.{clash, and-make}
 use Rattle.rules.proofs.SoundLaws.{below-at}
 
 -- two tests that hold together are equal
@@ -56,16 +51,3 @@ module _ (f : ℕ → Bool) (l : List ℕ) (i : ℕ) (e : allOf f l ≡ allOf f 
   pub all-end : length l ≤ i → allOf f l ≡ true
   unfolding allOf
   all-end h = e ∙ rw (drop-of-length-le l {i = i} h)
-
--- no element twice: each stands once in the list
-pub distinct-all : (l : List ℕ) → allOf (λ x. eqb (timesIn x l) 1) l ≡ distinct l
-distinct-all l = same-test (allOf (λ x. eqb (timesIn x l) 1) l) (distinct l) once each
-  where
-    once : allOf (λ x. eqb (timesIn x l) 1) l ≡ true → distinct l ≡ true
-    once e =
-        once-distinct l (λ u.
-        compare (timesIn u l) 0 (λ h. omega arith)
-        (λ h. omega (arith, eqb-true (timesIn u l) 1 (all-at (λ x. eqb (timesIn x l) 1) l e u h))))
-
-    each : distinct l ≡ true → allOf (λ x. eqb (timesIn x l) 1) l ≡ true
-    each e = all-make (λ x. eqb (timesIn x l) 1) l (λ u h. eq-eqb (timesIn u l) 1 (omega (arith, distinct-once l e u)))

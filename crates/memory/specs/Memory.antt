@@ -1,5 +1,6 @@
--- What the five slices mean together: a Model of the rules. The head is now, the running task's number + 1 or 0, the two counts, and two
--- cells that are no part of the meaning: the word of marks, and a reading before which no delayed task is due.
+-- What the five slices mean together: a Model of the rules. The head is now, the running task's number + 1 or 0, the two counts, and three
+-- cells that are no part of the meaning: the word of marks, a reading before which no delayed task is due, and a word in which the bit
+-- of every delayed task is on.
 use mathlib.Core.Path.{_≡_}
 use mathlib.Core.Bool.{true}
 use mathlib.Core.List.{List, [], _∷_}
@@ -16,13 +17,13 @@ use Rattle.rules.specs.declared.WaitingBase.{WaitingBase}
 use Rattle.rules.specs.declared.WaitingBase.the-variants.{Nothing, Base}
 use Rattle.rules.specs.declared.Task.{Task}
 use Rattle.memory.specs.Rulings.{Ruling, answerIn, reportIn, Ruled}
-use Rattle.marks.specs.Marks.{marksOf}
+use Rattle.marks.specs.Marks.{bitAt, marksOf}
 use Rattle.memory.specs.Rows.{queuesIn, Queues, QueueBecame, heldIn, Held}
 use Rattle.memory.specs.Tasks.{tasksIn, Tasks}
 
 -- the cells of the head
 abbrev pub headWidth : ℕ
-headWidth = 6
+headWidth = 7
 
 abbrev pub nowCell : ℕ
 nowCell = 0
@@ -42,6 +43,9 @@ marksCell = 4
 abbrev pub nextCell : ℕ
 nextCell = 5
 
+abbrev pub delayedCell : ℕ
+delayedCell = 6
+
 abbrev pub taskCountIn : List ℕ → ℕ
 taskCountIn h = getD h tasksCell 0
 
@@ -53,6 +57,9 @@ marksIn h = getD h marksCell 0
 
 abbrev pub nextIn : List ℕ → ℕ
 nextIn h = getD h nextCell 0
+
+abbrev pub delayedIn : List ℕ → ℕ
+delayedIn h = getD h delayedCell 0
 
 -- who runs
 unfoldable pub runnerOf : ℕ → Runner
@@ -97,12 +104,17 @@ pub record ReadyBecame (h qs h' qs' : List ℕ) (p : ℕ) (x : List ℕ) : Type 
   pub queue : QueueBecame qs qs' p x
   pub head : h' ≡ set h marksCell (marksOf (queuesIn qs'))
 
--- no delayed task is due before v
-pub record NobodyBefore (v : ℕ) (m : Model) : Type 0 where
-  pub due : (t d : ℕ) → taskAt m t .place ≡ Delayed d → v ≤ d
+-- a task t that is due at d is expected: not before the bound v, and by its bit in the word w
+pub record Expected (v w t d : ℕ) : Type 0 where
+  pub late : v ≤ d
+  pub noted : bitAt w t ≡ 1
 
--- the slices are laid out: their sizes, tidy rows, counts within the rows, nothing behind the counts, the queues' own marks, and nobody
--- due before the head's bound
+-- every delayed task is; a bit may be on where its task is not delayed
+pub record Expects (v w : ℕ) (m : Model) : Type 0 where
+  pub each : (t d : ℕ) → taskAt m t .place ≡ Delayed d → Expected v w t d
+
+-- the slices are laid out: their sizes, tidy rows, counts within the rows, nothing behind the counts, the queues' own marks, and who is
+-- delayed expected by the head's bound and word
 pub record LaidOut (h ts hd cs qs : List ℕ) : Type 0 where
   pub head : length h ≡ headWidth
   pub count : taskCountIn h ≤ taskLimit
@@ -114,7 +126,7 @@ pub record LaidOut (h ts hd cs qs : List ℕ) : Type 0 where
   pub unused : drop (taskCountIn h) (allRecords ts hd) ≡ replicate (taskLimit - taskCountIn h) blank
   pub zeros : drop (objectCountIn h) cs ≡ replicate (objectLimit - objectCountIn h) 0
   pub marks : marksIn h ≡ marksOf (queuesIn qs)
-  pub next : NobodyBefore (nextIn h) (modelOf h ts hd cs qs)
+  pub next : Expects (nextIn h) (delayedIn h) (modelOf h ts hd cs qs)
 
 -- the ceilings of what the task t holds do not fall
 abbrev pub Rises : Model → ℕ → Type 0

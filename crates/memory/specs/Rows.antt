@@ -1,11 +1,13 @@
 -- Lists in rows of one slice: a row is the length of its list, the elements, then zeros. Any width, any number of rows.
 use mathlib.Core.Path.{_≡_}
-use mathlib.Core.Bool.{cond}
+use mathlib.Core.Bool.{Bool, cond, not}
 use mathlib.Core.List.{List, [], _∷_, _++_, map}
 use Prim.Native.Nat.{ℕ, zero, suc, _-_, _*_, _<_, _≤_}
-use lib.Dec.{eqb}
+use lib.Dec.{eqb, ltb}
 use lib.ListN.{length, take, drop, getD, set, replicate}
 use Rattle.rules.specs.Limits.{taskLimit, objectLimit, firstPriority, lastPriority}
+use Rattle.rules.specs.Lists.{timesIn}
+use Rattle.marks.specs.Marks.{wordBits, bitAt, withBit}
 
 -- how many values a byte has: a row is no longer, so that its length fits its first cell
 abbrev pub byteValues : ℕ
@@ -55,6 +57,14 @@ pub record Became (w n : ℕ) (before after : List ℕ) (i : ℕ) (x : List ℕ)
 unfoldable pub placeIn : ℕ → List ℕ → ℕ
 placeIn x [] = 0
 placeIn x (y ∷ ys) = cond (eqb y x) 0 (suc (placeIn x ys))
+
+-- elements seen are noted in a word, each at its own bit: the word with x noted too, where it has a bit; whether x is noted, or, where
+-- it has no bit, whether it stands in the list other than once
+unfoldable pub noted : ℕ → ℕ → ℕ
+noted seen x = cond (ltb x wordBits) (withBit seen x 1) seen
+
+unfoldable pub repeats : List ℕ → ℕ → ℕ → Bool
+repeats l seen x = cond (ltb x wordBits) (eqb (bitAt seen x) 1) (not (eqb (timesIn x l) 1))
 
 -- a list with its element at i cut out
 abbrev pub cutAt : ℕ → List ℕ → List ℕ

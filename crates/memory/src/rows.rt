@@ -7,7 +7,8 @@ ghost use lib.Dec.{leb};
 ghost use lib.ListN.{length, take, drop};
 ghost use Rattle.rules.specs.Sound.{distinct};
 ghost use Rattle.rules.specs.Lists.{allOf, timesIn};
-ghost use Rattle.memory.specs.Rows.{inRow, rowFor, Tidy, Open, placeIn, cutAt};
+ghost use Rattle.memory.specs.Rows.{inRow, rowFor, Tidy, Open, placeIn, cutAt, noted, repeats};
+use marks::BITS;
 
 // The first n cells move up by one, over the cell behind them, and x stands before them.
 fn shift_up(cells: &mut [u8], n: usize, x: u8)
@@ -124,17 +125,43 @@ pub fn all_below(row: &[u8], n: usize) -> bool
     true
 }
 
+// Whether x is noted in the word of elements seen; of an x that has no bit there, whether it stands in the list other than once.
+fn repeats(row: &[u8], seen: u64, x: u8) -> bool
+    requires { ⌜ Tidy (now row) ⌝ }
+    ensures { λ r. ⌜ r ≡ repeats (inRow (now (row .entry))) seen x ⌝ }
+{
+    let i = x as usize;
+    if i < BITS {
+        return marks::has_bit(seen, i);
+    }
+    count(row, x) != 1
+}
+
+// The word of elements seen with x noted too, where it has a bit there.
+fn noted(seen: u64, x: u8) -> u64
+    ensures { λ r. ⌜ r ≡ noted seen x ⌝ }
+{
+    let i = x as usize;
+    if i < BITS {
+        return marks::with_bit(seen, i);
+    }
+    seen
+}
+
 // Whether no element stands twice.
 pub fn distinct(row: &[u8]) -> bool
     requires { ⌜ Tidy (now row) ⌝ }
     ensures { λ r. ⌜ r ≡ distinct (inRow (now (row .entry))) ⌝ }
 {
     let size = row[0] as usize;
+    let mut seen: u64 = 0;
     let mut i: usize = 0;
     while i < size {
-        if count(row, row[i + 1]) != 1 {
+        let x = row[i + 1];
+        if repeats(row, seen, x) {
             return false;
         }
+        seen = noted(seen, x);
         i += 1;
     }
     true

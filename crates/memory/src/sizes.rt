@@ -41,9 +41,9 @@ pub const DELAYED: u64 = 3;
 
 pub const SUSPENDED: u64 = 4;
 
-// The head: now, the running task's number + 1 or 0, the number of tasks, the number of objects, the word of marks, and a reading before
-// which no delayed task is due.
-pub const HEAD_WIDTH: usize = 6;
+// The head: now, the running task's number + 1 or 0, the number of tasks, the number of objects, the word of marks, a reading before
+// which no delayed task is due, and a word in which the bit of every delayed task is on.
+pub const HEAD_WIDTH: usize = 7;
 
 pub const NOW_CELL: usize = 0;
 
@@ -56,6 +56,8 @@ pub const OBJECTS_CELL: usize = 3;
 pub const MARKS_CELL: usize = 4;
 
 pub const NEXT_CELL: usize = 5;
+
+pub const DELAYED_CELL: usize = 6;
 
 // The due time where no task is delayed: past every reading.
 pub const NO_DUE: u64 = 18446744073709551615;

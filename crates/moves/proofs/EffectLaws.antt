@@ -5,7 +5,7 @@ use mathlib.Core.List.{List, [], _∷_, _++_}
 use Prim.Native.Nat.{ℕ, _+_, _-_, _≤_, _<_, min}
 use native.Mathlib.Omega.{arith}
 use borrow.Author.Tests.{lt-ltb, le-ltb, eq-eqb, ne-eqb}
-use lib.ListN.{length, take, getD, set}
+use lib.ListN.{length, take, getD, set, length-set}
 use lib.Seq.{getD-set-same, getD-set-other}
 use Rattle.rules.specs.Limits.{taskLimit}
 use Rattle.rules.specs.Model.{Model, none, waits, withPlace, withWaiting}
@@ -23,9 +23,12 @@ use Rattle.rules.specs.declared.Task.{Task}
 use Rattle.rules.specs.Lists.{without}
 use Rattle.memory.specs.Rows.{heldBy, Held, HeldBecame}
 use Rattle.memory.specs.Tasks.{delayedKind, kindCode, taskIn, Tasks, TaskBecame, placed, based, waited}
-use Rattle.memory.specs.Memory.{nowCell, runningCell, tasksCell, nextCell, taskCountIn, nextIn, runnerOf, waitingIn, modelOf}
-use Rattle.memory.specs.Memory.{NobodyBefore, LaidOut, Means}
+use Rattle.marks.specs.Marks.{bitAt, withBit}
+use Rattle.memory.specs.Memory.{nowCell, runningCell, tasksCell, nextCell, delayedCell, taskCountIn, nextIn, delayedIn, runnerOf}
+use Rattle.memory.specs.Memory.{waitingIn, modelOf, Expected, Expects, LaidOut, Means}
 use Rattle.moves.specs.Room.{settled}
+use Rattle.rules.proofs.Choices.{split}
+use Rattle.marks.proofs.MarkLaws.{bit-made, bit-kept}
 use Rattle.memory.proofs.TaskLaws.{then-became}
 use Rattle.memory.proofs.MemoryLaws.{then-means, means-by, count-is, task-is, held-is, waiting-is, run-law, now-law}
 use Rattle.memory.proofs.MemoryLaws.{next-law, stays, task-law, place-law, delay-law, waiting-law, held-law}
@@ -60,16 +63,39 @@ module _ {h ts hd cs qs : List ℕ} (d : LaidOut h ts hd cs qs) where
       let y = place-law d t x g n b in
       then-means (λ (m : Model). withRunning m Nobody) y (run-law (y .laid) 0)
 
-  -- a task is delayed until v, and the bound follows it
-  pub until-law : {h' ts' : List ℕ} (t v : ℕ) → t < taskCountIn h → h' ≡ set h nextCell (min (nextIn h) v) →
+  -- a task is delayed until v, and the bound and the word follow it
+  pub until-law : {h' ts' : List ℕ} (t v : ℕ) → t < taskCountIn h →
+      h' ≡ set (set h delayedCell (withBit (delayedIn h) t 1)) nextCell (min (nextIn h) v) →
       TaskBecame ts ts' t (placed (taskIn ts t) (Delayed v)) →
       Means h' ts' hd cs qs (withTask (modelOf h ts hd cs qs) t (withPlace (taskAt (modelOf h ts hd cs qs) t) (Delayed v)))
   until-law {h'} {ts'} t v g e b =
-      let low = min (nextIn h) v in
-      let bound : NobodyBefore low (modelOf h ts hd cs qs) = record { due = λ u i p. omega (arith, d .next .due u i p) } in
-      let x = next-law d low bound in
-      let there : t < taskCountIn (set h nextCell low) = omega (arith, getD-set-other h nextCell tasksCell low 0 (omega arith)) in
-      let next : nextIn (set h nextCell low) ≤ v = omega (arith, getD-set-same h nextCell low 0 (omega (arith, d .head))) in
+      let low : ℕ = min (nextIn h) v in
+      let word : ℕ = withBit (delayedIn h) t 1 in
+      let own : bitAt word t ≡ 1 = bit-made (delayedIn h) t 1 (omega arith) in
+      let all : Expects low word (modelOf h ts hd cs qs) =
+      record {
+        each = λ u i p.
+            let x : Expected (nextIn h) (delayedIn h) u i = d .next .each u i p in
+            record {
+              late = omega arith;
+              noted =
+                  split u t
+                  (λ f. ap (bitAt word) f ∙ own)
+                  (λ f. bit-kept (delayedIn h) t 1 u (omega arith) f ∙ x .noted);
+            };
+      } in
+      let x = next-law d low word all in
+      let k : List ℕ = set h delayedCell word in
+      let size : length k ≡ length h = length-set h delayedCell word in
+      let there : t < taskCountIn (set k nextCell low) =
+      omega (arith, getD-set-other k nextCell tasksCell low 0 (omega arith), getD-set-other h delayedCell tasksCell word 0 (omega arith)) in
+      let bits : delayedIn (set k nextCell low) ≡ word =
+      getD-set-other k nextCell delayedCell low 0 (omega arith) ∙ getD-set-same h delayedCell word 0 (omega (arith, d .head)) in
+      let next : Expected (nextIn (set k nextCell low)) (delayedIn (set k nextCell low)) t v =
+      record {
+        late = omega (arith, getD-set-same k nextCell low 0 (omega (arith, size, d .head)));
+        noted = ap (λ (w : ℕ). bitAt w t) bits ∙ own;
+      } in
       rw e
       (then-means (λ (m : Model). withTask m t (withPlace (taskAt m t) (Delayed v))) x (delay-law (x .laid) t v there next b))
 

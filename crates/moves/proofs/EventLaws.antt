@@ -23,7 +23,7 @@ use Rattle.rules.proofs.WakingLaws.{Finds, finds}
 use Rattle.moves.proofs.WakingList.{none-moves}
 use Rattle.rules.proofs.StillLaws.{still, still-enter, still-now, still-permit}
 use Rattle.moves.specs.Room.{isSuspended}
-use Rattle.memory.specs.Memory.{nowCell, modelOf, NobodyBefore, LaidOut, Means, Did}
+use Rattle.memory.specs.Memory.{nowCell, modelOf, Expects, LaidOut, Means, Did}
 use Rattle.memory.proofs.MemoryLaws.{means-by, now-law}
 
 -- refused; accepted, the dispatch being of the Model n
@@ -81,12 +81,12 @@ release-permit m t Suspended f = clash f
 release-permit m t Ended f = refl
 
 -- nobody is due before the bound
-pub nobody-due : (r v : ℕ) (m : Model) → NobodyBefore v m → r < v → firstDue r nobody 0 (m .tasks) ≡ nobody
-nobody-due r v m b h = go (firstDue r nobody 0 (m .tasks)) (finds r 0 (m .tasks))
+pub nobody-due : (r v w : ℕ) (m : Model) → Expects v w m → r < v → firstDue r nobody 0 (m .tasks) ≡ nobody
+nobody-due r v w m b h = go (firstDue r nobody 0 (m .tasks)) (finds r 0 (m .tasks))
   where
     go : (f : Due) → Finds r 0 (m .tasks) f → f ≡ nobody
     go nobody s = refl
-    go (task t d) s = absurd (omega (arith, s .come, b .due (s .at) d (s .place)))
+    go (task t d) s = absurd (omega (arith, s .come, b .each (s .at) d (s .place) .late))
 
 -- nobody is due: nobody wakes, and the reading alone moves nobody
 pub quiet-clock : (m : Model) (r : ℕ) → Good false m → firstDue r nobody 0 (m .tasks) ≡ nobody → Quiet m (takeReading m r)

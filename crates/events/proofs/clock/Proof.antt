@@ -50,7 +50,7 @@ returns-2 c =
     let v = entry .pre in
     let d = v .laid in
     let x = now-law d (entry .args .r) in
-    let none = due-now d _ ∙ nobody-due (entry .args .r) _ _ (x .laid .next) (omega (arith, c .if2 .taken)) in
+    let none = due-now d _ ∙ nobody-due (entry .args .r) _ _ _ (x .laid .next) (omega (arith, c .if2 .taken)) in
     did-quiet (reading-law d _ none) (quiet-clock _ _ (good v) none) (clock-0 _ _ taken)
 
 wake-up-requires : tie.Need-wake-up-requires

@@ -49,6 +49,9 @@ element-write-head-5 c = search needs
 element-write-head-6 : tie.Need-element-write-head-6
 element-write-head-6 c = search needs
 
+element-write-head-7 : tie.Need-element-write-head-7
+element-write-head-7 c = search needs
+
 same-length : tie.Need-same-length
 same-length c = search needs
 
@@ -89,6 +92,7 @@ lay-out-spec =
     element-write-head-4
     element-write-head-5
     element-write-head-6
+    element-write-head-7
     same-length
     same-length-2
     returns)

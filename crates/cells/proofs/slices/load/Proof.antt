@@ -154,7 +154,7 @@ head-requires c κs =
     let a = at-tasks .before .before .before .before .before .before .before .before .before in
     let b = a .args .bytes .now in
     let lent = queues-lent b (loadable-long b (a .pre .0)) in
-    queues-laid b (a .pre .0) _ _ _ (a .pre .1 .1 .1 .1) lent (at-queues .load-lists2 .ensures)
+    (queues-laid b (a .pre .0) _ _ _ (a .pre .1 .1 .1 .1) lent (at-queues .load-lists2 .ensures), count-fits b (a .pre .0))
 
 same-length : tie.Need-same-length
 same-length c = search needs

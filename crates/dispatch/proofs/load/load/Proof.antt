@@ -70,7 +70,8 @@ head-requires c κs =
     let at-held = at-queues .before .before .before .before .before .before .before .before .before .before in
     let a = at-held .before .before .before .before .before .before .before .before .before in
     let s = a .args .state in
-    queues-loaded s (fitting s (a .pre)) (known s _ (a .good .0)) _ (at-queues .load-lists2 .ensures)
+    let fit = fitting s (a .pre) in
+    (queues-loaded s fit (known s _ (a .good .0)) _ (at-queues .load-lists2 .ensures), fit .count)
 
 returns : tie.Need-returns
 returns c =

@@ -32,7 +32,10 @@ add-due : tie.Need-add-due
 add-due c = search needs
 
 expect-requires : tie.Need-expect-requires
-expect-requires c κs = c .before .before .before .before .before .pre .0 .head
+expect-requires c κs =
+    let entry = c .before .before .before .before .before in
+    let d = entry .pre .0 in
+    (d .head, writable d (entry .pre .1 .0 .joins .there) .0)
 
 set-place-requires : tie.Need-set-place-requires
 set-place-requires c κs =
