@@ -41,7 +41,7 @@ pub record BadRow (rows : List Row) : Type 0 where
 abbrev pub NoBadRow : List Row → Type 0
 NoBadRow rows = (i : ℕ) → i < length rows → inRange (priorityAt rows i) ≡ true
 
--- what the board answers: "More than" rowLimit "rows is 13; else a priority outside 1 to 32 in any row is 3"; else the next row, "or nobody"
+-- the answer: "More than" rowLimit "rows is 13; else a priority outside 1 to 32 in any row is 3"; else the next row, "or nobody"
 pub data Answers (rows : List Row) : Told → Type 0 where
   tooMany : rowLimit < length rows → Answers rows (toldOf NextAnswer.TooManyRows)
   bad : length rows ≤ rowLimit → BadRow rows → Answers rows (toldOf NextAnswer.BadPriority)

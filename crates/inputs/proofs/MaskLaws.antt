@@ -66,7 +66,8 @@ known all j m b e h f g i = low all j m 0 e h f g b (ap (λ (n : ℕ). eqb n 0) 
 none : (all j m : ℕ) → all % 256 ≡ j → j < 8 → getD unusedBits j 0 ≡ m → getD unknownKinds j 0 ≡ 1 →
     (eqb (faultIn all) 0 && eqb (high all) 0) ≡ false
 none all j m e h f g =
-    low all j m 1 e h f g false (ne-eqb (bitOr (bitAnd all m) 1) 0 (λ z. omega (arith, or-add-and (bitAnd all m) 1, and-le-l (bitAnd all m) 1)))
+    low all j m 1 e h f g false
+    (ne-eqb (bitOr (bitAnd all m) 1) 0 (λ z. omega (arith, or-add-and (bitAnd all m) 1, and-le-l (bitAnd all m) 1)))
 
 is-zero : (k : ℕ) → k < 5 → (k ≡ 1 → ⊥) → (k ≡ 2 → ⊥) → (k ≡ 3 → ⊥) → (k ≡ 4 → ⊥) → k ≡ 0
 is-zero k h h1 h2 h3 h4 = omega arith
@@ -124,7 +125,8 @@ module _ (all : ℕ) (fits : all < 2 ^ 64) where
       split k 2 (λ e. known all 2 _ _ e (omega arith) refl refl release-left ∙ sym (good 2 e ∙ fields-are 2 a v)) (λ h2.
       split k 3 (λ e. known all 3 _ _ e (omega arith) refl refl step-left ∙ sym (good 3 e ∙ fields-are 3 a v)) (λ h3.
       split k 4
-      (λ e. known all 4 0 true e (omega arith) refl refl (ap (λ (n : ℕ). eqb n 0) (and-zero-r all)) ∙ sym (good 4 e ∙ fields-are 4 a v)) (λ h4.
+      (λ e.
+      known all 4 0 true e (omega arith) refl refl (ap (λ (n : ℕ). eqb n 0) (and-zero-r all)) ∙ sym (good 4 e ∙ fields-are 4 a v)) (λ h4.
       unknown h1 h2 h3 h4 ∙ sym (ap isGood (decode-none k a v h1 h2 h3 h4))))))
     where
       good : (j : ℕ) → all % 256 ≡ j →

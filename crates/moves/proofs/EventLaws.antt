@@ -94,7 +94,8 @@ quiet-clock m r h e =
     let w : takeReading m r ≡ withNow m r = none-moves r (length (m .tasks)) (withNow m r) e in
     record { still = ap dispatch w ∙ still-now m r h ∙ sym w; runner = ap (λ (v : Model). v .running) w }
 
-pub reading-law : {h ts hd cs qs : List ℕ} (d : LaidOut h ts hd cs qs) (r : ℕ) → firstDue r nobody 0 (modelOf h ts hd cs qs .tasks) ≡ nobody →
+pub reading-law : {h ts hd cs qs : List ℕ} (d : LaidOut h ts hd cs qs) (r : ℕ) →
+    firstDue r nobody 0 (modelOf h ts hd cs qs .tasks) ≡ nobody →
     Means (set h nowCell r) ts hd cs qs (takeReading (modelOf h ts hd cs qs) r)
 reading-law {h} {ts} {hd} {cs} {qs} d r e =
     let m : Model = modelOf h ts hd cs qs in

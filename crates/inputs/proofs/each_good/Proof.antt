@@ -13,7 +13,8 @@ use Rattle.inputs.proofs.each_good.Statement.{statement}
 use Rattle.inputs.proofs.each_good.Tie as tie
 
 abbrev Inv-loop : tie.InvT-loop
-Inv-loop s n unused unknown faults₀ joined₀ i₀ faults joined i = (i ≤ n) × ((eqb faults 0 && eqb (joined / 8 % 32) 0) ≡ below i (eventGood s))
+Inv-loop s n unused unknown faults₀ joined₀ i₀ faults joined i =
+    (i ≤ n) × ((eqb faults 0 && eqb (joined / 8 % 32) 0) ≡ below i (eventGood s))
 
 abbrev μ-loop : tie.MeasureT-loop
 μ-loop s n unused unknown faults₀ joined₀ i₀ faults joined i = n - i

@@ -22,8 +22,9 @@ element-copy-out-result-2 c = search needs
 
 returns : tie.Need-returns
 returns c =
-    let all = c .before .before .args .all in
-    ap₂ (λ (m x : List ℕ). bitOr (bitAnd all (getD m (all % 8) 0)) (getD x (all % 8) 0)) (c .before .before .pre .0) (c .before .before .pre .1)
+    let entry = c .before .before in
+    let all = entry .args .all in
+    ap₂ (λ (m x : List ℕ). bitOr (bitAnd all (getD m (all % 8) 0)) (getD x (all % 8) 0)) (entry .pre .0) (entry .pre .1)
 
 pub fault-of-spec : {M : Type 1} → statement M
 fault-of-spec = tie.close (tie.spec mul-result element-copy-out-result mul-result-2 element-copy-out-result-2 returns)

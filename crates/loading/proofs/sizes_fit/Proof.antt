@@ -20,7 +20,8 @@ returns c =
     fits-counts (a .tasks) (a .objects) (a .held .now) (a .queues .now) bad
 
 -- what the test of the counts has told
-counted : (c : tie.Else1) → countsGood (c .before .before .before .before .args .tasks) (c .before .before .before .before .args .objects) ≡ true
+counted : (c : tie.Else1) →
+    countsGood (c .before .before .before .before .args .tasks) (c .before .before .before .before .args .objects) ≡ true
 counted c = sym (c .before .counts-good .ensures) ∙ not-false _ (c .if1 .left)
 
 lengths-good-requires : tie.Need-lengths-good-requires
