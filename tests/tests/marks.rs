@@ -18,9 +18,9 @@ use second::sound::broken;
 use second::state::{Place, State, Task};
 
 /// How many states for each priority have its mark wrong, each way.
-const EACH: u64 = 220;
-const STATES: u64 = 2_600;
-const HISTORIES: u64 = 3_200;
+const EACH: u64 = 250;
+const STATES: u64 = 3_000;
+const HISTORIES: u64 = 4_000;
 const EVENTS: usize = 100;
 const LEAST: usize = 200;
 

@@ -6,7 +6,7 @@ use harness::report::{bytes_of, hex, Histogram};
 use harness::rosters::{made, WHOLE_CASE};
 use harness::sizes::{LAST_OBJECT, LAST_TASK, MOST_OBJECTS, MOST_TASKS};
 
-const CASES: u64 = 18_000;
+const CASES: u64 = 24_000;
 const LEAST: usize = 200;
 
 #[test]

@@ -8,7 +8,7 @@ use harness::rosters::{made, passing, WHOLE_CASE};
 use harness::sizes::MOST_EVENTS;
 use second::run as other;
 
-const CASES: u64 = 18_000;
+const CASES: u64 = 24_000;
 const LEAST: usize = 200;
 
 /// Mostly a roster that passes; else one with a fault of each kind in turn, or with whatever else is made.
