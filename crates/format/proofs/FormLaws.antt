@@ -179,7 +179,7 @@ module _ (s : List ℕ) where
 
   -- what the layout says of a script: it stands inside the roster, and is whole steps
   module _ (good : layoutGood s ≡ true) where
-    tables-laid : (taskRow s (taskCount s) ≡ objectTable s) × (objectRow s (objectCount s) ≡ trailer s)
+    pub tables-laid : (taskRow s (taskCount s) ≡ objectTable s) × (objectRow s (objectCount s) ≡ trailer s)
     unfolding layoutGood tablesGood
     tables-laid =
         let e : tablesGood s ≡ true = and-left (tablesGood s) (scriptsLaid s) good in
@@ -191,13 +191,19 @@ module _ (s : List ℕ) where
     unfolding layoutGood
     scripts-are = and-right (tablesGood s) (scriptsLaid s) good
 
-    script-starts : (t : ℕ) → t < taskCount s → startAt s t ≡ scriptsEnd s t
+    pub script-starts : (t : ℕ) → t < taskCount s → startAt s t ≡ scriptsEnd s t
     unfolding scriptsLaid scriptLaid laidFrom
     script-starts t h =
         let e = below-at (scriptLaid s) (taskCount s) t (and-left (below (taskCount s) (scriptLaid s)) _ scripts-are) h in
         eqb-true _ _ (and-left (eqb (startAt s t) (scriptsEnd s t)) (eqb (lengthAt s t % stepSize) 0) e)
 
-    scripts-close : scriptsEnd s (taskCount s) ≡ taskTable s
+    pub script-whole : (t : ℕ) → t < taskCount s → lengthAt s t % stepSize ≡ 0
+    unfolding scriptsLaid scriptLaid laidFrom
+    script-whole t h =
+        let e = below-at (scriptLaid s) (taskCount s) t (and-left (below (taskCount s) (scriptLaid s)) _ scripts-are) h in
+        eqb-true _ _ (and-right (eqb (startAt s t) (scriptsEnd s t)) (eqb (lengthAt s t % stepSize) 0) e)
+
+    pub scripts-close : scriptsEnd s (taskCount s) ≡ taskTable s
     unfolding scriptsLaid
     scripts-close =
         eqb-true _ _ (and-right (below (taskCount s) (scriptLaid s)) (eqb (scriptsEnd s (taskCount s)) (taskTable s)) scripts-are)

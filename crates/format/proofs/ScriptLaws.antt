@@ -53,7 +53,7 @@ shape code a b =
     both-ways (Shape b) (eqb code againCode) _ _ (λ e. tt) (λ e. tt))))))))
 
 -- the bytes of a part are bytes of the whole, and a word of bytes has 16 bits
-part-bytes : (s : List ℕ) → Bytes s → (t : ℕ) → Bytes (partAt s t)
+pub part-bytes : (s : List ℕ) → Bytes s → (t : ℕ) → Bytes (partAt s t)
 unfolding partAt
 part-bytes s y t = record { below = λ i. compare (lengthAt s t) i (past i) (within i) }
   where

@@ -1,13 +1,15 @@
 -- Laws of tests: conjunctions, tests of every number below one, and the first of several verdicts that is not Passed.
 use mathlib.Core.Path.{_≡_, refl, ap, sym, _∙_}
-use Rattle.rules.specs.Lists.{below}
+use Rattle.rules.specs.Lists.{allOf, below}
 use mathlib.Core.Bool.{Bool, true, false, cond, _&&_}
+use mathlib.Core.List.{List, [], _∷_}
 use Prim.Native.Nat.{ℕ, zero, suc, _+_, _≤_, _<_}
 use native.Mathlib.Numerals.{add-one}
 use native.Mathlib.Omega.{arith}
 use native.Mathlib.Nat.{not-suc-le-zero}
 use borrow.Author.Tests.{eqb-true, eqb-false}
 use lib.Dec.{eqb}
+use lib.ListN.{length, getD}
 use Rattle.rules.specs.Priorities.{inRange, checkedOf}
 use Rattle.rules.specs.declared.Priority.{Priority}
 use Rattle.rules.specs.declared.Checked.{Checked}
@@ -78,9 +80,41 @@ module _ (f : ℕ → Bool) where
   unfolding below
   below-more n e g = sym (and-yes (below n f) (f n) true e (sym g))
 
+  pub below-all : (n : ℕ) → ((i : ℕ) → i < n → f i ≡ true) → below n f ≡ true
+  unfolding below
+  below-all zero h = refl
+  below-all (suc n) h = below-more n (below-all n (λ i g. h i (omega arith))) (h n (omega arith))
+
   -- one does not
   pub below-fails : (n i : ℕ) → i < n → f i ≡ false → false ≡ below n f
   below-fails n i h e = by-test (below n f) (λ g. absurd (truth (sym (below-at n i g h) ∙ e))) (λ g. sym g)
+
+-- two tests that agree
+pub below-same : (f g : ℕ → Bool) (n : ℕ) → ((i : ℕ) → i < n → f i ≡ g i) → below n f ≡ below n g
+unfolding below
+below-same f g zero h = refl
+below-same f g (suc n) h =
+    ap (λ (b : Bool). b && f n) (below-same f g n (λ i k. h i (omega arith))) ∙ ap (λ (b : Bool). below n g && b) (h n (omega arith))
+
+-- the first of them first; a test of every number of a list is one of every position
+and-three : (a b d : Bool) → (a && b && d) ≡ (a && (b && d))
+and-three true b d = refl
+and-three false b d = refl
+
+and-last : (a : Bool) → (true && a) ≡ (a && true)
+and-last true = refl
+and-last false = refl
+
+below-front : (f : ℕ → Bool) (n : ℕ) → below (suc n) f ≡ (f 0 && below n (λ i. f (suc i)))
+unfolding below
+below-front f zero = and-last (f 0)
+below-front f (suc n) = ap (λ (b : Bool). b && f (suc n)) (below-front f n) ∙ and-three (f 0) (below n (λ i. f (suc i))) (f (suc n))
+
+pub below-list : (f : ℕ → Bool) (l : List ℕ) → below (length l) (λ i. f (getD l i 0)) ≡ allOf f l
+unfolding below allOf
+below-list f [] = refl
+below-list f (x ∷ l) =
+    below-front (λ i. f (getD (x ∷ l) i 0)) (length l) ∙ ap (λ (b : Bool). f x && b) (below-list f l)
 
 -- Passed is the only verdict of number 0
 pub passed-is : (v : Verdict) → passed v ≡ true → v ≡ Passed
@@ -135,6 +169,14 @@ module _ (f : ℕ → Verdict) where
   unfolding first
   first-all zero h = refl
   first-all (suc n) h = first-more n (first-all n (λ i g. h i (omega arith))) (h n (omega arith))
+
+  -- two searches that agree
+  pub first-same : (g : ℕ → Verdict) (n : ℕ) → ((i : ℕ) → i < n → f i ≡ g i) → first n f ≡ first n g
+  unfolding first
+  first-same g zero h = refl
+  first-same g (suc n) h =
+      ap (λ (v : Verdict). cond (passed v) (f n) v) (first-same g n (λ i k. h i (omega arith))) ∙
+      ap (λ (v : Verdict). cond (passed (first n g)) v (first n g)) (h n (omega arith))
 
   -- a fault that is named stands somewhere, and nothing before it is one
   pub first-names : (n : ℕ) → passed (first n f) ≡ false → (i : ℕ) × (i < n) × (f i ≡ first n f) × (first i f ≡ Passed)

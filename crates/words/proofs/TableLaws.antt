@@ -1,11 +1,11 @@
 -- Laws of tabulated lists.
 use mathlib.Core.Path.{_≡_, refl, ap, sym, _∙_}
 use mathlib.Core.List.{List, _∷_}
-use Prim.Native.Nat.{ℕ, zero, suc, _≤_, _<_}
+use Prim.Native.Nat.{ℕ, zero, suc, _+_, _≤_, _<_}
 use native.Mathlib.Omega.{arith}
 use native.Mathlib.Nat.{not-suc-le-zero, le-of-suc-le-suc}
-use lib.ListN.{length, getD, take, List·getD-eq-default}
-use lib.Seq.{ext-getD}
+use lib.ListN.{length, getD, take, drop, length-drop, List·getD-eq-default}
+use lib.Seq.{ext-getD, length-take-le, getD-take, getD-drop}
 use Rattle.words.specs.Words.{tabulate}
 
 module _ {A : Type 0} where
@@ -36,3 +36,9 @@ module _ {A : Type 0} where
   tabulate-take zero m f h = refl
   tabulate-take (suc n) zero f h = absurd (not-suc-le-zero h)
   tabulate-take (suc n) (suc m) f h = ap (λ (l : List A). f 0 ∷ l) (tabulate-take n m (λ i. f (suc i)) (le-of-suc-le-suc h))
+
+-- k elements of a list from i on
+pub window : (s : List ℕ) (i k : ℕ) → i + k ≤ length s → take k (drop i s) ≡ tabulate k (λ j. getD s (i + j) 0)
+window s i k h =
+    sym (tabulate-of (take k (drop i s)) k (λ j. getD s (i + j) 0) 0 (length-take-le k (drop i s) (omega (arith, length-drop i s)))
+    (λ j g. sym (getD-take k (drop i s) j 0 g ∙ getD-drop i s j 0)))

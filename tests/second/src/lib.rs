@@ -13,3 +13,4 @@ pub mod rules;
 pub mod run;
 pub mod sound;
 pub mod state;
+pub mod writer;

@@ -4,13 +4,14 @@ use crate::answer;
 use crate::check;
 use crate::limits::{MAX_OBJECTS, PRIORITIES, ROSTER_BYTES, TASKS};
 
-const MARK: [u8; 2] = [0x52, 0x35];
-const TRAILER: usize = 8;
-const TASK_ROW: usize = 6;
-const OBJECT_ROW: usize = 2;
-const STEP: usize = 4;
+pub(crate) const MARK: [u8; 2] = [0x52, 0x35];
+pub(crate) const TRAILER: usize = 8;
+pub(crate) const TASK_ROW: usize = 6;
+pub(crate) const OBJECT_ROW: usize = 2;
+pub(crate) const STEP: usize = 4;
 
-/// Why a roster or a run is refused, and where; the place is 0, 0 unless the number is 16 to 20.
+/// Why a roster, a run or a writing is refused, and where; the place is 0, 0 unless the number is
+/// 16 to 20.
 #[derive(Clone, Copy, Debug, PartialEq, Eq)]
 pub struct Refusal {
     pub number: u8,
@@ -26,6 +27,12 @@ impl Refusal {
             task: 0,
             step: 0,
         }
+    }
+
+    /// A refusal with 16 at this step.
+    pub(crate) fn bad_step(task: usize, step: usize) -> Refusal {
+        let number = answer::BAD_STEP;
+        Refusal { number, task, step }
     }
 }
 
@@ -78,11 +85,8 @@ pub fn read(bytes: &[u8]) -> Result<Roster, Refusal> {
     }
     let mut tasks = Vec::new();
     for (task, row) in parts.rows.iter().enumerate() {
-        let script = parts.steps(row).map_err(|step| Refusal {
-            number: answer::BAD_STEP,
-            task,
-            step,
-        })?;
+        let script = parts.steps(row);
+        let script = script.map_err(|step| Refusal::bad_step(task, step))?;
         tasks.push(TaskEntry {
             base: row.base,
             script,
@@ -175,32 +179,42 @@ impl<'a> Parts<'a> {
 
     /// The steps of the script that a row names, or the index of its first bad step.
     fn steps(&self, row: &TaskRow) -> Result<Vec<Step>, usize> {
-        let chunks = self.script(row).chunks_exact(STEP);
-        let last = chunks.len().saturating_sub(1);
-        let decode = |(index, raw)| self.decode_step(raw, index == last).ok_or(index);
-        chunks.enumerate().map(decode).collect()
+        decode_script(self.script(row), self.rows.len(), self.objects.len())
     }
+}
 
-    /// One step, if its code is known, its operands fit and an Again is the script's last.
-    fn decode_step(&self, raw: &[u8], last: bool) -> Option<Step> {
-        let &[code, a, low, high] = raw else {
-            return None;
-        };
-        let a = usize::from(a);
-        let b = u16::from_le_bytes([low, high]);
-        let object = a < self.objects.len();
-        let task = a < self.rows.len();
-        match code {
-            1 if object && b == 0 => Some(Step::Enter(a)),
-            2 if object && b == 0 => Some(Step::Leave(a)),
-            3 if a == 0 => Some(Step::Delay(b)),
-            4 if a == 0 && b == 0 => Some(Step::Work),
-            5 if a == 0 && b == 0 => Some(Step::Suspend),
-            6 if task && b == 0 => Some(Step::Release(a)),
-            7 if task && PRIORITIES.contains(&u64::from(b)) => Some(Step::Set(a, u64::from(b))),
-            8 if a == 0 && b == 0 && last => Some(Step::Again),
-            _ => None,
-        }
+/// The steps of one script in a roster of that many tasks and objects, or the index of its first
+/// bad step.
+pub(crate) fn decode_script(
+    script: &[u8],
+    tasks: usize,
+    objects: usize,
+) -> Result<Vec<Step>, usize> {
+    let chunks = script.chunks_exact(STEP);
+    let last = chunks.len().saturating_sub(1);
+    let decode = |(index, raw)| decode_step(raw, tasks, objects, index == last).ok_or(index);
+    chunks.enumerate().map(decode).collect()
+}
+
+/// One step, if its code is known, its operands fit and an Again is the script's last.
+fn decode_step(raw: &[u8], tasks: usize, objects: usize, last: bool) -> Option<Step> {
+    let &[code, a, low, high] = raw else {
+        return None;
+    };
+    let a = usize::from(a);
+    let b = u16::from_le_bytes([low, high]);
+    let object = a < objects;
+    let task = a < tasks;
+    match code {
+        1 if object && b == 0 => Some(Step::Enter(a)),
+        2 if object && b == 0 => Some(Step::Leave(a)),
+        3 if a == 0 => Some(Step::Delay(b)),
+        4 if a == 0 && b == 0 => Some(Step::Work),
+        5 if a == 0 && b == 0 => Some(Step::Suspend),
+        6 if task && b == 0 => Some(Step::Release(a)),
+        7 if task && PRIORITIES.contains(&u64::from(b)) => Some(Step::Set(a, u64::from(b))),
+        8 if a == 0 && b == 0 && last => Some(Step::Again),
+        _ => None,
     }
 }
 
