@@ -6,11 +6,11 @@ ghost use Rattle.dispatch.specs.Methods.{beside, freshOf};
 use crate::Started;
 use crate::State;
 use crate::store::store;
-use crate::test::all_in_range;
 use memory::sizes::HEAD_WIDTH;
 use memory::sizes::HELD_CELLS;
 use memory::sizes::QUEUE_CELLS;
 use memory::sizes::TASK_CELLS;
+use ranges::all_in_range;
 use rules::Answer;
 use rules::Roster;
 

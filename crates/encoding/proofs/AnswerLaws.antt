@@ -29,11 +29,12 @@ module _ (p : Parts) where
   unfolding lengthsGood
   lengths-no h = and-no _ _ (ne-eqb (length (p .lengths)) (tasksOf p) h)
 
-  pub lengths-yes : (sum : ℕ) → length (p .lengths) ≡ tasksOf p → sum ≡ stepsBefore (p .lengths) (tasksOf p) →
+  pub lengths-sum : (sum : ℕ) → length (p .lengths) ≡ tasksOf p → sum ≡ stepsBefore (p .lengths) (length (p .lengths)) →
       eqb (stepSize * sum) (length (p .steps)) ≡ lengthsGood p
   unfolding lengthsGood
-  lengths-yes sum e f =
-      and-yes _ _ _ (eq-eqb (length (p .lengths)) (tasksOf p) e) (ap (λ (x : ℕ). eqb (stepSize * x) (length (p .steps))) f)
+  lengths-sum sum e f =
+      and-yes _ _ _ (eq-eqb (length (p .lengths)) (tasksOf p) e)
+      (ap (λ (x : ℕ). eqb (stepSize * x) (length (p .steps))) (f ∙ ap (stepsBefore (p .lengths)) e))
 
   pub lengths-known : lengthsGood p ≡ true →
       (length (p .lengths) ≡ tasksOf p) × (stepSize * stepsBefore (p .lengths) (tasksOf p) ≡ length (p .steps))

@@ -30,6 +30,7 @@ use Rattle.format.proofs.FormatLaws.{base-listed, ceiling-listed, script-listed
 use Rattle.format.proofs.FormLaws.{tables-laid, script-starts, script-whole, scripts-close}
 use Rattle.format.proofs.FormedLaws.{formed, part-inside, row-inside, step-good}
 use Rattle.format.proofs.ScriptLaws.{part-bytes}
+use Rattle.encoding.specs.File as E
 use Rattle.encoding.specs.File.{Parts, rows, scriptStart, scriptSize, taskBytes, objectBytes, objectStart, trailerBytes, fileOf}
 use Rattle.encoding.specs.Encoding.{scriptBytes, lengthsOf, partsOf}
 use Rattle.encoding.proofs.RowLaws.{rows-suc, rows-found}
@@ -69,14 +70,14 @@ module _ (s : List ℕ) (bytes : Bytes s) (ok : formOf s ≡ Passed) where
       (λ k g. and-left _ _ (part-step t h k g)) (λ k g. and-right (isStep (stepAt (partAt s t) k)) _ (part-step t h k g))
 
   -- the lengths in steps, and where the scripts end
-  length-back : (t : ℕ) → t < taskCount s → scriptSize p t ≡ lengthAt s t
+  length-back : (t : ℕ) → t < taskCount s → scriptSize (p .lengths) t ≡ lengthAt s t
   unfolding lengthsOf
   length-back t h =
       let a = tabulate-at (length (r .bases)) (λ u. length (scriptOf (rosterOf s) u)) t 0 (omega (arith, base-count s)) in
       let b = ap length (script-listed s t h) ∙ steps-length (partAt s t) in
       omega (arith, a, b, part-length t h, script-whole s (formed s ok .layout) t h)
 
-  before-back : (t : ℕ) → t ≤ taskCount s → scriptStart p t ≡ scriptsEnd s t
+  before-back : (t : ℕ) → t ≤ taskCount s → scriptStart (p .lengths) t ≡ scriptsEnd s t
   unfolding scriptsEnd
   before-back zero h = omega (arith, before-none (lengthsOf r))
   before-back (suc t) h = omega (arith, before-suc (lengthsOf r) t, before-back t (omega arith), length-back t h)
@@ -113,7 +114,7 @@ module _ (s : List ℕ) (bytes : Bytes s) (ok : formOf s ≡ Passed) where
       )
 
   -- each task row
-  row-back : (t : ℕ) → t < taskCount s → take taskRowSize (drop (taskRow s t) s) ≡ taskBytes p t
+  row-back : (t : ℕ) → t < taskCount s → take taskRowSize (drop (taskRow s t) s) ≡ taskBytes (p .setup .bases) (p .lengths) t
   unfolding tabulate taskBytes valuesGood taskRowGood baseAt startAt lengthAt
   row-back t h =
       let at = taskRow s t in
@@ -121,10 +122,10 @@ module _ (s : List ℕ) (bytes : Bytes s) (ok : formOf s ≡ Passed) where
       let good = below-at (taskRowGood s) (taskCount s) t
       (and-left (below (taskCount s) (taskRowGood s)) (below (objectCount s) (objectRowGood s)) (formed s ok .values)) h in
       let b1 : getD s (at + 1) 0 ≡ 0 = eqb-true _ _ (and-right (inRange (baseAt s t)) (eqb (byteAt s (at + 1)) 0) good) in
-      let w1 : getD s (at + 2) 0 ∷ getD s (at + 3) 0 ∷ [] ≡ word (scriptStart p t) =
+      let w1 : getD s (at + 2) 0 ∷ getD s (at + 3) 0 ∷ [] ≡ word (scriptStart (p .lengths) t) =
       ap (λ (k : ℕ). getD s (at + 2) 0 ∷ getD s k 0 ∷ []) (let z : at + 3 ≡ at + 2 + 1 = omega arith in z) ∙
       (sym (word-back s (at + 2) bytes) ∙ ap word (script-starts s (formed s ok .layout) t h ∙ sym (before-back t (omega arith)))) in
-      let w2 : getD s (at + 4) 0 ∷ getD s (at + 5) 0 ∷ [] ≡ word (scriptSize p t) =
+      let w2 : getD s (at + 4) 0 ∷ getD s (at + 5) 0 ∷ [] ≡ word (scriptSize (p .lengths) t) =
       ap (λ (k : ℕ). getD s (at + 4) 0 ∷ getD s k 0 ∷ []) (let z : at + 5 ≡ at + 4 + 1 = omega arith in z) ∙
       (sym (word-back s (at + 4) bytes) ∙ ap word (sym (length-back t h))) in
       let rest : ℕ → List ℕ = λ k. getD s k 0 ∷ getD s (k + 1) 0 ∷ [] in
@@ -136,15 +137,15 @@ module _ (s : List ℕ) (bytes : Bytes s) (ok : formOf s ≡ Passed) where
       (ap (λ (x : ℕ). getD (r .bases) t 0 ∷ x ∷ ((getD s (at + 2) 0 ∷ getD s (at + 3) 0 ∷ []) ++ (getD s (at + 4) 0 ∷ getD s (at + 5) 0 ∷ [])))
       b1 ∙
       (ap (λ (l : List ℕ). getD (r .bases) t 0 ∷ 0 ∷ (l ++ (getD s (at + 4) 0 ∷ getD s (at + 5) 0 ∷ []))) w1 ∙
-      ap (λ (l : List ℕ). getD (r .bases) t 0 ∷ 0 ∷ (word (scriptStart p t) ++ l)) w2))))
+      ap (λ (l : List ℕ). getD (r .bases) t 0 ∷ 0 ∷ (word (scriptStart (p .lengths) t) ++ l)) w2))))
 
-  tasks-back : take (taskRowSize * taskCount s) (drop (taskTable s) s) ≡ rows (taskCount s) (taskBytes p)
+  tasks-back : take (taskRowSize * taskCount s) (drop (taskTable s) s) ≡ rows (taskCount s) (taskBytes (p .setup .bases) (p .lengths))
   unfolding taskBytes taskRow
   tasks-back =
-      let f = taskBytes p in
-      ap (λ (k : ℕ). take k (drop (taskTable s) s)) (sym (task-rows p (taskCount s))) ∙
+      let f = taskBytes (p .setup .bases) (p .lengths) in
+      ap (λ (k : ℕ). take k (drop (taskTable s) s)) (sym (task-rows (p .setup .bases) (p .lengths) (taskCount s))) ∙
       rows-found f (drop (taskTable s) s) (taskCount s) (λ t h.
-      ap (λ (k : ℕ). take 6 (drop k (drop (taskTable s) s))) (task-rows p t) ∙
+      ap (λ (k : ℕ). take 6 (drop k (drop (taskTable s) s))) (task-rows (p .setup .bases) (p .lengths) t) ∙
       (ap (take 6) (drop-drop (6 * t) (taskTable s) s) ∙ row-back t h))
 
   -- each object row
@@ -152,7 +153,7 @@ module _ (s : List ℕ) (bytes : Bytes s) (ok : formOf s ≡ Passed) where
   unfolding objectRow
   object-inside o h = omega (arith, tables .1, long)
 
-  object-back : (o : ℕ) → o < objectCount s → take objectRowSize (drop (objectRow s o) s) ≡ objectBytes p o
+  object-back : (o : ℕ) → o < objectCount s → take objectRowSize (drop (objectRow s o) s) ≡ objectBytes (p .setup .ceilings) o
   unfolding tabulate objectBytes valuesGood objectRowGood ceilingAt
   object-back o h =
       let at = objectRow s o in
@@ -164,13 +165,13 @@ module _ (s : List ℕ) (bytes : Bytes s) (ok : formOf s ≡ Passed) where
       (ap (λ (k : ℕ). getD s k 0 ∷ getD s (at + 1) 0 ∷ []) (add-zero at) ∙
       (ap (λ (x : ℕ). x ∷ getD s (at + 1) 0 ∷ []) b0 ∙ ap (λ (x : ℕ). getD (r .ceilings) o 0 ∷ x ∷ []) b1))
 
-  objects-back : take (objectRowSize * objectCount s) (drop (objectTable s) s) ≡ rows (objectCount s) (objectBytes p)
+  objects-back : take (objectRowSize * objectCount s) (drop (objectTable s) s) ≡ rows (objectCount s) (objectBytes (p .setup .ceilings))
   unfolding objectBytes objectRow
   objects-back =
-      let f = objectBytes p in
-      ap (λ (k : ℕ). take k (drop (objectTable s) s)) (sym (object-rows p (objectCount s))) ∙
+      let f = objectBytes (p .setup .ceilings) in
+      ap (λ (k : ℕ). take k (drop (objectTable s) s)) (sym (object-rows (p .setup .ceilings) (objectCount s))) ∙
       rows-found f (drop (objectTable s) s) (objectCount s) (λ o h.
-      ap (λ (k : ℕ). take 2 (drop k (drop (objectTable s) s))) (object-rows p o) ∙
+      ap (λ (k : ℕ). take 2 (drop k (drop (objectTable s) s))) (object-rows (p .setup .ceilings) o) ∙
       (ap (take 2) (drop-drop (2 * o) (objectTable s) s) ∙ object-back o h))
 
   -- the trailer
@@ -181,7 +182,7 @@ module _ (s : List ℕ) (bytes : Bytes s) (ok : formOf s ≡ Passed) where
   unfolding taskRow
   object-start = omega (arith, table-start, base-count s, tables .0)
 
-  trailer-back : drop (trailer s) s ≡ trailerBytes p
+  trailer-back : drop (trailer s) s ≡ E.trailer p
   unfolding tabulate trailerBytes markGood taskCount objectCount objectTable taskTable
   trailer-back =
       let z = trailer s in
@@ -216,23 +217,23 @@ module _ (s : List ℕ) (bytes : Bytes s) (ok : formOf s ≡ Passed) where
   encoded =
       let n = taskCount s in
       let m = objectCount s in
-      let rest = rows m (objectBytes p) ++ trailerBytes p in
+      let rest = rows m (objectBytes (p .setup .ceilings)) ++ E.trailer p in
       let last : drop (objectTable s) s ≡ rest =
       sym (take-append-drop (2 * m) (drop (objectTable s) s)) ∙
       (ap (λ (l : List ℕ). l ++ drop (2 * m) (drop (objectTable s) s)) objects-back ∙
-      ap (λ (l : List ℕ). rows m (objectBytes p) ++ l)
+      ap (λ (l : List ℕ). rows m (objectBytes (p .setup .ceilings)) ++ l)
       (drop-drop (2 * m) (objectTable s) s ∙ (ap (λ (k : ℕ). drop k s) (tables .1) ∙ trailer-back))) in
-      let middle : drop (taskTable s) s ≡ rows n (taskBytes p) ++ rest =
+      let middle : drop (taskTable s) s ≡ rows n (taskBytes (p .setup .bases) (p .lengths)) ++ rest =
       sym (take-append-drop (6 * n) (drop (taskTable s) s)) ∙
       (ap (λ (l : List ℕ). l ++ drop (6 * n) (drop (taskTable s) s)) tasks-back ∙
-      ap (λ (l : List ℕ). rows n (taskBytes p) ++ l)
+      ap (λ (l : List ℕ). rows n (taskBytes (p .setup .bases) (p .lengths)) ++ l)
       (drop-drop (6 * n) (taskTable s) s ∙ (ap (λ (k : ℕ). drop k s) (tables .0) ∙ last))) in
-      let whole : s ≡ rows n script ++ (rows n (taskBytes p) ++ rest) =
+      let whole : s ≡ rows n script ++ (rows n (taskBytes (p .setup .bases) (p .lengths)) ++ rest) =
       sym (take-append-drop (taskTable s) s) ∙
       (ap (λ (l : List ℕ). l ++ drop (taskTable s) s) scripts-back ∙ ap (λ (l : List ℕ). rows n script ++ l) middle) in
-      ap (λ (x : ℕ). rows x script ++ (rows x (taskBytes p) ++ (rows (length (r .ceilings)) (objectBytes p) ++ trailerBytes p)))
+      ap (λ (x : ℕ). rows x script ++ (rows x (taskBytes (p .setup .bases) (p .lengths)) ++ (rows (length (r .ceilings)) (objectBytes (p .setup .ceilings)) ++ E.trailer p)))
       (base-count s) ∙
-      (ap (λ (y : ℕ). rows n script ++ (rows n (taskBytes p) ++ (rows y (objectBytes p) ++ trailerBytes p))) (ceiling-count s) ∙
+      (ap (λ (y : ℕ). rows n script ++ (rows n (taskBytes (p .setup .bases) (p .lengths)) ++ (rows y (objectBytes (p .setup .ceilings)) ++ E.trailer p))) (ceiling-count s) ∙
       sym whole)
 
   -- and its sizes are good
@@ -244,7 +245,7 @@ module _ (s : List ℕ) (bytes : Bytes s) (ok : formOf s ≡ Passed) where
         counts =
             rw (base-count s, ceiling-count s) (counted-by n (objectCount s) (formed s ok .counts));
         each = length-tabulate (length (r .bases)) (λ t. length (scriptOf (rosterOf s) t));
-        whole = omega (arith, ap (scriptStart p) (base-count s), before-back n (omega arith), scripts-close s (formed s ok .layout), table-start);
+        whole = omega (arith, ap (scriptStart (p .lengths)) (base-count s), before-back n (omega arith), scripts-close s (formed s ok .layout), table-start);
         small =
             omega (
               arith,

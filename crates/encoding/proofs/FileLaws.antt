@@ -10,7 +10,7 @@ use Rattle.rules.proofs.Choices.{split}
 use Rattle.rules.proofs.LimitLaws.{Counted}
 use Rattle.format.specs.Limits.{trailerSize, taskRowSize, objectRowSize}
 use Rattle.encoding.specs.File.{Parts, tasksOf, objectsOf, rows, stepsBefore, scriptStart, scriptSize, taskBytes, objectBytes}
-use Rattle.encoding.specs.File.{taskStart, objectStart, trailerBytes, fileOf}
+use Rattle.encoding.specs.File.{trailerBytes, taskTable, objectTable, taskStart, objectStart, trailer, fileOf}
 use Rattle.encoding.proofs.RowLaws.{rows-length}
 
 -- the steps before a script
@@ -33,54 +33,49 @@ before-rise lengths t (suc n) h =
     (λ e. omega (arith, ap (stepsBefore lengths) e))
     (λ d. omega (arith, before-rise lengths t n (omega arith), before-suc lengths n))
 
+-- a task row has 6 bytes, an object row 2
+pub task-rows : (bases lengths : List ℕ) (n : ℕ) → length (rows n (taskBytes bases lengths)) ≡ taskRowSize * n
+unfolding taskBytes
+task-rows bases lengths n = omega (arith, rows-length (taskBytes bases lengths) taskRowSize n (λ t. refl))
+
+pub object-rows : (ceilings : List ℕ) (n : ℕ) → length (rows n (objectBytes ceilings)) ≡ objectRowSize * n
+unfolding objectBytes
+object-rows ceilings n = omega (arith, rows-length (objectBytes ceilings) objectRowSize n (λ o. refl))
+
 module _ (p : Parts) where
-  abbrev pub taskTable : List ℕ
-  taskTable = rows (tasksOf p) (taskBytes p)
-
-  abbrev pub objectTable : List ℕ
-  objectTable = rows (objectsOf p) (objectBytes p)
-
   abbrev pub trailerStart : ℕ
   trailerStart = objectStart p + objectRowSize * objectsOf p
 
-  -- rows and trailer
-  pub task-rows : (n : ℕ) → length (rows n (taskBytes p)) ≡ taskRowSize * n
-  unfolding taskBytes
-  task-rows n = omega (arith, rows-length (taskBytes p) taskRowSize n (λ t. refl))
-
-  pub object-rows : (n : ℕ) → length (rows n (objectBytes p)) ≡ objectRowSize * n
-  unfolding objectBytes
-  object-rows n = omega (arith, rows-length (objectBytes p) objectRowSize n (λ o. refl))
-
-  pub trailer-length : length (trailerBytes p) ≡ trailerSize
+  pub trailer-length : length (trailer p) ≡ trailerSize
   unfolding trailerBytes
   trailer-length = refl
 
   -- what stands before each part
-  pub front-length : length (p .steps ++ taskTable) ≡ objectStart p
-  front-length = omega (arith, length-append (p .steps) taskTable, task-rows (tasksOf p))
+  pub front-length : length (p .steps ++ taskTable p) ≡ objectStart p
+  front-length = omega (arith, length-append (p .steps) (taskTable p), task-rows (p .setup .bases) (p .lengths) (tasksOf p))
 
-  pub tables-length : length ((p .steps ++ taskTable) ++ objectTable) ≡ trailerStart
-  tables-length = omega (arith, front-length, object-rows (objectsOf p), length-append (p .steps ++ taskTable) objectTable)
+  pub tables-length : length ((p .steps ++ taskTable p) ++ objectTable p) ≡ trailerStart
+  tables-length = omega (arith, front-length, object-rows (p .setup .ceilings) (objectsOf p), length-append (p .steps ++ taskTable p) (objectTable p))
 
-  pub file-whole : ((p .steps ++ taskTable) ++ objectTable) ++ trailerBytes p ≡ fileOf p
+  pub file-whole : ((p .steps ++ taskTable p) ++ objectTable p) ++ trailer p ≡ fileOf p
   unfolding fileOf
   file-whole =
-      append-assoc (p .steps ++ taskTable) objectTable (trailerBytes p) ∙ append-assoc (p .steps) taskTable (objectTable ++ trailerBytes p)
+      append-assoc (p .steps ++ taskTable p) (objectTable p) (trailer p) ∙
+      append-assoc (p .steps) (taskTable p) (objectTable p ++ trailer p)
 
   pub file-length : length (fileOf p) ≡ trailerStart + trailerSize
   file-length =
-      let tables = (p .steps ++ taskTable) ++ objectTable in
-      omega (arith, ap length file-whole, length-append tables (trailerBytes p), tables-length, trailer-length)
+      let tables = (p .steps ++ taskTable p) ++ objectTable p in
+      omega (arith, ap length file-whole, length-append tables (trailer p), tables-length, trailer-length)
 
   -- the sizes of what is given, where 13, 14 and 11 are kept
   pub record Sizes : Type 0 where
     pub counts : Counted (tasksOf p) (objectsOf p)
     pub each : length (p .lengths) ≡ tasksOf p
-    pub whole : scriptStart p (tasksOf p) ≡ length (p .steps)
+    pub whole : scriptStart (p .lengths) (tasksOf p) ≡ length (p .steps)
     pub small : length (fileOf p) ≤ largestRoster
 
   -- every script lies within the steps
-  pub script-inside : scriptStart p (tasksOf p) ≡ length (p .steps) → (t : ℕ) → t < tasksOf p →
-      scriptStart p t + scriptSize p t ≤ length (p .steps)
+  pub script-inside : scriptStart (p .lengths) (tasksOf p) ≡ length (p .steps) → (t : ℕ) → t < tasksOf p →
+      scriptStart (p .lengths) t + scriptSize (p .lengths) t ≤ length (p .steps)
   script-inside e t h = omega (arith, before-suc (p .lengths) t, before-rise (p .lengths) (suc t) (tasksOf p) h)

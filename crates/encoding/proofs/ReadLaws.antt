@@ -30,10 +30,10 @@ use Rattle.format.specs.declared.Step.{Step}
 use Rattle.format.specs.declared.Verdict.the-variants.{Passed}
 use Rattle.format.proofs.TestLaws.{below-all, below-same, below-list, first-same}
 use Rattle.encoding.specs.File.{Parts, tasksOf, objectsOf, rows, stepsBefore, scriptStart, scriptSize, scriptAt, taskBytes}
-use Rattle.encoding.specs.File.{objectBytes, taskStart, objectStart, trailerBytes, fileOf, given}
+use Rattle.encoding.specs.File.{objectBytes, trailerBytes, taskTable, objectTable, taskStart, objectStart, trailer, fileOf, given}
 use Rattle.encoding.specs.Answers.{lengthsGood, scriptForm, scriptsForm, partsForm}
 use Rattle.encoding.proofs.RowLaws.{rows-at}
-use Rattle.encoding.proofs.FileLaws.{before-none, before-suc, taskTable, objectTable, trailerStart, task-rows, object-rows}
+use Rattle.encoding.proofs.FileLaws.{before-none, before-suc, trailerStart, task-rows, object-rows}
 use Rattle.encoding.proofs.FileLaws.{front-length, tables-length, file-whole, file-length, Sizes, script-inside}
 
 -- a word of two bytes
@@ -54,40 +54,40 @@ module _ (p : Parts) where
   unfolding R.trailer
   trailer-at = omega (arith, file-length p)
 
-  trailer-byte : (i j : ℕ) → i ≡ R.trailer file + j → byteAt file i ≡ getD (trailerBytes p) j 0
+  trailer-byte : (i j : ℕ) → i ≡ R.trailer file + j → byteAt file i ≡ getD (trailer p) j 0
   trailer-byte i j e =
       let h = (p .steps ++ taskTable p) ++ objectTable p in
       let k : i ≡ length h + j = omega (arith, trailer-at, tables-length p) in
       ap (λ (x : ℕ). getD file x 0) k ∙
-      (ap (λ (l : List ℕ). getD l (length h + j) 0) (sym (file-whole p)) ∙ getD-append-add h (trailerBytes p) j 0)
+      (ap (λ (l : List ℕ). getD l (length h + j) 0) (sym (file-whole p)) ∙ getD-append-add h (trailer p) j 0)
 
   -- the bytes of a task row
   task-byte : (i t j : ℕ) → i ≡ taskStart p + taskRowSize * t + j → t < tasksOf p → j < taskRowSize →
-      byteAt file i ≡ getD (taskBytes p t) j 0
+      byteAt file i ≡ getD (taskBytes (p .setup .bases) (p .lengths) t) j 0
   unfolding fileOf taskBytes
   task-byte i t j e h g =
-      let f = taskBytes p in
-      let rest = objectTable p ++ trailerBytes p in
-      let k : i ≡ length (p .steps) + (length (rows t f) + j) = omega (arith, task-rows p t) in
+      let f = taskBytes (p .setup .bases) (p .lengths) in
+      let rest = objectTable p ++ trailer p in
+      let k : i ≡ length (p .steps) + (length (rows t f) + j) = omega (arith, task-rows (p .setup .bases) (p .lengths) t) in
       ap (λ (x : ℕ). getD file x 0) k ∙
       (getD-append-add (p .steps) (rows (tasksOf p) f ++ rest) (length (rows t f) + j) 0 ∙
-      (List·getD-append (rows (tasksOf p) f) rest 0 (length (rows t f) + j) (omega (arith, task-rows p t, task-rows p (tasksOf p))) ∙
+      (List·getD-append (rows (tasksOf p) f) rest 0 (length (rows t f) + j) (omega (arith, task-rows (p .setup .bases) (p .lengths) t, task-rows (p .setup .bases) (p .lengths) (tasksOf p))) ∙
       rows-at f (tasksOf p) t j h g))
 
   -- the bytes of an object row
   object-byte : (i o j : ℕ) → i ≡ objectStart p + objectRowSize * o + j → o < objectsOf p → j < objectRowSize →
-      byteAt file i ≡ getD (objectBytes p o) j 0
+      byteAt file i ≡ getD (objectBytes (p .setup .ceilings) o) j 0
   unfolding objectBytes
   object-byte i o j e h g =
-      let f = objectBytes p in
+      let f = objectBytes (p .setup .ceilings) in
       let head = p .steps ++ taskTable p in
-      let z = trailerBytes p in
-      let k : i ≡ length head + (length (rows o f) + j) = omega (arith, object-rows p o, front-length p) in
+      let z = trailer p in
+      let k : i ≡ length head + (length (rows o f) + j) = omega (arith, object-rows (p .setup .ceilings) o, front-length p) in
       ap (λ (x : ℕ). getD file x 0) k ∙
       (ap (λ (l : List ℕ). getD l (length head + (length (rows o f) + j)) 0)
       (sym (file-whole p) ∙ append-assoc head (rows (objectsOf p) f) z) ∙
       (getD-append-add head (rows (objectsOf p) f ++ z) (length (rows o f) + j) 0 ∙
-      (List·getD-append (rows (objectsOf p) f) z 0 (length (rows o f) + j) (omega (arith, object-rows p o, object-rows p (objectsOf p))) ∙
+      (List·getD-append (rows (objectsOf p) f) z 0 (length (rows o f) + j) (omega (arith, object-rows (p .setup .ceilings) o, object-rows (p .setup .ceilings) (objectsOf p))) ∙
       rows-at f (objectsOf p) o j h g)))
 
   -- the counts and the starts
@@ -125,18 +125,18 @@ module _ (p : Parts) where
     unfolding taskBytes
     zero-read = task-byte (taskRow file t + 1) t 1 (omega (arith, task-row-read t)) h (omega arith)
 
-    start-read : startAt file t ≡ scriptStart p t
+    start-read : startAt file t ≡ scriptStart (p .lengths) t
     unfolding startAt taskBytes
     start-read =
         let at = taskRow file t + 2 in
-        word-is file at (scriptStart p t) (task-byte at t 2 (omega (arith, task-row-read t)) h (omega arith))
+        word-is file at (scriptStart (p .lengths) t) (task-byte at t 2 (omega (arith, task-row-read t)) h (omega arith))
         (task-byte (at + 1) t 3 (omega (arith, task-row-read t)) h (omega arith))
 
-    length-read : lengthAt file t ≡ scriptSize p t
+    length-read : lengthAt file t ≡ scriptSize (p .lengths) t
     unfolding lengthAt taskBytes
     length-read =
         let at = taskRow file t + 4 in
-        word-is file at (scriptSize p t) (task-byte at t 4 (omega (arith, task-row-read t)) h (omega arith))
+        word-is file at (scriptSize (p .lengths) t) (task-byte at t 4 (omega (arith, task-row-read t)) h (omega arith))
         (task-byte (at + 1) t 5 (omega (arith, task-row-read t)) h (omega arith))
 
   -- an object row
@@ -158,9 +158,9 @@ module _ (p : Parts) where
     part-read : (t : ℕ) → t < tasksOf p → partAt file t ≡ scriptAt p t
     unfolding partAt scriptAt fileOf
     part-read t h =
-        let a = scriptStart p t in
-        let k = scriptSize p t in
-        let rest = taskTable p ++ (objectTable p ++ trailerBytes p) in
+        let a = scriptStart (p .lengths) t in
+        let k = scriptSize (p .lengths) t in
+        let rest = taskTable p ++ (objectTable p ++ trailer p) in
         let inside = script-inside p (known .whole) t h in
         ap (λ (x : ℕ). take x (drop (startAt file t) file)) (length-read t h) ∙
         (ap (λ (x : ℕ). take k (drop x file)) (start-read t h) ∙
@@ -198,7 +198,7 @@ module _ (p : Parts) where
         and-make _ _ (eq-eqb (length (p .lengths)) (tasksOf p) (known .each))
         (eq-eqb (stepSize * stepsBefore (p .lengths) (tasksOf p)) (length (p .steps)) (known .whole))
 
-    ends-read : (t : ℕ) → t ≤ tasksOf p → scriptsEnd file t ≡ scriptStart p t
+    ends-read : (t : ℕ) → t ≤ tasksOf p → scriptsEnd file t ≡ scriptStart (p .lengths) t
     unfolding scriptsEnd
     ends-read zero h = omega (arith, before-none (p .lengths))
     ends-read (suc t) h = omega (arith, ends-read t (omega arith), length-read t h, before-suc (p .lengths) t)

@@ -25,7 +25,7 @@ tasksOf p = length (p .setup .bases)
 abbrev pub objectsOf : Parts → ℕ
 objectsOf p = length (p .setup .ceilings)
 
--- f 0, f 1, .. up to f (n - 1), one after the other: "with no gaps"
+-- f 0, f 1, .. up to f (n - 1), one after the other
 unfoldable pub rows : ℕ → (ℕ → List ℕ) → List ℕ
 rows zero f = []
 rows (suc n) f = rows n f ++ f n
@@ -36,38 +36,47 @@ stepsBefore lengths zero = 0
 stepsBefore lengths (suc t) = stepsBefore lengths t + getD lengths t 0
 
 -- where task t's script starts and how long it is, in bytes
-abbrev pub scriptStart : Parts → ℕ → ℕ
-scriptStart p t = stepSize * stepsBefore (p .lengths) t
+abbrev pub scriptStart : List ℕ → ℕ → ℕ
+scriptStart lengths t = stepSize * stepsBefore lengths t
 
-abbrev pub scriptSize : Parts → ℕ → ℕ
-scriptSize p t = stepSize * getD (p .lengths) t 0
+abbrev pub scriptSize : List ℕ → ℕ → ℕ
+scriptSize lengths t = stepSize * getD lengths t 0
 
 -- "scripts in task order from byte 0": the bytes of task t's
 unfoldable pub scriptAt : Parts → ℕ → List ℕ
-scriptAt p t = take (scriptSize p t) (drop (scriptStart p t) (p .steps))
+scriptAt p t = take (scriptSize (p .lengths) t) (drop (scriptStart (p .lengths) t) (p .steps))
 
 -- "Task row, 6 bytes: base, 0, script start (2), script length in bytes (2, a multiple of 4)."
-unfoldable pub taskBytes : Parts → ℕ → List ℕ
-taskBytes p t = getD (p .setup .bases) t 0 ∷ 0 ∷ (word (scriptStart p t) ++ word (scriptSize p t))
+unfoldable pub taskBytes : List ℕ → List ℕ → ℕ → List ℕ
+taskBytes bases lengths t = getD bases t 0 ∷ 0 ∷ (word (scriptStart lengths t) ++ word (scriptSize lengths t))
 
 -- "Object row, 2 bytes: ceiling, 0."
-unfoldable pub objectBytes : Parts → ℕ → List ℕ
-objectBytes p o = getD (p .setup .ceilings) o 0 ∷ 0 ∷ []
+unfoldable pub objectBytes : List ℕ → ℕ → List ℕ
+objectBytes ceilings o = getD ceilings o 0 ∷ 0 ∷ []
 
--- "with no gaps: scripts .., task table, object table": where the tables start
+-- "Trailer: 52 35, task count, object count, start of object table (2 bytes), start of task table (2)."
+unfoldable pub trailerBytes : ℕ → ℕ → ℕ → ℕ → List ℕ
+trailerBytes tasks objects objectTable taskTable = firstMark ∷ secondMark ∷ tasks ∷ objects ∷ (word objectTable ++ word taskTable)
+
+-- the tables and the trailer of what is given: the task table starts where the scripts end, the object table where the task table does
+abbrev pub taskTable : Parts → List ℕ
+taskTable p = rows (tasksOf p) (taskBytes (p .setup .bases) (p .lengths))
+
+abbrev pub objectTable : Parts → List ℕ
+objectTable p = rows (objectsOf p) (objectBytes (p .setup .ceilings))
+
 abbrev pub taskStart : Parts → ℕ
 taskStart p = length (p .steps)
 
 abbrev pub objectStart : Parts → ℕ
 objectStart p = taskStart p + taskRowSize * tasksOf p
 
--- "Trailer: 52 35, task count, object count, start of object table (2 bytes), start of task table (2)."
-unfoldable pub trailerBytes : Parts → List ℕ
-trailerBytes p = firstMark ∷ secondMark ∷ tasksOf p ∷ objectsOf p ∷ (word (objectStart p) ++ word (taskStart p))
+abbrev pub trailer : Parts → List ℕ
+trailer p = trailerBytes (tasksOf p) (objectsOf p) (objectStart p) (taskStart p)
 
--- "scripts in task order from byte 0, task table, object table, then an 8-byte trailer"
+-- "with no gaps: scripts in task order from byte 0, task table, object table, then an 8-byte trailer"
 unfoldable pub fileOf : Parts → List ℕ
-fileOf p = p .steps ++ (rows (tasksOf p) (taskBytes p) ++ (rows (objectsOf p) (objectBytes p) ++ trailerBytes p))
+fileOf p = p .steps ++ (taskTable p ++ (objectTable p ++ trailer p))
 
 -- what was given, as a reader tells it
 unfoldable pub given : Parts → Roster

@@ -1,5 +1,6 @@
 pub mod Choices
 pub mod LimitLaws
+pub mod AllLaws
 pub mod Readings
 pub mod Counts
 pub mod Levels

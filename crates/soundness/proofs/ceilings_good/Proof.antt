@@ -8,7 +8,7 @@ use lib.ListN.{length, take, drop}
 use lib.Seq.{length-take-le, getD-take}
 use Rattle.rules.specs.Priorities.{inRange}
 use Rattle.rules.specs.Lists.{allOf}
-use Rattle.memory.proofs.TestLaws.{all-more, all-fails, all-end}
+use Rattle.rules.proofs.AllLaws.{all-more, all-fails, all-end}
 use Rattle.soundness.proofs.ceilings_good.Statement.{statement}
 use Rattle.soundness.proofs.ceilings_good.Tie as tie
 

@@ -14,7 +14,7 @@ use Rattle.rules.proofs.Choices.{clash}
 use Rattle.memory.specs.Memory.{modelOf}
 use Rattle.memory.specs.Rows.{queueIn, queuesIn, queueWidth}
 use Rattle.memory.proofs.GridLaws.{queue-length, queue-size, queue-item, list-count}
-use Rattle.memory.proofs.TestLaws.{all-more, all-fails, all-end}
+use Rattle.rules.proofs.AllLaws.{all-more, all-fails, all-end}
 use Rattle.soundness.specs.Tested.{queueSound, Counted}
 use Rattle.soundness.proofs.CountLaws.{counted-begun, counted-more, counted-done, counted-few}
 use Rattle.soundness.proofs.ClauseLaws.{active-in}

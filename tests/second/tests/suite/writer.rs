@@ -147,10 +147,10 @@ fn is_good(raw: &[u8], tasks: usize, objects: usize, last: bool) -> bool {
     };
     let b_fits = match code {
         3 => true,
-        7 => b >= 1 && b <= 32,
+        7 => (1..=32).contains(&b),
         _ => b == 0,
     };
-    code >= 1 && code <= 8 && a_fits && b_fits && (code != 8 || last)
+    (1..=8).contains(&code) && a_fits && b_fits && (code != 8 || last)
 }
 
 /// The file as the helper of the other tests lays it out.

@@ -10,7 +10,7 @@ use lib.ListN.{length, drop}
 use Rattle.rules.specs.Lists.{allOf}
 use Rattle.memory.specs.Rows.{inRow}
 use Rattle.memory.proofs.RowLaws.{row-item}
-use Rattle.memory.proofs.TestLaws.{all-more, all-fails, all-end}
+use Rattle.rules.proofs.AllLaws.{all-more, all-fails, all-end}
 use Rattle.memory.proofs.rows.all_below.Statement.{statement}
 use Rattle.memory.proofs.rows.all_below.Tie as tie
 

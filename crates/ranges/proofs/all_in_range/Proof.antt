@@ -1,4 +1,4 @@
--- `dispatch::test::all_in_range` meets its contract.
+-- `ranges::all_in_range` meets its contract.
 use mathlib.Core.Path.{_≡_, refl, _∙_, sym}
 use Prim.Native.Nat.{_-_, _≤_}
 use lib.ListN.{length, drop}
@@ -6,9 +6,9 @@ use Rattle.rules.specs.Priorities.{inRange}
 use Rattle.rules.specs.Lists.{allOf}
 use native.Mathlib.Omega.{arith}
 use borrow.Author.Needs.{needs}
-use Rattle.memory.proofs.TestLaws.{all-more, all-fails, all-end}
-use Rattle.dispatch.proofs.test.all_in_range.Statement.{statement}
-use Rattle.dispatch.proofs.test.all_in_range.Tie as tie
+use Rattle.rules.proofs.AllLaws.{all-more, all-fails, all-end}
+use Rattle.ranges.proofs.all_in_range.Statement.{statement}
+use Rattle.ranges.proofs.all_in_range.Tie as tie
 
 abbrev Inv-loop : tie.InvT-loop
 Inv-loop values i₀ i = (i ≤ length values) × (allOf inRange values ≡ allOf inRange (drop i values))

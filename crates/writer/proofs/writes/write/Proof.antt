@@ -1,0 +1,52 @@
+-- `writer::writes::write` meets its contract.
+use mathlib.Core.Path.{_≡_}
+use borrow.Author.Tests.{not-true, not-false}
+use lib.ListN.{length}
+use Rattle.encoding.specs.File.{Parts, parts}
+use Rattle.encoding.specs.Answers.{answerOf}
+use Rattle.encoding.specs.declared.WriteAnswer.the-variants.{Done}
+use Rattle.encoding.proofs.AnswerLaws.{done-answer, buffer-stays, buffer-written}
+use Rattle.writer.proofs.TableLaws.{file-count}
+use borrow.Author.Needs.{needs}
+use Rattle.writer.proofs.writes.write.Statement.{statement}
+use Rattle.writer.proofs.writes.write.Tie as tie
+
+-- what is given, where nothing is refused
+abbrev given : tie.Else1 → Parts
+given c =
+    let a = c .before .before .before .before .before .before .before .before .args in
+    parts (a .bases .now) (a .ceilings .now) (a .lengths .now) (a .steps .now)
+
+goes : (c : tie.Else1) → answerOf (given c) (length (c .before .before .before .before .before .before .before .before .args .out .now)) ≡ Done
+goes c = done-answer (given c) _ _ _ (c .before .before .answer .ensures) (c .before .done .ensures) (not-false _ (c .if1 .left))
+
+answer-requires : tie.Need-answer-requires
+answer-requires c κs = search needs
+
+done-requires : tie.Need-done-requires
+done-requires c κs = search needs
+
+returns : tie.Need-returns
+returns c =
+    let a = c .before .before .before .before .before .before .before .before .args in
+    let p = parts (a .bases .now) (a .ceilings .now) (a .lengths .now) (a .steps .now) in
+    let answer = c .before .before .answer .ensures in
+    (answer, buffer-stays p (a .out .now) _ _ answer (c .before .done .ensures) (not-true _ (c .if1 .taken)))
+
+write-file-requires : tie.Need-write-file-requires
+write-file-requires c κs = goes (c .before)
+
+same-length : tie.Need-same-length
+same-length c =
+    let c4 = c .before .before .before .before in
+    file-count (given c4) _ (goes c4) _ (c .before .before .write-file .ensures)
+
+returns-2 : tie.Need-returns-2
+returns-2 c =
+    let c4 = c .before .before .before .before in
+    (c4 .before .before .answer .ensures, buffer-written (given c4) _ _ (goes c4) (c .before .before .write-file .ensures))
+
+pub write-spec : {M : Type 1} → statement M
+write-spec =
+    tie.close
+    (tie.spec answer-requires done-requires returns write-file-requires same-length returns-2)
