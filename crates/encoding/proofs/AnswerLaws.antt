@@ -167,7 +167,16 @@ module _ (p : Parts) where
     done-answer a b e f g =
         is-done (passed (fileForm p)) (ltb size (length (fileOf p))) refl (ap done (sym e) ∙ (sym f ∙ g))
 
-  -- the buffer, and the part that is handed back
+    -- the part that is handed back
+    pub part-none : (a : WriteAnswer) (b : Bool) → a ≡ answerOf p size → b ≡ done a → b ≡ false → [] ≡ writtenOf p size
+    unfolding writtenOf
+    part-none a b e f g = sym (cond-false (done (answerOf p size)) (fileOf p) [] (ap done (sym e) ∙ (sym f ∙ g)))
+
+    pub part-whole : (v : List ℕ) → answerOf p size ≡ Done → v ≡ fileOf p → v ≡ writtenOf p size
+    unfolding writtenOf
+    part-whole v e f = f ∙ sym (ap (λ (x : WriteAnswer). cond (done x) (fileOf p) []) e)
+
+  -- the buffer
   module _ (out : List ℕ) where
     pub buffer-stays : (a : WriteAnswer) (b : Bool) → a ≡ answerOf p (length out) → b ≡ done a → b ≡ false → out ≡ bufferOf p out
     unfolding bufferOf
@@ -176,11 +185,3 @@ module _ (p : Parts) where
     pub buffer-written : (v : List ℕ) → answerOf p (length out) ≡ Done → v ≡ overFront (fileOf p) out → v ≡ bufferOf p out
     unfolding bufferOf
     buffer-written v e f = f ∙ sym (ap (λ (x : WriteAnswer). cond (done x) (overFront (fileOf p) out) out) e)
-
-    pub part-none : (a : WriteAnswer) (b : Bool) → a ≡ answerOf p (length out) → b ≡ done a → b ≡ false → [] ≡ writtenOf p out
-    unfolding writtenOf
-    part-none a b e f g = sym (cond-false (done (answerOf p (length out))) (fileOf p) [] (ap done (sym e) ∙ (sym f ∙ g)))
-
-    pub part-whole : (v : List ℕ) → answerOf p (length out) ≡ Done → v ≡ fileOf p → v ≡ writtenOf p out
-    unfolding writtenOf
-    part-whole v e f = f ∙ sym (ap (λ (x : WriteAnswer). cond (done x) (fileOf p) []) e)

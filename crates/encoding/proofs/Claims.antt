@@ -23,7 +23,7 @@ refuses-as-read p e f h = as-read p (sizes-of p e f h)
 pub reads-back : ReadsBack
 reads-back p out e =
     let ok = done-file p (length out) e in
-    let file = sym (part-whole p out (fileOf p) e refl) in
+    let file = sym (part-whole p (length out) (fileOf p) e refl) in
     let buffer = sym (buffer-written p out (overFront (fileOf p) out) e refl) in
     record {
       front =

@@ -1,6 +1,7 @@
 pub mod RowLaws
 pub mod FileLaws
 pub mod AnswerLaws
+pub mod PlaceLaws
 pub mod ReadLaws
 pub mod StepLaws
 pub mod EncodingLaws

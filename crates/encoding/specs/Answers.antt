@@ -69,5 +69,5 @@ unfoldable pub bufferOf : Parts → List ℕ → List ℕ
 bufferOf p out = cond (done (answerOf p (length out))) (overFront (fileOf p) out) out
 
 -- "Exactly the written file is returned as the front part of the lent buffer"; "a refusal gives an empty part"
-unfoldable pub writtenOf : Parts → List ℕ → List ℕ
-writtenOf p out = cond (done (answerOf p (length out))) (fileOf p) []
+unfoldable pub writtenOf : Parts → ℕ → List ℕ
+writtenOf p size = cond (done (answerOf p size)) (fileOf p) []

@@ -75,6 +75,6 @@ Answered = map answered cases ≡ map (λ (c : Case). c .says) cases
 pub record WholeWritten : Type 0 where
   pub file : fileOf (whole (10 ∷ 20 ∷ []) (20 ∷ []) (3 ∷ 3 ∷ [])) ≡ wholeCase 20
   pub buffer : bufferOf (whole (10 ∷ 20 ∷ []) (20 ∷ []) (3 ∷ 3 ∷ [])) (replicate 48 7) ≡ wholeCase 20 ++ replicate 2 7
-  pub part : writtenOf (whole (10 ∷ 20 ∷ []) (20 ∷ []) (3 ∷ 3 ∷ [])) (replicate 48 7) ≡ wholeCase 20
+  pub part : writtenOf (whole (10 ∷ 20 ∷ []) (20 ∷ []) (3 ∷ 3 ∷ [])) 48 ≡ wholeCase 20
   pub kept : bufferOf (whole (10 ∷ 20 ∷ []) (20 ∷ []) (3 ∷ 3 ∷ [])) (replicate 45 7) ≡ replicate 45 7
-  pub none : writtenOf (whole (10 ∷ 20 ∷ []) (20 ∷ []) (3 ∷ 3 ∷ [])) (replicate 45 7) ≡ []
+  pub none : writtenOf (whole (10 ∷ 20 ∷ []) (20 ∷ []) (3 ∷ 3 ∷ [])) 45 ≡ []

@@ -19,9 +19,9 @@ use Rattle.encoding.specs.declared.WriteAnswer.the-variants.{Done}
 -- "What is written reads back as what was given": it is the front part of the buffer, has its form, and says the bases, ceilings and
 -- steps that were given
 pub record ReadBack (p : Parts) (out : List ℕ) : Type 0 where
-  pub front : take (length (writtenOf p out)) (bufferOf p out) ≡ writtenOf p out
-  pub form : formOf (writtenOf p out) ≡ Passed
-  pub says : rosterOf (writtenOf p out) ≡ given p
+  pub front : take (length (writtenOf p (length out))) (bufferOf p out) ≡ writtenOf p (length out)
+  pub form : formOf (writtenOf p (length out)) ≡ Passed
+  pub says : rosterOf (writtenOf p (length out)) ≡ given p
 
 abbrev pub ReadsBack : Type 0
 ReadsBack = (p : Parts) (out : List ℕ) → answerOf p (length out) ≡ Done → ReadBack p out

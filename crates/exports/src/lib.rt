@@ -11,6 +11,7 @@ use packed::pack;
 mod boards;
 mod readers;
 mod states;
+mod writing;
 
 // The form of a roster: number, 256 times the task, 65536 times the step.
 #[no_mangle]

@@ -27,11 +27,11 @@ use Rattle.format.proofs.FormatLaws.{script-listed, script-count}
 use Rattle.format.proofs.FormLaws.{form-1}
 
 -- a choice and a search name no later position than what they choose from
-either : (b : Bool) (v w : Verdict) (n : ℕ) → positionOf v ≤ n → positionOf w ≤ n → positionOf (cond b v w) ≤ n
+pub either : (b : Bool) (v w : Verdict) (n : ℕ) → positionOf v ≤ n → positionOf w ≤ n → positionOf (cond b v w) ≤ n
 either true v w n h g = h
 either false v w n h g = g
 
-first-low : (f : ℕ → Verdict) (n most : ℕ) → ((i : ℕ) → i < n → positionOf (f i) ≤ most) → positionOf (first n f) ≤ most
+pub first-low : (f : ℕ → Verdict) (n most : ℕ) → ((i : ℕ) → i < n → positionOf (f i) ≤ most) → positionOf (first n f) ≤ most
 unfolding first
 first-low f zero most h = omega arith
 first-low f (suc n) most h =
@@ -42,19 +42,23 @@ unfolding partAt
 part-low s t =
     omega (arith, length-take (lengthAt s t) (drop (startAt s t) s), length-drop (startAt s t) s)
 
-module _ (s : List ℕ) where
-  step-low : (n m t : ℕ) (part : List ℕ) (k : ℕ) → positionOf (stepForm n m t part k) ≤ k
-  unfolding stepForm
-  step-low n m t part k =
-      either (stepGood n m (eqb (suc k) (stepCount part)) (aAt part k) (bAt part k) (stepAt part k)) Passed (BadStep t k) k
-      (omega arith) (omega arith)
+step-low : (n m t : ℕ) (part : List ℕ) (k : ℕ) → positionOf (stepForm n m t part k) ≤ k
+unfolding stepForm
+step-low n m t part k =
+    either (stepGood n m (eqb (suc k) (stepCount part)) (aAt part k) (bAt part k) (stepAt part k)) Passed (BadStep t k) k
+    (omega arith) (omega arith)
 
+pub steps-low : (n m t : ℕ) (part : List ℕ) → positionOf (stepsForm n m t part) ≤ stepCount part
+unfolding stepsForm
+steps-low n m t part =
+    first-low (stepForm n m t part) (stepCount part) (stepCount part) (λ k i. omega (arith, step-low n m t part k))
+
+module _ (s : List ℕ) where
   pub form-low : positionOf (formOf s) ≤ length s
-  unfolding formOf scriptsForm scriptForm stepsForm
+  unfolding formOf scriptsForm scriptForm
   form-low =
       let steps = first-low (scriptForm s) (taskCount s) (length s) (λ t g.
-      first-low (stepForm (taskCount s) (objectCount s) t (partAt s t)) (stepCount (partAt s t)) (length s) (λ k i.
-      omega (arith, step-low (taskCount s) (objectCount s) t (partAt s t) k, part-low s t))) in
+      omega (arith, steps-low (taskCount s) (objectCount s) t (partAt s t), part-low s t)) in
       either (not (lengthGood s)) BadLength _ (length s) (omega arith)
       (either (not (markGood s)) BadMark _ (length s) (omega arith)
       (either (not (countsKept s)) BadCounts _ (length s) (omega arith)

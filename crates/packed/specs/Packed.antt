@@ -17,6 +17,12 @@ use Rattle.format.specs.declared.StepFound.{StepFound}
 use Rattle.format.specs.declared.StepFound.the-variants as S
 use Rattle.trace.specs.Answers as Run
 use Rattle.trace.specs.declared.RunAnswer.{RunAnswer}
+use Rattle.encoding.specs.Answers as Write
+use Rattle.encoding.specs.declared.WriteAnswer.{WriteAnswer}
+
+-- a step's position is below 2 to the 16: a roster is shorter, and the writer's lengths have 16 bits
+abbrev pub lastPosition : ℕ
+lastPosition = 65535
 
 -- an answer in one number: its own in the lowest byte, the task in the next, the step above
 unfoldable pub packed : ℕ → ℕ → ℕ → ℕ
@@ -27,6 +33,9 @@ packedVerdict v = packed (numberOf v) (taskOf v) (positionOf v)
 
 abbrev pub packedRun : RunAnswer → ℕ
 packedRun a = packed (Run.numberOf a) (Run.taskOf a) (Run.positionOf a)
+
+abbrev pub packedWrite : WriteAnswer → ℕ
+packedWrite a = packed (Write.numberOf a) (Write.taskOf a) (Write.positionOf a)
 
 -- where a task's script starts, or 0 on a refusal; its length is that of the part
 unfoldable pub scriptStart : List ℕ → ℕ → ℕ

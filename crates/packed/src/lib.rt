@@ -2,15 +2,14 @@
 // what a reader of a roster finds.
 ghost use mathlib.Core.Path.{_≡_};
 ghost use Prim.Native.Nat.{_<_, _≤_};
-ghost use Rattle.rules.specs.Limits.{largestRoster};
-ghost use Rattle.packed.specs.Packed.{packed, packedPriority, stepWord, wordOf, packedStep};
+ghost use Rattle.packed.specs.Packed.{lastPosition, packed, packedPriority, stepWord, wordOf, packedStep};
 use format::PriorityFound;
 use format::Step;
 use format::StepFound;
 
 // An answer: its number, 256 times the task, 65536 times the step.
 pub fn pack(number: u8, task: u8, position: usize) -> u64
-    requires { ⌜ position ≤ largestRoster ⌝ }
+    requires { ⌜ position ≤ lastPosition ⌝ }
     ensures { λ r. ⌜ r ≡ packed number task position ⌝ }
 {
     number as u64 + 256 * task as u64 + 65536 * position as u64

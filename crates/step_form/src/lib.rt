@@ -109,7 +109,14 @@ pub struct Formed {
 }
 
 // 16, of one script.
-pub fn steps_form(limits: &[u8], tasks: u8, objects: u8, t: u8, base: Priority, part: &[u8]) -> Formed
+pub fn steps_form(
+    limits: &[u8],
+    tasks: u8,
+    objects: u8,
+    t: u8,
+    base: Priority,
+    part: &[u8],
+) -> Formed
     requires { ⌜ Limited tasks objects (now limits) ⌝ }
     ensures { λ r. ⌜ r .verdict ≡ stepsForm tasks objects t (now (part .entry)) ⌝ }
     ensures { λ r. ⌜ (r .verdict ≡ Passed → r .top .0 ≡ topOf t (base .0) (stepsOf (now (part .entry)))) ⌝ }

@@ -7,7 +7,7 @@ ghost use Rattle.rules.specs.Limits.{taskLimit, objectLimit, largestRoster};
 ghost use Rattle.rules.specs.Fresh.{setupCounted, setupInRange};
 ghost use Rattle.format.specs.Limits.{taskRowSize, objectRowSize, trailerSize};
 ghost use Rattle.encoding.specs.File.{parts, stepsBefore};
-ghost use Rattle.encoding.specs.Answers.{lengthsGood, scriptsForm, partsForm, fileForm, answerOf};
+ghost use Rattle.encoding.specs.Answers.{lengthsGood, scriptsForm, partsForm, fileForm, answerOf, writtenOf};
 use encoding::WriteAnswer;
 use format::File;
 use format::Verdict;
@@ -101,10 +101,7 @@ pub fn size(tasks: usize, objects: usize, steps: usize) -> usize
     requires { ⌜ steps ≤ largestRoster ⌝ }
     ensures { λ r. ⌜ r ≡ steps + taskRowSize * tasks + objectRowSize * objects + trailerSize ⌝ }
 {
-    steps
-        + File::TASK_ROW as usize * tasks
-        + File::OBJECT_ROW as usize * objects
-        + File::TRAILER
+    steps + File::TASK_ROW as usize * tasks + File::OBJECT_ROW as usize * objects + File::TRAILER
 }
 
 // 13, 14, 15, 16, then 11.
@@ -127,7 +124,13 @@ fn file_form(bases: &[u8], ceilings: &[u8], lengths: &[u16], steps: &[u8]) -> Ve
 }
 
 // 13, 14, 15, 16, then 11, then 22 for a buffer of `room` bytes.
-pub fn answer(bases: &[u8], ceilings: &[u8], lengths: &[u16], steps: &[u8], room: usize) -> WriteAnswer
+pub fn answer(
+    bases: &[u8],
+    ceilings: &[u8],
+    lengths: &[u16],
+    steps: &[u8],
+    room: usize,
+) -> WriteAnswer
     ensures { λ r. ⌜ r ≡ answerOf (parts (now (bases .entry)) (now (ceilings .entry)) (now (lengths .entry)) (now (steps .entry))) room ⌝ }
 {
     let v = file_form(bases, ceilings, lengths, steps);
@@ -139,4 +142,16 @@ pub fn answer(bases: &[u8], ceilings: &[u8], lengths: &[u16], steps: &[u8], room
         return WriteAnswer::ShortBuffer;
     }
     WriteAnswer::Done
+}
+
+// How many bytes are written into a buffer of `room` bytes; 0 on a refusal.
+pub fn length(bases: &[u8], ceilings: &[u8], lengths: &[u16], steps: &[u8], room: usize) -> usize
+    ensures { λ r.
+        ⌜ r ≡ length (writtenOf (parts (now (bases .entry)) (now (ceilings .entry)) (now (lengths .entry)) (now (steps .entry))) room) ⌝ }
+{
+    let a = answer(bases, ceilings, lengths, steps, room);
+    if !a.done() {
+        return 0;
+    }
+    size(bases.len(), ceilings.len(), steps.len())
 }

@@ -4,5 +4,6 @@ mod tables;
 mod writes;
 
 pub use answers::answer;
+pub use answers::length;
 pub use writes::write;
 pub use writes::written;

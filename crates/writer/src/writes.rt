@@ -26,11 +26,23 @@ fn write_file(bases: &[u8], ceilings: &[u8], lengths: &[u16], steps: &[u8], out:
     tables::write_scripts(steps, out);
     tables::write_tasks(bases, lengths, &mut out[table..]);
     tables::write_objects(ceilings, &mut out[objects..]);
-    tables::write_trailer(n as u8, m as u8, objects as u16, table as u16, &mut out[end..]);
+    tables::write_trailer(
+        n as u8,
+        m as u8,
+        objects as u16,
+        table as u16,
+        &mut out[end..],
+    );
 }
 
 // Writes the file at the front of the buffer, or nothing, and answers.
-pub fn write(bases: &[u8], ceilings: &[u8], lengths: &[u16], steps: &[u8], out: &mut [u8]) -> WriteAnswer
+pub fn write(
+    bases: &[u8],
+    ceilings: &[u8],
+    lengths: &[u16],
+    steps: &[u8],
+    out: &mut [u8],
+) -> WriteAnswer
     ensures { λ r.
         ⌜ r ≡
         answerOf (parts (now (bases .entry)) (now (ceilings .entry)) (now (lengths .entry)) (now (steps .entry)))
@@ -48,10 +60,17 @@ pub fn write(bases: &[u8], ceilings: &[u8], lengths: &[u16], steps: &[u8], out: 
 }
 
 // Writes, and hands back exactly the written file, the front part of the buffer; empty on a refusal, whose number `answer` tells.
-pub fn written<'a>(bases: &[u8], ceilings: &[u8], lengths: &[u16], steps: &[u8], out: &'a mut [u8]) -> &'a mut [u8]
+pub fn written<'a>(
+    bases: &[u8],
+    ceilings: &[u8],
+    lengths: &[u16],
+    steps: &[u8],
+    out: &'a mut [u8],
+) -> &'a mut [u8]
     ensures { λ r.
         ⌜ now r ≡
-        writtenOf (parts (now (bases .entry)) (now (ceilings .entry)) (now (lengths .entry)) (now (steps .entry))) (now (out .entry)) ⌝ }
+        writtenOf (parts (now (bases .entry)) (now (ceilings .entry)) (now (lengths .entry)) (now (steps .entry)))
+        (length (now (out .entry))) ⌝ }
 {
     let a = answers::answer(bases, ceilings, lengths, steps, out.len());
     if !a.done() {

@@ -69,7 +69,7 @@ fn judge_steps(parts: &Parts) -> Result<(), Refusal> {
     Ok(())
 }
 
-/// The lent steps cut into scripts. Lengths that reach past them, refused with 14, get what is left.
+/// The lent steps cut into scripts. Lengths that reach past them, which are 14, get what is left.
 fn scripts(parts: &Parts) -> Vec<&[u8]> {
     let mut rest = parts.steps.as_slice();
     let mut scripts = Vec::new();

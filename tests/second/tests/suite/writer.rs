@@ -68,10 +68,8 @@ fn changed(change: impl Fn(&mut Parts)) -> Parts {
 /// 64 tasks and 32 objects in 60,000 bytes: 63 scripts of 232 steps and one of 270.
 fn full() -> Parts {
     let task = |t: u16| {
-        (
-            1 + t as u8 % 32,
-            vec![delay(t); if t == 63 { 270 } else { 232 }],
-        )
+        let steps = if t == 63 { 270 } else { 232 };
+        (1 + t as u8 % 32, vec![delay(t); steps])
     };
     let tasks: Vec<RawTask> = (0..64).map(task).collect();
     let ceilings: Vec<u8> = (1..=32).collect();
@@ -98,10 +96,12 @@ fn nothing(number: u8) -> (Given, Vec<u8>) {
 
 // The answers once more, from the words of the papers.
 
+/// How many bytes the file has: trailer, object rows, task rows and steps.
 pub fn size(parts: &Parts) -> usize {
     8 + 2 * parts.ceilings.len() + 6 * parts.bases.len() + parts.steps.len()
 }
 
+/// The answer with its place.
 pub fn reckoned(parts: &Parts, room: usize) -> Given {
     let (tasks, objects) = (parts.bases.len(), parts.ceilings.len());
     if tasks == 0 || tasks > 64 || objects > 32 {
@@ -137,6 +137,7 @@ fn first_bad(parts: &Parts) -> Option<(usize, usize)> {
     None
 }
 
+/// Whether a step fits the lines of document 01 in a roster of that many tasks and objects.
 fn is_good(raw: &[u8], tasks: usize, objects: usize, last: bool) -> bool {
     let (code, a) = (raw[0], usize::from(raw[1]));
     let b = usize::from(raw[2]) + 256 * usize::from(raw[3]);
@@ -185,11 +186,9 @@ fn the_whole_case_is_written_from_its_parts() {
 
 #[test]
 fn small_parts_are_laid_out_as_worked_out_by_hand() {
-    let bytes = hex(
-        "04000000 05000000 03000302 0A0000000800 140008000400 1900 1E00 \
-                     5235020218000C00",
-    );
-    assert_eq!((file(&small()), length(&small())), (bytes, 36));
+    let rows = "0A0000000800 140008000400 1900 1E00";
+    let bytes = ["04000000 05000000 03000302", rows, "5235020218000C00"].concat();
+    assert_eq!((file(&small()), length(&small())), (hex(&bytes), 36));
     // All steps belong to the second task; the empty script starts at 0 and the other too.
     let parts = changed(|parts| parts.lengths = vec![0, 3]);
     assert_eq!(file(&parts)[12..24], hex("0A0000000000 140000000C00"));
@@ -284,12 +283,8 @@ fn lengths_that_do_not_add_up_to_the_lent_steps_are_14() {
     for first in 0..6 {
         for second in 0..6 {
             let parts = changed(|parts| parts.lengths = vec![first, second]);
-            let expected = if first + second == 3 {
-                DONE
-            } else {
-                (14, 0, 0)
-            };
-            assert_eq!(judged(&parts), expected, "{first}, {second}");
+            let number = if first + second == 3 { 0 } else { 14 };
+            assert_eq!(judged(&parts), (number, 0, 0), "{first}, {second}");
         }
     }
     // The lengths are 2 and 1: any other number of bytes, whole steps or not.
@@ -635,11 +630,7 @@ fn of_all_answers_that_apply_the_first_in_their_order_is_given() {
         };
         assert_eq!(judged(&parts), expected, "{numbers:?}");
         // With too little room as well.
-        let short = if first.is_none() {
-            (22, 0, 0)
-        } else {
-            expected
-        };
+        let short = first.map_or((22, 0, 0), |_| expected);
         for room in [0, size(&parts) - 1] {
             assert_eq!(written(&parts, room), (short, vec![]), "{numbers:?}");
         }

@@ -3,7 +3,7 @@ use mathlib.Core.Path.{_≡_, ap, sym, _∙_}
 use native.Mathlib.Omega.{arith}
 use borrow.Author.Tests.{not-true, not-false}
 use lib.ListN.{length}
-use Rattle.encoding.specs.File.{Parts, parts}
+use Rattle.encoding.specs.File.{Parts, parts, fileOf}
 use Rattle.encoding.specs.Answers.{answerOf}
 use Rattle.encoding.specs.declared.WriteAnswer.the-variants.{Done}
 use Rattle.encoding.proofs.FileLaws.{file-length}
@@ -37,12 +37,12 @@ returns c =
     let c1 = c .before in
     let a = c1 .before .before .before .before .before .before .before .before .args in
     let p = parts (a .bases .now) (a .ceilings .now) (a .lengths .now) (a .steps .now) in
-    part-none p (a .out .now) _ _ (c1 .before .before .answer .ensures) (c1 .before .done .ensures) (not-true _ (c1 .if1 .taken))
+    part-none p _ _ _ (c1 .before .before .answer .ensures) (c1 .before .done .ensures) (not-true _ (c1 .if1 .taken))
 
 size-requires : tie.Need-size-requires
 size-requires c κs =
     let p = given c in
-    let k = known p _ (goes c) in
+    let k = known p (c .before .before .before .before .before .before .before .before .args .out .now) (goes c) in
     (k .counts .tasks, (k .counts .objects, omega (arith, file-length p, k .small)))
 
 write-file-requires : tie.Need-write-file-requires
@@ -51,15 +51,18 @@ write-file-requires c κs = goes (c .before .before)
 slice-aggregate-result-2 : tie.Need-slice-aggregate-result-2
 slice-aggregate-result-2 c =
     let c5 = c .before .before .before .before .before in
-    let n = c5 .size .ensures ∙ sym (file-length (given (c5 .before))) in
-    n ∙ sym (ap length (over-taken _ _ _ _ (c .before .before .before .write-file .ensures) n))
+    let p = given (c5 .before) in
+    let out = c5 .before .before .before .before .before .before .before .before .before .args .out .now in
+    let n = c5 .size .ensures ∙ sym (file-length p) in
+    n ∙ sym (ap length (over-taken (fileOf p) out _ _ (c .before .before .before .write-file .ensures) n))
 
 returns-2 : tie.Need-returns-2
 returns-2 c =
     let c5 = c .before .before .before .before .before in
     let p = given (c5 .before) in
     let n = c5 .size .ensures ∙ sym (file-length p) in
-    part-whole p _ _ (goes (c5 .before)) (over-taken _ _ _ _ (c .before .before .before .write-file .ensures) n)
+    let out = c5 .before .before .before .before .before .before .before .before .before .args .out .now in
+    part-whole p _ _ (goes (c5 .before)) (over-taken (fileOf p) out _ _ (c .before .before .before .write-file .ensures) n)
 
 pub written-spec : {M : Type 1} → statement M
 written-spec =
