@@ -7,13 +7,14 @@ use lib.Seq.{take-append-seam}
 use Rattle.words.specs.Words.{Bytes, overFront}
 use Rattle.format.specs.Roster.{Roster, rosterOf}
 use Rattle.format.specs.Form.{formOf}
-use Rattle.format.specs.declared.Verdict.the-variants.{Passed}
+use Rattle.format.specs.declared.Verdict.the-variants.{Passed, BadLength}
 use Rattle.encoding.specs.File.{Parts, fileOf}
 use Rattle.encoding.specs.Answers.{bufferOf}
 use Rattle.encoding.specs.Encoding.{partsOf}
-use Rattle.encoding.specs.Claims.{ReadBack, ReadsBack, RefusesAsRead, OneEncoding, Rewritten, WritesAgain}
+use Rattle.encoding.specs.Claims.{ReadBack, ReadsBack, RefusesAsRead, LengthBeforeRoom, OneEncoding, Rewritten, WritesAgain}
 use Rattle.encoding.proofs.FileLaws.{Sizes}
-use Rattle.encoding.proofs.AnswerLaws.{sizes-of, sizes, file-parts, file-passes, done-file, answer-done, buffer-written, part-whole}
+use Rattle.encoding.proofs.AnswerLaws.{sizes-of, sizes, file-long, file-parts, file-passes, done-file, answer-refused}
+use Rattle.encoding.proofs.AnswerLaws.{answer-done, buffer-written, part-whole}
 use Rattle.encoding.proofs.ReadLaws.{as-read, file-given}
 use Rattle.encoding.proofs.EncodingLaws.{encoded, read-sizes}
 
@@ -32,6 +33,9 @@ reads-back p out e =
       form = ap formOf file ∙ (as-read p (sizes p ok) ∙ file-parts p ok);
       says = ap rosterOf file ∙ file-given p (sizes p ok);
     }
+
+pub length-before-room : LengthBeforeRoom
+length-before-room p size e h = sym (answer-refused p size BadLength _ (file-long p e h) refl refl)
 
 pub one-encoding : OneEncoding
 one-encoding s u sb ub sp up =

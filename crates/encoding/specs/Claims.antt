@@ -3,18 +3,18 @@ use mathlib.Core.Path.{_≡_}
 use mathlib.Core.Logic.{_↔_}
 use mathlib.Core.Bool.{true}
 use mathlib.Core.List.{List}
-use Prim.Native.Nat.{ℕ, _≤_}
+use Prim.Native.Nat.{ℕ, _≤_, _<_}
 use lib.ListN.{length, take}
 use Rattle.rules.specs.Limits.{largestRoster}
 use Rattle.rules.specs.Fresh.{setupCounted}
 use Rattle.words.specs.Words.{Bytes}
 use Rattle.format.specs.Roster.{rosterOf}
 use Rattle.format.specs.Form.{formOf}
-use Rattle.format.specs.declared.Verdict.the-variants.{Passed}
+use Rattle.format.specs.declared.Verdict.the-variants.{Passed, BadLength}
 use Rattle.encoding.specs.File.{Parts, fileOf, given}
 use Rattle.encoding.specs.Answers.{lengthsGood, partsForm, answerOf, bufferOf, writtenOf}
 use Rattle.encoding.specs.Encoding.{partsOf}
-use Rattle.encoding.specs.declared.WriteAnswer.the-variants.{Done}
+use Rattle.encoding.specs.declared.WriteAnswer.the-variants.{Done, Refused}
 
 -- "What is written reads back as what was given": it is the front part of the buffer, has its form, and says the bases, ceilings and
 -- steps that were given
@@ -32,6 +32,11 @@ abbrev pub RefusesAsRead : Type 0
 RefusesAsRead =
     (p : Parts) → setupCounted (p .setup) ≡ true → lengthsGood p ≡ true → length (fileOf p) ≤ largestRoster →
     formOf (fileOf p) ≡ partsForm p
+
+-- "then 11 if the file would pass its limit, then 22": a file that is too long is refused with 11, whatever the room
+abbrev pub LengthBeforeRoom : Type 0
+LengthBeforeRoom =
+    (p : Parts) (size : ℕ) → partsForm p ≡ Passed → largestRoster < length (fileOf p) → answerOf p size ≡ Refused BadLength
 
 -- "two rosters that pass 11 to 16 have the same bases, ceilings and steps exactly when their bytes agree"
 abbrev pub OneEncoding : Type 0

@@ -2,8 +2,6 @@
 mod checks;
 mod forms;
 mod held;
-mod limits;
-mod own;
 mod parts;
 mod readers;
 mod scripts;

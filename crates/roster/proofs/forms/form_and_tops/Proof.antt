@@ -9,7 +9,7 @@ use Rattle.format.specs.Format.{taskCount}
 use Rattle.format.specs.Form.{lengthGood, markGood, countsKept, layoutGood, valuesGood}
 use Rattle.format.specs.declared.Verdict.the-variants.{BadLength, BadMark, BadCounts, BadLayout, BadValues}
 use Rattle.format.proofs.FormLaws.{form-1, form-2, form-3, form-4, form-5, form-6}
-use Rattle.roster.proofs.CheckLaws.{unpassed}
+use Rattle.step_form.proofs.OwnLaws.{unpassed}
 use Rattle.roster.proofs.TopLaws.{tops-fit}
 use borrow.Author.Needs.{needs}
 use Rattle.roster.proofs.forms.form_and_tops.Statement.{statement}

@@ -11,8 +11,8 @@ use Rattle.format.specs.declared.Verdict.the-variants.{Passed}
 use Rattle.format.proofs.TestLaws.{turn-finds, turn-passes, turns-pass, passed-is}
 use Rattle.format.proofs.FormLaws.{script-form, script-inside, task-row-inside}
 use Rattle.format.proofs.AnswerLaws.{script-top}
+use Rattle.step_form.proofs.OwnLaws.{unpassed}
 use Rattle.roster.specs.Tops.{ToppedTo}
-use Rattle.roster.proofs.CheckLaws.{unpassed}
 use Rattle.roster.proofs.TopLaws.{topped-none, topped-more, topped-all}
 use Rattle.roster.proofs.forms.scripts_form.Statement.{statement}
 use Rattle.roster.proofs.forms.scripts_form.Tie as tie
