@@ -5,14 +5,17 @@ with System;
 
 package body Dispatcher is
 
-   --  The address of a slice without elements is never followed, but it must not be null.
-   Nowhere : aliased constant Unsigned_8 := 0;
+   --  The address of a slice without elements is never followed, but it must not be null, and that of lengths is aligned.
+   Nowhere : aliased constant Unsigned_16 := 0;
 
    function Start (B : Bytes) return System.Address is
      (if B'Length = 0 then Nowhere'Address else B (B'First)'Address);
 
    function Start (B : Board) return System.Address is
      (if B'Length = 0 then Nowhere'Address else B (B'First)'Address);
+
+   function Start (L : Length_List) return System.Address is
+     (if L'Length = 0 then Nowhere'Address else L (L'First)'Address);
 
    function Answered (Number : Unsigned_8) return Answer is (Answer'Val (Number));
 
@@ -25,8 +28,8 @@ package body Dispatcher is
       At_Task => Task_Number (Value_In (Packed) mod 256),
       At_Step => Step_Number (Packed / 65536));
 
-   --  A list as bytes for a fresh start. What is over 255 is no priority, nor is 255; a list of more than Count_Limit elements is
-   --  too long, and so is one of Count_Limit.
+   --  A list as bytes for a fresh start or a writing. What is over 255 is no priority, nor is 255; a list of more than Count_Limit
+   --  elements is too long, and so is one of Count_Limit.
    Count_Limit : constant := Task_Limit + 1;
    subtype Short is Bytes (1 .. Count_Limit);
 
@@ -257,5 +260,103 @@ package body Dispatcher is
           (Call
              (Start (Roster), Roster'Length, Start (Events), Events'Length, Start (Buffer), Buffer'Length));
    end Run;
+
+   function Bytes_Of (Steps : Step_List) return Bytes is
+      Result  : Bytes (0 .. Step_Size * Steps'Length - 1);
+      At_Byte : Natural := 0;
+   begin
+      for S of Steps loop
+         Result (At_Byte) := Unsigned_8 (Step_Code'Pos (S.Code));
+         Result (At_Byte + 1) := S.A;
+         Result (At_Byte + 2) := Unsigned_8 (S.B mod 2**8);
+         Result (At_Byte + 3) := Unsigned_8 (S.B / 2**8);
+         At_Byte := At_Byte + Step_Size;
+      end loop;
+      return Result;
+   end Bytes_Of;
+
+   procedure Write
+     (Bases    : Priority_List;
+      Ceilings : Priority_List;
+      Lengths  : Length_List;
+      Steps    : Bytes;
+      Buffer   : in out Bytes;
+      Result   : out Verdict)
+   is
+      function Call
+        (Bases         : System.Address;
+         Tasks         : size_t;
+         Ceilings      : System.Address;
+         Objects       : size_t;
+         Lengths       : System.Address;
+         Lengths_Count : size_t;
+         Steps         : System.Address;
+         Steps_Length  : size_t;
+         Buffer        : System.Address;
+         Buffer_Length : size_t) return Unsigned_64
+        with Import, Convention => C, External_Name => "dispatch_write";
+      B : constant Short := Shortened (Bases);
+      C : constant Short := Shortened (Ceilings);
+   begin
+      Result :=
+        Unpacked
+          (Call
+             (B'Address, size_t (Length_Of (Bases)), C'Address, size_t (Length_Of (Ceilings)), Start (Lengths), Lengths'Length,
+              Start (Steps), Steps'Length, Start (Buffer), Buffer'Length));
+   end Write;
+
+   function Write_Answer
+     (Bases : Priority_List; Ceilings : Priority_List; Lengths : Length_List; Steps : Bytes; Room : Natural) return Verdict
+   is
+      function Call
+        (Bases         : System.Address;
+         Tasks         : size_t;
+         Ceilings      : System.Address;
+         Objects       : size_t;
+         Lengths       : System.Address;
+         Lengths_Count : size_t;
+         Steps         : System.Address;
+         Steps_Length  : size_t;
+         Room          : Unsigned_64) return Unsigned_64
+        with Import, Convention => C, External_Name => "dispatch_write_answer";
+      B : constant Short := Shortened (Bases);
+      C : constant Short := Shortened (Ceilings);
+   begin
+      return
+        Unpacked
+          (Call
+             (B'Address, size_t (Length_Of (Bases)), C'Address, size_t (Length_Of (Ceilings)), Start (Lengths), Lengths'Length,
+              Start (Steps), Steps'Length, Unsigned_64 (Room)));
+   end Write_Answer;
+
+   procedure Written
+     (Bases    : Priority_List;
+      Ceilings : Priority_List;
+      Lengths  : Length_List;
+      Steps    : Bytes;
+      Buffer   : in out Bytes;
+      Length   : out Natural)
+   is
+      function Call
+        (Bases         : System.Address;
+         Tasks         : size_t;
+         Ceilings      : System.Address;
+         Objects       : size_t;
+         Lengths       : System.Address;
+         Lengths_Count : size_t;
+         Steps         : System.Address;
+         Steps_Length  : size_t;
+         Buffer        : System.Address;
+         Buffer_Length : size_t) return Unsigned_64
+        with Import, Convention => C, External_Name => "dispatch_written";
+      B : constant Short := Shortened (Bases);
+      C : constant Short := Shortened (Ceilings);
+   begin
+      Length :=
+        Natural
+          (Call
+             (B'Address, size_t (Length_Of (Bases)), C'Address, size_t (Length_Of (Ceilings)), Start (Lengths), Lengths'Length,
+              Start (Steps), Steps'Length, Start (Buffer), Buffer'Length));
+   end Written;
 
 end Dispatcher;

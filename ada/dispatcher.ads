@@ -2,7 +2,7 @@
 --
 --  Every function answers for any bytes of any length. An event whose answer is not Done leaves the state as it was.
 --  Numbers of different kinds have different types. Each is as wide as a caller can need: one that is out of the dispatcher's
---  range is taken and refused by the dispatcher's own rule, never cut. Only a Delay's ticks end at 16 bits.
+--  range is taken and refused by the dispatcher's own rule, never cut. Only a Delay's ticks and a script's length end at 16 bits.
 
 with Interfaces; use Interfaces;
 
@@ -126,7 +126,7 @@ package Dispatcher with Preelaborate is
    --  The next row, counted from 0, or Nobody_Row; refused with Bad_Counts or Bad_Priority, and Nobody_Row beside it.
    procedure Next (B : Board; Row : out Row_Number; Result : out Answer);
 
-   --  What a roster's form or check or a run answers; the place is 0, 0 unless a fault is named.
+   --  What a roster's form or check, a run or a writing answers; the place is 0, 0 unless a fault is named.
    type Verdict is record
       Number  : Answer;
       At_Task : Task_Number;
@@ -158,5 +158,37 @@ package Dispatcher with Preelaborate is
    --  run writes nothing.
    Reply_Size : constant := 3;
    procedure Run (Roster : Bytes; Events : Bytes; Buffer : in out Bytes; Result : out Verdict);
+
+   --  What a roster is written from, beside its bases and ceilings: how many steps each script has, a larger number raising
+   --  Constraint_Error; and the bytes of the steps, all scripts one after the other in task order.
+   Step_Size : constant := 4;
+   type Script_Length is range 0 .. 65_535 with Size => 16;
+   type Length_List is array (Natural range <>) of aliased Script_Length with Component_Size => 16;
+   type Step_List is array (Natural range <>) of Step;
+   function Bytes_Of (Steps : Step_List) return Bytes;
+
+   --  Writes a roster at the front of Buffer; bytes past it stay. Refused with Bad_Counts; Bad_Layout for lengths that are not one
+   --  per base or do not add up to the steps; Bad_Values; Bad_Step; then Bad_Length for more than Largest_Roster bytes; then
+   --  Short_Buffer for a buffer that is shorter than the roster: nothing is written then. While_Held to Other_Task are left to Check.
+   procedure Write
+     (Bases    : Priority_List;
+      Ceilings : Priority_List;
+      Lengths  : Length_List;
+      Steps    : Bytes;
+      Buffer   : in out Bytes;
+      Result   : out Verdict);
+
+   --  What Write answers with a buffer of Room bytes.
+   function Write_Answer
+     (Bases : Priority_List; Ceilings : Priority_List; Lengths : Length_List; Steps : Bytes; Room : Natural) return Verdict;
+
+   --  Writes as Write does; Length is how many bytes the roster at the front of Buffer has, 0 on a refusal, which Write_Answer tells.
+   procedure Written
+     (Bases    : Priority_List;
+      Ceilings : Priority_List;
+      Lengths  : Length_List;
+      Steps    : Bytes;
+      Buffer   : in out Bytes;
+      Length   : out Natural);
 
 end Dispatcher;

@@ -1,4 +1,5 @@
---  A caller of every kind of function through the Ada package: a state and its events, a board, a roster's check and readers, a run.
+--  A caller of every kind of function through the Ada package: a state and its events, a board, a roster's check and readers, a run,
+--  and a roster written from its parts.
 
 with Ada.Text_IO; use Ada.Text_IO;
 with Dispatcher; use Dispatcher;
@@ -89,6 +90,19 @@ procedure Example is
       Put_Line ("next:" & Integer'Image (Answer'Pos (Result)) & ", row" & Row_Number'Image (Head));
    end State_And_Board;
 
+   procedure Show_Run (Lent : Bytes) is
+      Replies : Bytes (1 .. Events'Length / 8 * Reply_Size) := (others => 0);
+      V       : Verdict;
+   begin
+      Run (Lent, Events, Replies, V);
+      Show ("run", V);
+      Put ("replies:");
+      for I in Replies'Range loop
+         Put ((if I > 1 and then I mod Reply_Size = 1 then "," else "") & Unsigned_8'Image (Replies (I)));
+      end loop;
+      New_Line;
+   end Show_Run;
+
    procedure Roster_And_Run is
       Low     : Bytes := Roster;
       Base    : Priority;
@@ -96,8 +110,6 @@ procedure Example is
       Count   : Step_Number;
       Start   : Natural;
       Length  : Natural;
-      Replies : Bytes (1 .. Events'Length / 8 * Reply_Size) := (others => 0);
-      V       : Verdict;
    begin
       Low (36) := 19;
       Show ("check", Check (Roster));
@@ -114,17 +126,42 @@ procedure Example is
       Show_Step (3);
       Base_Of (Roster, 2, Base, Result);
       Put_Line ("base of task 2:" & Integer'Image (Answer'Pos (Result)));
-
-      Run (Roster, Events, Replies, V);
-      Show ("run", V);
-      Put ("replies:");
-      for I in Replies'Range loop
-         Put ((if I > 1 and then I mod Reply_Size = 1 then "," else "") & Unsigned_8'Image (Replies (I)));
-      end loop;
-      New_Line;
+      Show_Run (Roster);
    end Roster_And_Run;
+
+   --  The roster from its parts, into more room than it takes; what was written is checked and run. Then three refusals.
+   procedure Written_And_Run is
+      Bases    : constant Priority_List := (10, 20);
+      Ceilings : constant Priority_List := (1 => 20);
+      Lengths  : constant Length_List := (3, 3);
+      Steps    : constant Bytes :=
+        Bytes_Of
+          (((Enter_Step, 0, 0), (Work_Step, 0, 0), (Leave_Step, 0, 0),
+            (Delay_Step, 0, 5), (Enter_Step, 0, 0), (Leave_Step, 0, 0)));
+      Wrong    : Bytes := Steps;
+      Buffer   : Bytes (0 .. 59) := (others => 0);
+      Length   : Natural;
+      V        : Verdict;
+   begin
+      Write (Bases, Ceilings, Lengths, Steps, Buffer, V);
+      Show ("write", V);
+      Written (Bases, Ceilings, Lengths, Steps, Buffer, Length);
+      Put_Line
+        ("written:" & Natural'Image (Length) & " bytes, "
+         & (if Buffer (0 .. Length - 1) = Roster then "those of the roster" else "others"));
+      Show ("check", Check (Buffer (0 .. Length - 1)));
+      Show_Run (Buffer (0 .. Length - 1));
+
+      Wrong (17) := 1;
+      Write (Bases, Ceilings, (3, 2), Steps, Buffer, V);
+      Show ("write with lengths 3 and 2", V);
+      Write (Bases, Ceilings, Lengths, Wrong, Buffer, V);
+      Show ("write with an Enter of object 1", V);
+      Show ("write into 45 bytes", Write_Answer (Bases, Ceilings, Lengths, Steps, Room => 45));
+   end Written_And_Run;
 
 begin
    State_And_Board;
    Roster_And_Run;
+   Written_And_Run;
 end Example;

@@ -1,4 +1,5 @@
-/* A caller of every kind of function through the C header: a state and its events, a board, a roster's check and readers, a run. */
+/* A caller of every kind of function through the C header: a state and its events, a board, a roster's check and readers, a run,
+ * and a roster written from its parts. */
 #include <inttypes.h>
 #include <stdio.h>
 #include <string.h>
@@ -20,6 +21,14 @@ static const uint8_t events[][DISPATCH_EVENT_SIZE] = {
     {DISPATCH_EVENT_STEP}, {DISPATCH_EVENT_STEP}, {DISPATCH_EVENT_STEP}
 };
 enum { EVENTS = sizeof events / DISPATCH_EVENT_SIZE };
+
+/* What the roster is written from: a base and a number of steps for each task, a ceiling, and the steps of both tasks. */
+static const uint8_t roster_bases[] = {10, 20}, roster_ceilings[] = {20};
+static const uint16_t roster_lengths[] = {3, 3};
+static const uint8_t roster_steps[][DISPATCH_ROSTER_STEP_SIZE] = {
+    {DISPATCH_STEP_ENTER}, {DISPATCH_STEP_WORK}, {DISPATCH_STEP_LEAVE},
+    {DISPATCH_STEP_DELAY, 0, 5}, {DISPATCH_STEP_ENTER}, {DISPATCH_STEP_LEAVE}
+};
 
 static void show(const char *event, uint8_t answer, const uint8_t *state)
 {
@@ -83,6 +92,16 @@ static void state_and_board(void)
     printf("next: %u, row %" PRIu64 "\n", DISPATCH_NUMBER(next), DISPATCH_VALUE(next));
 }
 
+static void show_run(const uint8_t *lent, size_t length)
+{
+    uint8_t replies[EVENTS][DISPATCH_REPLY_SIZE];
+    show_fault("run", dispatch_run(lent, length, events[0], sizeof events, replies[0], sizeof replies));
+    for (int i = 0; i < EVENTS; i++)
+        printf("%s%u %u %u", i == 0 ? "replies: " : ", ", replies[i][DISPATCH_REPLY_ANSWER], replies[i][DISPATCH_REPLY_RUNNING],
+               replies[i][DISPATCH_REPLY_REPORT]);
+    printf("\n");
+}
+
 static void roster_and_run(void)
 {
     uint8_t low[sizeof roster];
@@ -97,18 +116,43 @@ static void roster_and_run(void)
     show_step(0);
     show_step(3);
     printf("base of task 2: %u\n", DISPATCH_NUMBER(dispatch_base(roster, sizeof roster, 2)));
+    show_run(roster, sizeof roster);
+}
 
-    uint8_t replies[EVENTS][DISPATCH_REPLY_SIZE];
-    show_fault("run", dispatch_run(roster, sizeof roster, events[0], sizeof events, replies[0], sizeof replies));
-    for (int i = 0; i < EVENTS; i++)
-        printf("%s%u %u %u", i == 0 ? "replies: " : ", ", replies[i][DISPATCH_REPLY_ANSWER], replies[i][DISPATCH_REPLY_RUNNING],
-               replies[i][DISPATCH_REPLY_REPORT]);
-    printf("\n");
+/* Writes the roster with these lengths and steps, and says where it is refused. */
+static void show_write(const char *call, const uint16_t *lengths, const uint8_t *steps, uint8_t *buffer, size_t room)
+{
+    show_fault(call, dispatch_write(roster_bases, sizeof roster_bases, roster_ceilings, sizeof roster_ceilings, lengths, 2, steps,
+                                    sizeof roster_steps, buffer, room));
+}
+
+/* The roster from its parts, into more room than it takes; what was written is checked and run. Then three refusals. */
+static void written_and_run(void)
+{
+    uint8_t buffer[60] = {0};
+    show_write("write", roster_lengths, roster_steps[0], buffer, sizeof buffer);
+    size_t length = dispatch_written(roster_bases, sizeof roster_bases, roster_ceilings, sizeof roster_ceilings, roster_lengths, 2,
+                                     roster_steps[0], sizeof roster_steps, buffer, sizeof buffer);
+    int same = length == sizeof roster && memcmp(buffer, roster, length) == 0;
+    printf("written: %u bytes, %s\n", (unsigned)length, same ? "those of the roster" : "others");
+    show_fault("check", dispatch_check(buffer, length));
+    show_run(buffer, length);
+
+    static const uint16_t short_lengths[] = {3, 2};
+    uint8_t wrong[6][DISPATCH_ROSTER_STEP_SIZE];
+    memcpy(wrong, roster_steps, sizeof wrong);
+    wrong[4][1] = 1;
+    show_write("write with lengths 3 and 2", short_lengths, roster_steps[0], buffer, sizeof buffer);
+    show_write("write with an Enter of object 1", roster_lengths, wrong[0], buffer, sizeof buffer);
+    show_fault("write into 45 bytes",
+               dispatch_write_answer(roster_bases, sizeof roster_bases, roster_ceilings, sizeof roster_ceilings, roster_lengths, 2,
+                                     roster_steps[0], sizeof roster_steps, 45));
 }
 
 int main(void)
 {
     state_and_board();
     roster_and_run();
+    written_and_run();
     return 0;
 }

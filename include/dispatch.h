@@ -2,8 +2,9 @@
  *
  * Every function answers for any bytes of any length, and touches nothing but what is said here. A slice is passed as its
  * address and its length; an address may be anything that is not null where the length is 0. Slices that are lent for
- * writing overlap no other slice of the same call. No address has to be aligned. docs/INTEGRATION.md has the stack that each
- * call takes, docs/FORMAT.md the bytes of rosters and events, docs/LAYOUT.md those of states and boards. */
+ * writing overlap no other slice of the same call. No address has to be aligned but that of the lengths of scripts, as a uint16_t
+ * is. docs/INTEGRATION.md has the stack that each call takes, docs/FORMAT.md the bytes of rosters and events, docs/LAYOUT.md those
+ * of states and boards. */
 #ifndef DISPATCH_H
 #define DISPATCH_H
 
@@ -193,6 +194,21 @@ uint64_t dispatch_step(const uint8_t *roster, size_t length, uint64_t task, uint
  * last reply stay. Number, fault task and fault step. */
 uint64_t dispatch_run(const uint8_t *roster, size_t length, const uint8_t *events, size_t events_length, uint8_t *buffer,
                       size_t buffer_length);
+
+/* Writes a roster from its parts at the front of the buffer: a base for each task, a ceiling for each object, how many steps each
+ * script has, and the steps, 4 bytes each, all scripts one after the other in task order. Bytes past the file stay. Refused with 13;
+ * 14 for lengths that are not one per base or do not add up to the steps; 15; 16; then 11 for a file over DISPATCH_ROSTER_LARGEST;
+ * then 22 for a buffer that is shorter than the file: nothing is written then. 17 to 20 are left to dispatch_check. Number, fault
+ * task and fault step. */
+uint64_t dispatch_write(const uint8_t *bases, size_t tasks, const uint8_t *ceilings, size_t objects, const uint16_t *lengths,
+                        size_t lengths_count, const uint8_t *steps, size_t steps_length, uint8_t *buffer, size_t buffer_length);
+/* What dispatch_write answers with a buffer of so many bytes. */
+uint64_t dispatch_write_answer(const uint8_t *bases, size_t tasks, const uint8_t *ceilings, size_t objects, const uint16_t *lengths,
+                               size_t lengths_count, const uint8_t *steps, size_t steps_length, uint64_t room);
+/* Writes as dispatch_write does, and gives how many bytes the file at the front of the buffer has; 0 on a refusal, whose number
+ * dispatch_write_answer tells. */
+uint64_t dispatch_written(const uint8_t *bases, size_t tasks, const uint8_t *ceilings, size_t objects, const uint16_t *lengths,
+                          size_t lengths_count, const uint8_t *steps, size_t steps_length, uint8_t *buffer, size_t buffer_length);
 
 /* The fresh start: 0, 13 or 15, and the state beside it; 10 for a state of fewer bytes, of which none is then written. */
 uint8_t dispatch_fresh(const uint8_t *bases, size_t tasks, const uint8_t *ceilings, size_t objects, uint8_t *state,

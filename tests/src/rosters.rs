@@ -35,6 +35,13 @@ pub const fn step(code: u8, a: u8, b: u16) -> Step {
     Step { code, a, b }
 }
 
+impl Step {
+    pub const fn bytes(self) -> [u8; STEP_SIZE] {
+        let [low, high] = self.b.to_le_bytes();
+        [self.code, self.a, low, high]
+    }
+}
+
 /// What a roster says, before it is bytes.
 #[derive(Clone, Debug)]
 pub struct Plan {
@@ -52,10 +59,7 @@ impl Plan {
             rows.extend([*base, 0]);
             rows.extend((bytes.len() as u16).to_le_bytes());
             rows.extend(((STEP_SIZE * script.len()) as u16).to_le_bytes());
-            for s in script {
-                bytes.extend([s.code, s.a]);
-                bytes.extend(s.b.to_le_bytes());
-            }
+            bytes.extend(script.iter().flat_map(|s| s.bytes()));
         }
         let task_table = bytes.len() as u16;
         bytes.extend(rows);

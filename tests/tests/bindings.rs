@@ -1,6 +1,6 @@
 //! The safe functions of the crate `dispatch`: what a caller sees of states, boards and rosters.
 
-use dispatch::roster::{self, Refusal, Step};
+use dispatch::roster::{self, Parts, Refusal, Step};
 use dispatch::{
     next, Answer, Object, Outcome, Place, Priority, Report, Row, State, Task, LONGEST_ADVANCE,
     MOST_OBJECTS, MOST_TASKS, REPLY_SIZE, STATE_SIZE,
@@ -210,6 +210,125 @@ fn a_roster_is_read_and_run() {
     assert_eq!(roster::run(&whole, &[], &mut buffer), Err(refusal));
     assert_eq!(refusal.to_string(), "refused 18 1 1");
     assert_eq!(roster::base(&[], Task(0)), Err(Answer::BadLength));
+}
+
+/// A refusal with a number of the table that names no place.
+fn refusal(answer: Answer) -> Refusal {
+    Refusal {
+        answer,
+        task: 0,
+        step: 0,
+    }
+}
+
+/// Exactly the written bytes are handed back, of a longer buffer too, and can be changed and read; a refusal hands back none.
+#[test]
+fn a_roster_is_written() {
+    let whole = bytes_of(WHOLE_CASE);
+    let parts = Parts {
+        bases: &[10, 20],
+        ceilings: &[20],
+        lengths: &[3, 3],
+        steps: &whole[..24],
+    };
+    let mut buffer = [0xA5; 50];
+    let written = roster::write(&parts, &mut buffer).unwrap();
+    assert_eq!(written, whole);
+    assert_eq!(roster::check(written), Ok(()));
+    written[36] = 19;
+    assert_eq!(roster::form(&buffer[..46]), Ok(()));
+    assert_eq!(buffer[46..], [0xA5; 4]);
+    assert_eq!(roster::write(&parts, &mut buffer[..46]).unwrap(), whole);
+    let short = refusal(Answer::ShortBuffer);
+    let before = buffer;
+    assert_eq!(roster::write(&parts, &mut buffer[..45]), Err(short));
+    assert_eq!(roster::write_answer(&parts, 45), Err(short));
+    assert_eq!(roster::write_answer(&parts, 46), Ok(()));
+    assert_eq!(roster::write_answer(&parts, usize::MAX), Ok(()));
+    assert_eq!(buffer, before);
+}
+
+/// One task with two Works, which is written.
+const TWO_WORKS: Parts = Parts {
+    bases: &[1],
+    ceilings: &[],
+    lengths: &[2],
+    steps: &[4, 0, 0, 0, 4, 0, 0, 0],
+};
+
+#[test]
+fn a_roster_is_not_written() {
+    let wrong = |change: fn(&mut Parts), answer: Answer| {
+        let mut parts = TWO_WORKS;
+        change(&mut parts);
+        assert_eq!(roster::write(&parts, &mut []), Err(refusal(answer)));
+        assert_eq!(roster::write_answer(&parts, 99), Err(refusal(answer)));
+    };
+    wrong(|p| p.bases = &[], Answer::BadCounts);
+    wrong(|p| p.bases = &[9; MOST_TASKS + 1], Answer::BadCounts);
+    wrong(|p| p.ceilings = &[9; MOST_OBJECTS + 1], Answer::BadCounts);
+    wrong(|p| p.lengths = &[2, 0], Answer::BadLayout);
+    wrong(|p| p.lengths = &[8], Answer::BadLayout);
+    wrong(|p| p.steps = &[4, 0, 0, 0, 4, 0, 0], Answer::BadLayout);
+    wrong(|p| p.bases = &[33], Answer::BadValues);
+    let works = Step::Work.bytes().repeat(15_000);
+    let long = Parts {
+        lengths: &[15_000],
+        steps: &works,
+        ..TWO_WORKS
+    };
+    let refused = roster::write_answer(&long, usize::MAX);
+    assert_eq!(refused, Err(refusal(Answer::BadLength)));
+}
+
+#[test]
+fn a_bad_step_is_not_written() {
+    let cases = [
+        ([Step::Again, Step::Work], 0),
+        ([Step::Finish, Step::Work], 0),
+        ([Step::Work, Step::Enter(Object(0))], 1),
+        ([Step::Work, Step::Release(Task(256))], 1),
+        ([Step::Work, Step::Set(Task(0), Priority(65_537))], 1),
+    ];
+    for (steps, step) in cases {
+        let bytes = steps.map(Step::bytes);
+        let parts = Parts {
+            steps: bytes.as_flattened(),
+            ..TWO_WORKS
+        };
+        let wanted = Refusal {
+            step,
+            ..refusal(Answer::BadStep)
+        };
+        let mut buffer = [0xA5; 99];
+        assert_eq!(roster::write(&parts, &mut buffer), Err(wanted), "{steps:?}");
+        assert_eq!(roster::write_answer(&parts, 0), Err(wanted), "{steps:?}");
+        assert_eq!(buffer, [0xA5; 99], "{steps:?}");
+        assert_eq!(wanted.to_string(), format!("refused 16 0 {step}"));
+    }
+}
+
+/// The bytes of each step are those that it is read from; a number that does not fit is none that any roster has.
+#[test]
+fn every_step_has_its_bytes() {
+    let plan = every_step();
+    for (t, script) in plan.scripts.iter().enumerate() {
+        for (k, step) in script.iter().enumerate() {
+            let read = roster::step(&plan.bytes(), Task(t as u64), k as u64).unwrap();
+            assert_eq!(read.bytes(), step.bytes(), "{read:?}");
+        }
+    }
+    assert_eq!(Step::Finish.bytes(), [0; 4]);
+    assert_eq!(Step::Delay(u16::MAX).bytes(), [3, 0, 255, 255]);
+    for far in [255, 256, 257, 1 << 32, u64::MAX] {
+        assert_eq!(Step::Enter(Object(far)).bytes(), [1, 255, 0, 0]);
+        assert_eq!(Step::Leave(Object(far)).bytes(), [2, 255, 0, 0]);
+        assert_eq!(Step::Release(Task(far)).bytes(), [6, 255, 0, 0]);
+    }
+    for far in [65_535, 65_536, 65_537, u64::MAX] {
+        let set = Step::Set(Task(1), Priority(far));
+        assert_eq!(set.bytes(), [7, 1, 255, 255]);
+    }
 }
 
 #[test]

@@ -8,18 +8,20 @@ use std::path::Path;
 
 use harness::events::{record_of, room_for, REPLY_SIZE};
 use harness::layout::{ROW_SIZE, RUNNING, STATE_SIZE, TASKS};
+use harness::parts::{fill_up, made, nothing, parts_of};
 use harness::programs::{folder_for, printed, printed_within, proved, second};
 use harness::report::bytes_of;
-use harness::rosters::{busiest, rising, WHOLE_CASE};
+use harness::rosters::{busiest, most_rows, rising, WHOLE_CASE};
 use harness::sizes::{
     EVENT_SIZE, LARGEST_ROSTER, LAST_OBJECT, LAST_TASK, MOST_EVENTS, MOST_OBJECTS, MOST_ROWS,
     MOST_TASKS,
 };
 use second::run::Command;
+use second::writer::{length, Parts};
 
 macro_rules! functions {
     ($($name:ident),* $(,)?) => {
-        // Called by their addresses alone, with arguments in registers.
+        // Called by their addresses alone, with arguments in registers and on the stack.
         extern "C" { $(fn $name();)* }
         const FUNCTIONS: &[(&str, unsafe extern "C" fn())] = &[$((stringify!($name), $name)),*];
     };
@@ -36,6 +38,9 @@ functions!(
     dispatch_step_count,
     dispatch_step,
     dispatch_run,
+    dispatch_write,
+    dispatch_write_answer,
+    dispatch_written,
     dispatch_fresh,
     dispatch_enter,
     dispatch_leave,
@@ -53,6 +58,10 @@ functions!(
 );
 
 const STACK_SIZE: usize = 1 << 18;
+/// How many arguments are in registers, and how many more on the stack above the caller's stack pointer, which stays a multiple of 16.
+const IN_REGISTERS: usize = 6;
+const ON_STACK: usize = 4;
+const PASSED_SIZE: usize = 8 * ON_STACK;
 const PAINTS: [u8; 2] = [0xA5, 0x5A];
 
 /// A stack of its own, and the deepest use of it by each function, in bytes below the caller's stack pointer.
@@ -80,10 +89,16 @@ impl Stack {
             .iter()
             .find(|f| f.0 == name)
             .expect("a function of the list");
-        let mut registers = [0; 6];
-        registers[..arguments.len()].copy_from_slice(arguments);
+        let mut all = [0; IN_REGISTERS + ON_STACK];
+        all[..arguments.len()].copy_from_slice(arguments);
+        let (registers, passed) = all.split_at(IN_REGISTERS);
+        let registers = registers.try_into().expect("as many as there are");
         self.bytes().fill(paint);
-        let top = self.bytes().as_mut_ptr_range().end;
+        let (below, above) = self.bytes().split_at_mut(STACK_SIZE - PASSED_SIZE);
+        for (bytes, argument) in above.chunks_exact_mut(8).zip(passed) {
+            bytes.copy_from_slice(&argument.to_le_bytes());
+        }
+        let top = below.as_mut_ptr_range().end;
         // SAFETY: the arguments are those of the function, every slice among them is alive, and the stack is large enough, which
         // is asserted below.
         let answer = unsafe { called(top, function, registers) };
@@ -93,13 +108,17 @@ impl Stack {
             "{name} has used most of the stack"
         );
         let depth = self.deepest.entry(name).or_insert(0);
-        *depth = (*depth).max(STACK_SIZE - untouched);
+        *depth = (*depth).max(STACK_SIZE - PASSED_SIZE - untouched);
         answer
     }
 }
 
-/// Calls a function with up to six arguments in registers while the stack pointer is at `top`.
-unsafe fn called(top: *mut u8, function: unsafe extern "C" fn(), arguments: [u64; 6]) -> u64 {
+/// Calls a function with these arguments in registers, and those that stand at `top`, while the stack pointer is there.
+unsafe fn called(
+    top: *mut u8,
+    function: unsafe extern "C" fn(),
+    arguments: [u64; IN_REGISTERS],
+) -> u64 {
     let answer;
     asm!(
         "mov r12, rsp",
@@ -218,6 +237,25 @@ impl Stack {
                 let mut buffer = vec![0; size];
                 let all = [lent(roster), lent(events), lent_mut(&mut buffer)].concat();
                 self.call("dispatch_run", &all, paint);
+            }
+        }
+    }
+
+    /// Every call of the writer on some parts, into no room, just enough, and more.
+    fn all_with(&mut self, parts: &Parts) {
+        let lengths = [parts.lengths.as_ptr() as u64, parts.lengths.len() as u64];
+        let lists = [lent(&parts.bases), lent(&parts.ceilings), lengths];
+        let lists = [&lists.concat()[..], &lent(&parts.steps)].concat();
+        for paint in PAINTS {
+            for size in [0, length(parts) - 1, length(parts), length(parts) + 9] {
+                let mut buffer = vec![0; size];
+                let all = [&lists[..], &lent_mut(&mut buffer)].concat();
+                let answer = self.call("dispatch_write", &all, paint);
+                let written = self.call("dispatch_written", &all, paint);
+                let alone = [&lists[..], &[size as u64]].concat();
+                let asked = self.call("dispatch_write_answer", &alone, paint);
+                assert_eq!(asked, answer, "{} bytes", size);
+                assert_eq!(answer == 0, written == length(parts) as u64);
             }
         }
     }
@@ -389,6 +427,21 @@ fn rosters(stack: &mut Stack) {
     stack.all_of(&too_long, &too_long);
 }
 
+/// Writings of the smallest and the largest rosters, and with every fault.
+fn writings(stack: &mut Stack) {
+    let largest = parts_of(&busiest());
+    assert_eq!(length(&largest), LARGEST_ROSTER);
+    stack.all_with(&largest);
+    let mut longer = largest;
+    fill_up(&mut longer, LAST_TASK, 1);
+    stack.all_with(&longer);
+    stack.all_with(&nothing());
+    stack.all_with(&parts_of(&most_rows()));
+    for seed in 0..600 {
+        stack.all_with(&made(seed));
+    }
+}
+
 #[test]
 fn no_call_goes_deeper_than_stated() {
     let mut stack = Stack::new();
@@ -397,6 +450,7 @@ fn no_call_goes_deeper_than_stated() {
     }
     refused_starts_and_boards(&mut stack);
     rosters(&mut stack);
+    writings(&mut stack);
     let stated = stated(&read("docs/INTEGRATION.md"));
     let declared = declared(&read("include/dispatch.h"));
     let measured = stack.deepest.len();

@@ -1,6 +1,6 @@
-//! Every kind of call through the Rust crate: a state, its board, a roster and its run.
+//! Every kind of call through the Rust crate: a state, its board, a roster and its run, and a roster written from its parts.
 
-use dispatch::roster::{self, Refusal, Step};
+use dispatch::roster::{self, Parts, Refusal, Step};
 use dispatch::{Answer, Object, Outcome, Priority, Row, State, Task, LONGEST_ADVANCE, REPLY_SIZE};
 
 /// Two tasks and one protected object; README.md has what each byte says.
@@ -122,15 +122,56 @@ fn parts() -> Result<(), Answer> {
     Ok(())
 }
 
-fn run() {
+fn run(lent: &[u8]) {
     let mut buffer = [0; REPLY_SIZE * EVENTS.len()];
-    let result = roster::run(&ROSTER, EVENTS.as_flattened(), &mut buffer);
+    let result = roster::run(lent, EVENTS.as_flattened(), &mut buffer);
     verdict("run", result);
     let replies = buffer.chunks_exact(REPLY_SIZE);
     let replies: Vec<String> = replies
         .map(|r| format!("{} {} {}", r[0], r[1], r[2]))
         .collect();
     println!("replies: {}", replies.join(", "));
+}
+
+/// Writes a roster and says where it is refused; hands back what was written.
+fn write<'a>(call: &str, parts: &Parts, buffer: &'a mut [u8]) -> &'a mut [u8] {
+    let result = roster::write(parts, buffer);
+    verdict(call, result.as_ref().map(|_| ()).map_err(|r| *r));
+    result.unwrap_or(&mut [])
+}
+
+/// The roster from its parts, into more room than it takes; what was written is checked and run. Then three refusals.
+fn written() {
+    let enter = Step::Enter(Object(0));
+    let leave = Step::Leave(Object(0));
+    let steps = [enter, Step::Work, leave, Step::Delay(5), enter, leave].map(Step::bytes);
+    let parts = Parts {
+        bases: &[10, 20],
+        ceilings: &[20],
+        lengths: &[3, 3],
+        steps: steps.as_flattened(),
+    };
+    let mut buffer = [0; 60];
+    let file = write("write", &parts, &mut buffer);
+    let same = match *file == ROSTER {
+        true => "those of the roster",
+        false => "others",
+    };
+    println!("written: {} bytes, {same}", file.len());
+    verdict("check", roster::check(file));
+    run(file);
+
+    let mut short = parts;
+    short.lengths = &[3, 2];
+    write("write with lengths 3 and 2", &short, &mut buffer);
+    let mut wrong = steps;
+    wrong[4] = Step::Enter(Object(1)).bytes();
+    let unlisted = Parts {
+        steps: wrong.as_flattened(),
+        ..parts
+    };
+    write("write with an Enter of object 1", &unlisted, &mut buffer);
+    verdict("write into 45 bytes", roster::write_answer(&parts, 45));
 }
 
 fn main() -> Result<(), Answer> {
@@ -141,6 +182,7 @@ fn main() -> Result<(), Answer> {
     low[36] = 19;
     verdict("check with ceiling 19", roster::check(&low));
     parts()?;
-    run();
+    run(&ROSTER);
+    written();
     Ok(())
 }

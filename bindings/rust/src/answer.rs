@@ -18,6 +18,7 @@ macro_rules! answers {
         /// | [`step_count`](crate::roster::step_count), [`step`](crate::roster::step) | 0, 11 to 16, then 1 |
         /// | [`ceiling`](crate::roster::ceiling) | 0, 11 to 16, then 2 |
         /// | [`run`](crate::roster::run) | 0, 11 to 20, then 21, then 22 |
+        /// | [`write`](crate::roster::write), [`write_answer`](crate::roster::write_answer) | 0, 13 to 16, then 11, then 22 |
         #[derive(Clone, Copy, Debug, PartialEq, Eq, PartialOrd, Ord, Hash)]
         #[repr(u8)]
         pub enum Answer {
@@ -59,13 +60,13 @@ answers! {
     NotInnermost = 9,
     /// The state is not sound.
     Unsound = 10,
-    /// A roster shorter than 14 or longer than 60,000 bytes.
+    /// A roster shorter than 14 or longer than 60,000 bytes, also one that is to be written.
     BadLength = 11,
     /// The roster's mark is not there.
     BadMark = 12,
     /// Not 1 to 64 tasks or 0 to 32 objects; a board with too few rows, or asked with more than 64.
     BadCounts = 13,
-    /// A start or a length off the roster's layout.
+    /// A start or a length off the roster's layout; lengths to write that are not one per base or do not add up to the steps.
     BadLayout = 14,
     /// A base or ceiling outside 1 to 32, or a byte of a roster that has to be 0 and is not.
     BadValues = 15,
@@ -81,7 +82,7 @@ answers! {
     OtherTask = 20,
     /// Events whose length is wrong, of an unknown kind, or with an unused field that is not 0.
     BadEvents = 21,
-    /// A buffer with less than three bytes for each event.
+    /// A buffer with less than three bytes for each event, or shorter than the roster that is to be written.
     ShortBuffer = 22,
 }
 

@@ -11,7 +11,7 @@
 //! ```
 //!
 //! - [`State`] is a state of tasks and protected objects: make a fresh one, then let events move it.
-//! - [`roster`] reads and checks a roster of tasks, ceilings and scripts, and runs it under events.
+//! - [`roster`] reads, checks and writes a roster of tasks, ceilings and scripts, and runs it under events.
 //! - [`Row`] is a row of a board, which a state fills and which [`next`] asks for the row to run next.
 //! - [`Answer`] has every number that a call answers, and says which call can answer which.
 //! - [`Report`] says why the processor changed hands at an event; an [`Outcome`] has both.

@@ -1,6 +1,6 @@
 //! The exported functions on bytes of any length, with plain numbers: each is declared here, and has one safe function.
 //!
-//! A byte slice passes as a pointer and a length. No function asks anything of its arguments, so nothing is tested here.
+//! A slice passes as a pointer and a length. No function asks anything of its arguments, so nothing is tested here.
 
 mod exported {
     extern "C" {
@@ -18,6 +18,41 @@ mod exported {
             length: usize,
             events: *const u8,
             events_length: usize,
+            buffer: *mut u8,
+            buffer_length: usize,
+        ) -> u64;
+        pub fn dispatch_write(
+            bases: *const u8,
+            tasks: usize,
+            ceilings: *const u8,
+            objects: usize,
+            lengths: *const u16,
+            lengths_count: usize,
+            steps: *const u8,
+            steps_length: usize,
+            buffer: *mut u8,
+            buffer_length: usize,
+        ) -> u64;
+        pub fn dispatch_write_answer(
+            bases: *const u8,
+            tasks: usize,
+            ceilings: *const u8,
+            objects: usize,
+            lengths: *const u16,
+            lengths_count: usize,
+            steps: *const u8,
+            steps_length: usize,
+            room: u64,
+        ) -> u64;
+        pub fn dispatch_written(
+            bases: *const u8,
+            tasks: usize,
+            ceilings: *const u8,
+            objects: usize,
+            lengths: *const u16,
+            lengths_count: usize,
+            steps: *const u8,
+            steps_length: usize,
             buffer: *mut u8,
             buffer_length: usize,
         ) -> u64;
@@ -140,6 +175,80 @@ pub fn run(roster: &[u8], events: &[u8], buffer: &mut [u8]) -> (u8, usize, usize
             buffer.len(),
         )
     })
+}
+
+/// The answer of writing a roster from its parts: number, task and step. The file is at the front of the buffer.
+pub fn write(
+    bases: &[u8],
+    ceilings: &[u8],
+    lengths: &[u16],
+    steps: &[u8],
+    buffer: &mut [u8],
+) -> (u8, usize, usize) {
+    // SAFETY: as above; a slice of u16 is aligned as one.
+    unpacked(unsafe {
+        exported::dispatch_write(
+            bases.as_ptr(),
+            bases.len(),
+            ceilings.as_ptr(),
+            ceilings.len(),
+            lengths.as_ptr(),
+            lengths.len(),
+            steps.as_ptr(),
+            steps.len(),
+            buffer.as_mut_ptr(),
+            buffer.len(),
+        )
+    })
+}
+
+/// What `write` answers with a buffer of so many bytes.
+pub fn write_answer(
+    bases: &[u8],
+    ceilings: &[u8],
+    lengths: &[u16],
+    steps: &[u8],
+    room: u64,
+) -> (u8, usize, usize) {
+    // SAFETY: as above.
+    unpacked(unsafe {
+        exported::dispatch_write_answer(
+            bases.as_ptr(),
+            bases.len(),
+            ceilings.as_ptr(),
+            ceilings.len(),
+            lengths.as_ptr(),
+            lengths.len(),
+            steps.as_ptr(),
+            steps.len(),
+            room,
+        )
+    })
+}
+
+/// Writes as `write` does: how many bytes the file at the front of the buffer has; 0 on a refusal, whose number `write_answer` tells.
+pub fn written(
+    bases: &[u8],
+    ceilings: &[u8],
+    lengths: &[u16],
+    steps: &[u8],
+    buffer: &mut [u8],
+) -> u64 {
+    // SAFETY: as above.
+    unsafe {
+        exported::dispatch_written(
+            bases.as_ptr(),
+            bases.len(),
+            ceilings.as_ptr(),
+            ceilings.len(),
+            lengths.as_ptr(),
+            lengths.len(),
+            steps.as_ptr(),
+            steps.len(),
+            buffer.as_mut_ptr(),
+            buffer.len(),
+        )
+    }
 }
 
 /// The fresh start into a state's bytes.
