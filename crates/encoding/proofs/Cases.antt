@@ -1,5 +1,5 @@
 -- The written rosters that are worked out, by computation.
-use mathlib.Core.Path.{_≡_, refl}
+use mathlib.Core.Path.{refl}
 use Rattle.rules.specs.Lists
 use Rattle.words.specs.Words
 use Rattle.format.specs.Answers as Verdicts

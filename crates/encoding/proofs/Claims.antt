@@ -1,18 +1,17 @@
 -- The claims of written rosters.
-use mathlib.Core.Path.{_≡_, refl, ap, sym, _∙_}
+use mathlib.Core.Path.{refl, ap, sym, _∙_}
 use mathlib.Core.List.{List}
 use Prim.Native.Nat.{ℕ}
 use lib.ListN.{length, take, drop}
 use lib.Seq.{take-append-seam}
-use Rattle.words.specs.Words.{Bytes, overFront}
+use Rattle.words.specs.Words.{overFront}
 use Rattle.format.specs.Roster.{Roster, rosterOf}
 use Rattle.format.specs.Form.{formOf}
-use Rattle.format.specs.declared.Verdict.the-variants.{Passed, BadLength}
-use Rattle.encoding.specs.File.{Parts, fileOf}
+use Rattle.format.specs.declared.Verdict.the-variants.{BadLength}
+use Rattle.encoding.specs.File.{fileOf}
 use Rattle.encoding.specs.Answers.{bufferOf}
 use Rattle.encoding.specs.Encoding.{partsOf}
-use Rattle.encoding.specs.Claims.{ReadBack, ReadsBack, RefusesAsRead, LengthBeforeRoom, OneEncoding, Rewritten, WritesAgain}
-use Rattle.encoding.proofs.FileLaws.{Sizes}
+use Rattle.encoding.specs.Claims.{ReadsBack, RefusesAsRead, LengthBeforeRoom, OneEncoding, WritesAgain}
 use Rattle.encoding.proofs.AnswerLaws.{sizes-of, sizes, file-long, file-parts, file-passes, done-file, answer-refused}
 use Rattle.encoding.proofs.AnswerLaws.{answer-done, buffer-written, part-whole}
 use Rattle.encoding.proofs.ReadLaws.{as-read, file-given}

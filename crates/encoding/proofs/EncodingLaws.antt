@@ -1,6 +1,6 @@
 -- A roster that passes 11 to 16 is the file of its own parts.
 use mathlib.Core.Path.{_≡_, refl, ap, sym, _∙_}
-use mathlib.Core.Bool.{Bool, true, _&&_}
+use mathlib.Core.Bool.{true, _&&_}
 use mathlib.Core.List.{List, [], _∷_, _++_}
 use Prim.Native.Nat.{ℕ, zero, suc, _+_, _*_, _≤_, _<_}
 use native.Mathlib.Nat.{add-zero}
@@ -16,7 +16,7 @@ use Rattle.rules.proofs.Choices.{and-left, and-right}
 use Rattle.rules.proofs.LimitLaws.{counted-by}
 use Rattle.words.specs.Words.{byteAt, word, tabulate, Bytes}
 use Rattle.words.proofs.TableLaws.{length-tabulate, tabulate-at, window}
-use Rattle.format.specs.Limits.{trailerSize, taskRowSize, objectRowSize, stepSize, firstMark, secondMark}
+use Rattle.format.specs.Limits.{trailerSize, taskRowSize, objectRowSize, firstMark, secondMark}
 use Rattle.format.specs.Format.{trailer, taskCount, objectCount, taskTable, objectTable}
 use Rattle.format.specs.Format.{taskRow, objectRow, baseAt, ceilingAt, startAt, lengthAt, partAt}
 use Rattle.format.specs.Steps.{aAt, bAt, stepAt, stepCount}
@@ -128,15 +128,14 @@ module _ (s : List ℕ) (bytes : Bytes s) (ok : formOf s ≡ Passed) where
       let w2 : getD s (at + 4) 0 ∷ getD s (at + 5) 0 ∷ [] ≡ word (scriptSize (p .lengths) t) =
       ap (λ (k : ℕ). getD s (at + 4) 0 ∷ getD s k 0 ∷ []) (let z : at + 5 ≡ at + 4 + 1 = omega arith in z) ∙
       (sym (word-back s (at + 4) bytes) ∙ ap word (sym (length-back t h))) in
-      let rest : ℕ → List ℕ = λ k. getD s k 0 ∷ getD s (k + 1) 0 ∷ [] in
+      let u1 = getD s (at + 2) 0 ∷ getD s (at + 3) 0 ∷ [] in
+      let u2 = getD s (at + 4) 0 ∷ getD s (at + 5) 0 ∷ [] in
       window s at 6 (row-inside s ok t h) ∙
       (ap (λ (k : ℕ). getD s k 0 ∷ getD s (at + 1) 0 ∷ getD s (at + 2) 0 ∷ getD s (at + 3) 0 ∷ getD s (at + 4) 0 ∷ getD s (at + 5) 0 ∷ [])
       (add-zero at) ∙
-      (ap (λ (x : ℕ). x ∷ getD s (at + 1) 0 ∷ ((getD s (at + 2) 0 ∷ getD s (at + 3) 0 ∷ []) ++ (getD s (at + 4) 0 ∷ getD s (at + 5) 0 ∷ [])))
-      b0 ∙
-      (ap (λ (x : ℕ). getD (r .bases) t 0 ∷ x ∷ ((getD s (at + 2) 0 ∷ getD s (at + 3) 0 ∷ []) ++ (getD s (at + 4) 0 ∷ getD s (at + 5) 0 ∷ [])))
-      b1 ∙
-      (ap (λ (l : List ℕ). getD (r .bases) t 0 ∷ 0 ∷ (l ++ (getD s (at + 4) 0 ∷ getD s (at + 5) 0 ∷ []))) w1 ∙
+      (ap (λ (x : ℕ). x ∷ getD s (at + 1) 0 ∷ (u1 ++ u2)) b0 ∙
+      (ap (λ (x : ℕ). getD (r .bases) t 0 ∷ x ∷ (u1 ++ u2)) b1 ∙
+      (ap (λ (l : List ℕ). getD (r .bases) t 0 ∷ 0 ∷ (l ++ u2)) w1 ∙
       ap (λ (l : List ℕ). getD (r .bases) t 0 ∷ 0 ∷ (word (scriptStart (p .lengths) t) ++ l)) w2))))
 
   tasks-back : take (taskRowSize * taskCount s) (drop (taskTable s) s) ≡ rows (taskCount s) (taskBytes (p .setup .bases) (p .lengths))
@@ -217,24 +216,24 @@ module _ (s : List ℕ) (bytes : Bytes s) (ok : formOf s ≡ Passed) where
   encoded =
       let n = taskCount s in
       let m = objectCount s in
-      let rest = rows m (objectBytes (p .setup .ceilings)) ++ E.trailer p in
+      let tasks = taskBytes (p .setup .bases) (p .lengths) in
+      let objects = objectBytes (p .setup .ceilings) in
+      let rest = rows m objects ++ E.trailer p in
       let last : drop (objectTable s) s ≡ rest =
       sym (take-append-drop (2 * m) (drop (objectTable s) s)) ∙
       (ap (λ (l : List ℕ). l ++ drop (2 * m) (drop (objectTable s) s)) objects-back ∙
-      ap (λ (l : List ℕ). rows m (objectBytes (p .setup .ceilings)) ++ l)
+      ap (λ (l : List ℕ). rows m objects ++ l)
       (drop-drop (2 * m) (objectTable s) s ∙ (ap (λ (k : ℕ). drop k s) (tables .1) ∙ trailer-back))) in
-      let middle : drop (taskTable s) s ≡ rows n (taskBytes (p .setup .bases) (p .lengths)) ++ rest =
+      let middle : drop (taskTable s) s ≡ rows n tasks ++ rest =
       sym (take-append-drop (6 * n) (drop (taskTable s) s)) ∙
       (ap (λ (l : List ℕ). l ++ drop (6 * n) (drop (taskTable s) s)) tasks-back ∙
-      ap (λ (l : List ℕ). rows n (taskBytes (p .setup .bases) (p .lengths)) ++ l)
+      ap (λ (l : List ℕ). rows n tasks ++ l)
       (drop-drop (6 * n) (taskTable s) s ∙ (ap (λ (k : ℕ). drop k s) (tables .0) ∙ last))) in
-      let whole : s ≡ rows n script ++ (rows n (taskBytes (p .setup .bases) (p .lengths)) ++ rest) =
+      let whole : s ≡ rows n script ++ (rows n tasks ++ rest) =
       sym (take-append-drop (taskTable s) s) ∙
       (ap (λ (l : List ℕ). l ++ drop (taskTable s) s) scripts-back ∙ ap (λ (l : List ℕ). rows n script ++ l) middle) in
-      ap (λ (x : ℕ). rows x script ++ (rows x (taskBytes (p .setup .bases) (p .lengths)) ++ (rows (length (r .ceilings)) (objectBytes (p .setup .ceilings)) ++ E.trailer p)))
-      (base-count s) ∙
-      (ap (λ (y : ℕ). rows n script ++ (rows n (taskBytes (p .setup .bases) (p .lengths)) ++ (rows y (objectBytes (p .setup .ceilings)) ++ E.trailer p))) (ceiling-count s) ∙
-      sym whole)
+      let file : ℕ → ℕ → List ℕ = λ x y. rows x script ++ (rows x tasks ++ (rows y objects ++ E.trailer p)) in
+      ap (λ (x : ℕ). file x (length (r .ceilings))) (base-count s) ∙ (ap (file n) (ceiling-count s) ∙ sym whole)
 
   -- and its sizes are good
   pub read-sizes : Sizes p
@@ -245,7 +244,14 @@ module _ (s : List ℕ) (bytes : Bytes s) (ok : formOf s ≡ Passed) where
         counts =
             rw (base-count s, ceiling-count s) (counted-by n (objectCount s) (formed s ok .counts));
         each = length-tabulate (length (r .bases)) (λ t. length (scriptOf (rosterOf s) t));
-        whole = omega (arith, ap (scriptStart (p .lengths)) (base-count s), before-back n (omega arith), scripts-close s (formed s ok .layout), table-start);
+        whole =
+            omega (
+              arith,
+              ap (scriptStart (p .lengths)) (base-count s),
+              before-back n (omega arith),
+              scripts-close s (formed s ok .layout),
+              table-start,
+            );
         small =
             omega (
               arith,

@@ -10,7 +10,7 @@ use Rattle.rules.proofs.Choices.{split}
 use Rattle.rules.proofs.LimitLaws.{Counted}
 use Rattle.format.specs.Limits.{trailerSize, taskRowSize, objectRowSize}
 use Rattle.encoding.specs.File.{Parts, tasksOf, objectsOf, rows, stepsBefore, scriptStart, scriptSize, taskBytes, objectBytes}
-use Rattle.encoding.specs.File.{trailerBytes, taskTable, objectTable, taskStart, objectStart, trailer, fileOf}
+use Rattle.encoding.specs.File.{trailerBytes, taskTable, objectTable, objectStart, trailer, fileOf}
 use Rattle.encoding.proofs.RowLaws.{rows-length}
 
 -- the steps before a script
@@ -55,7 +55,13 @@ module _ (p : Parts) where
   front-length = omega (arith, length-append (p .steps) (taskTable p), task-rows (p .setup .bases) (p .lengths) (tasksOf p))
 
   pub tables-length : length ((p .steps ++ taskTable p) ++ objectTable p) ≡ trailerStart
-  tables-length = omega (arith, front-length, object-rows (p .setup .ceilings) (objectsOf p), length-append (p .steps ++ taskTable p) (objectTable p))
+  tables-length =
+      omega (
+        arith,
+        front-length,
+        object-rows (p .setup .ceilings) (objectsOf p),
+        length-append (p .steps ++ taskTable p) (objectTable p),
+      )
 
   pub file-whole : ((p .steps ++ taskTable p) ++ objectTable p) ++ trailer p ≡ fileOf p
   unfolding fileOf

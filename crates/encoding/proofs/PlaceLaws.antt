@@ -1,5 +1,4 @@
 -- The step that the writer names is one of its script, so that its position is small where the lengths are.
-use mathlib.Core.Path.{_≡_}
 use mathlib.Core.Bool.{not}
 use Prim.Native.Nat.{ℕ, _≤_}
 use native.Mathlib.Omega.{arith}

@@ -1,12 +1,11 @@
 -- What a reader finds in the file: what was given, and the same faults.
 use mathlib.Core.Path.{_≡_, refl, ap, sym, _∙_}
 use mathlib.Core.Bool.{Bool, true, false, _&&_}
-use mathlib.Core.List.{List, [], _∷_, _++_, append-assoc}
+use mathlib.Core.List.{List, [], _++_, append-assoc}
 use Prim.Native.Nat.{ℕ, zero, suc, _+_, _*_, _/_, _%_, _≤_, _<_}
 use native.Mathlib.Nat.{add-zero}
 use native.Mathlib.Omega.{arith}
 use borrow.Author.Tests.{eq-eqb, le-leb}
-use lib.Dec.{eqb}
 use lib.ListN.{length, getD, take, drop, length-drop, List·getD-append}
 use lib.Seq.{getD-append-add, take-append-le, drop-append-le}
 use Rattle.rules.specs.Limits.{smallestRoster, largestRoster, countsGood}
@@ -27,7 +26,6 @@ use Rattle.format.specs.Form as F
 use Rattle.format.specs.Form.{lengthGood, markGood, countsKept, tablesGood, scriptsEnd, laidFrom, scriptLaid, scriptsLaid, layoutGood}
 use Rattle.format.specs.Form.{taskRowGood, objectRowGood, valuesGood, stepsForm, formOf}
 use Rattle.format.specs.declared.Step.{Step}
-use Rattle.format.specs.declared.Verdict.the-variants.{Passed}
 use Rattle.format.proofs.TestLaws.{below-all, below-same, below-list, first-same}
 use Rattle.encoding.specs.File.{Parts, tasksOf, objectsOf, rows, stepsBefore, scriptStart, scriptSize, scriptAt, taskBytes}
 use Rattle.encoding.specs.File.{objectBytes, trailerBytes, taskTable, objectTable, taskStart, objectStart, trailer, fileOf, given}
@@ -68,10 +66,11 @@ module _ (p : Parts) where
   task-byte i t j e h g =
       let f = taskBytes (p .setup .bases) (p .lengths) in
       let rest = objectTable p ++ trailer p in
-      let k : i ≡ length (p .steps) + (length (rows t f) + j) = omega (arith, task-rows (p .setup .bases) (p .lengths) t) in
+      let size = task-rows (p .setup .bases) (p .lengths) in
+      let k : i ≡ length (p .steps) + (length (rows t f) + j) = omega (arith, size t) in
       ap (λ (x : ℕ). getD file x 0) k ∙
       (getD-append-add (p .steps) (rows (tasksOf p) f ++ rest) (length (rows t f) + j) 0 ∙
-      (List·getD-append (rows (tasksOf p) f) rest 0 (length (rows t f) + j) (omega (arith, task-rows (p .setup .bases) (p .lengths) t, task-rows (p .setup .bases) (p .lengths) (tasksOf p))) ∙
+      (List·getD-append (rows (tasksOf p) f) rest 0 (length (rows t f) + j) (omega (arith, size t, size (tasksOf p))) ∙
       rows-at f (tasksOf p) t j h g))
 
   -- the bytes of an object row
@@ -82,12 +81,13 @@ module _ (p : Parts) where
       let f = objectBytes (p .setup .ceilings) in
       let head = p .steps ++ taskTable p in
       let z = trailer p in
-      let k : i ≡ length head + (length (rows o f) + j) = omega (arith, object-rows (p .setup .ceilings) o, front-length p) in
+      let size = object-rows (p .setup .ceilings) in
+      let k : i ≡ length head + (length (rows o f) + j) = omega (arith, size o, front-length p) in
       ap (λ (x : ℕ). getD file x 0) k ∙
       (ap (λ (l : List ℕ). getD l (length head + (length (rows o f) + j)) 0)
       (sym (file-whole p) ∙ append-assoc head (rows (objectsOf p) f) z) ∙
       (getD-append-add head (rows (objectsOf p) f ++ z) (length (rows o f) + j) 0 ∙
-      (List·getD-append (rows (objectsOf p) f) z 0 (length (rows o f) + j) (omega (arith, object-rows (p .setup .ceilings) o, object-rows (p .setup .ceilings) (objectsOf p))) ∙
+      (List·getD-append (rows (objectsOf p) f) z 0 (length (rows o f) + j) (omega (arith, size o, size (objectsOf p))) ∙
       rows-at f (objectsOf p) o j h g)))
 
   -- the counts and the starts

@@ -37,7 +37,8 @@ pub extern "C" fn dispatch_write_answer(
     room: u64,
 ) -> u64
     ensures { λ r.
-        ⌜ r ≡ packedWrite (answerOf (parts (now (bases .entry)) (now (ceilings .entry)) (now (lengths .entry)) (now (steps .entry))) room) ⌝ }
+        ⌜ r ≡
+        packedWrite (answerOf (parts (now (bases .entry)) (now (ceilings .entry)) (now (lengths .entry)) (now (steps .entry))) room) ⌝ }
 {
     let a = writer::answer(bases, ceilings, lengths, steps, room as usize);
     pack(a.number(), a.task(), a.position())

@@ -1,7 +1,7 @@
 -- Laws of the tables: a row as it was written, and the file part by part.
 use mathlib.Core.Path.{_≡_, refl, ap, sym, _∙_}
 use mathlib.Core.List.{List, [], _∷_, _++_}
-use Prim.Native.Nat.{ℕ, _+_, _*_, _-_, _≤_}
+use Prim.Native.Nat.{ℕ, _+_, _-_, _≤_}
 use native.Mathlib.Omega.{arith}
 use lib.ListN.{length, getD, take, drop}
 use Rattle.rules.specs.Limits.{largestRoster}
@@ -24,9 +24,10 @@ pub script-here : (p : Parts) (n m t start end : ℕ) (v : Verdict) → n ≡ ta
 unfolding scriptForm scriptAt
 script-here p n m t start end v a b e f g =
     let k : end - start ≡ scriptSize (p .lengths) t = omega arith in
+    let part = take (scriptSize (p .lengths) t) (drop (scriptStart (p .lengths) t) (p .steps)) in
     g ∙ (ap (λ (x : ℕ). stepsForm n m t (take x (drop start (p .steps)))) k ∙
     (ap (λ (x : ℕ). stepsForm n m t (take (scriptSize (p .lengths) t) (drop x (p .steps)))) e ∙
-    (ap (λ (x : ℕ). stepsForm x m t (take (scriptSize (p .lengths) t) (drop (scriptStart (p .lengths) t) (p .steps)))) a ∙ ap (λ (x : ℕ). stepsForm (tasksOf p) x t (take (scriptSize (p .lengths) t) (drop (scriptStart (p .lengths) t) (p .steps)))) b)))
+    (ap (λ (x : ℕ). stepsForm x m t part) a ∙ ap (λ (x : ℕ). stepsForm (tasksOf p) x t part) b)))
 
 -- a row as it was written is the row
 pub task-row : (bases lengths : List ℕ) (t base start size : ℕ) → base ≡ getD bases t 0 → start ≡ scriptStart lengths t →

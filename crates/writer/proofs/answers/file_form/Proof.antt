@@ -1,8 +1,7 @@
 -- `writer::answers::file_form` meets its contract.
-use mathlib.Core.Path.{_≡_, _∙_}
+use mathlib.Core.Path.{_≡_}
 use native.Mathlib.Omega.{arith}
 use borrow.Author.Tests.{not-true, not-false}
-use lib.ListN.{length}
 use Rattle.rules.proofs.LimitLaws.{Counted, counted-by}
 use Rattle.format.specs.declared.Verdict.the-variants.{Passed}
 use Rattle.encoding.specs.File.{Parts, parts, tasksOf, objectsOf}

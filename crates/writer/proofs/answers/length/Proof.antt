@@ -43,7 +43,8 @@ returns-2 : tie.Need-returns-2
 returns-2 c =
     let c1 = c .before in
     let p = given c1 in
-    c .size .ensures ∙ (sym (file-length p) ∙ ap length (part-whole p (c1 .before .before .before .before .before .before .before .args .room) (fileOf p) (goes c1) refl))
+    let whole = part-whole p (c1 .before .before .before .before .before .before .before .args .room) (fileOf p) (goes c1) refl in
+    c .size .ensures ∙ (sym (file-length p) ∙ ap length whole)
 
 pub length-spec : {M : Type 1} → statement M
 length-spec = tie.close (tie.spec answer-requires done-requires returns size-requires returns-2)

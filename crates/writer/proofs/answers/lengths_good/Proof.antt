@@ -2,7 +2,6 @@
 use native.Mathlib.Omega.{arith}
 use Rattle.encoding.specs.File.{parts}
 use Rattle.encoding.proofs.AnswerLaws.{lengths-no, lengths-sum}
-use borrow.Author.Needs.{needs}
 use Rattle.writer.proofs.answers.lengths_good.Statement.{statement}
 use Rattle.writer.proofs.answers.lengths_good.Tie as tie
 

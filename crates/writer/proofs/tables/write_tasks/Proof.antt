@@ -1,7 +1,6 @@
 -- `writer::tables::write_tasks` meets its contract.
 use mathlib.Core.Path.{_≡_, refl, ap, _∙_}
-use mathlib.Core.List.{[], _∷_}
-use Prim.Native.Nat.{ℕ, suc, _+_, _*_, _-_, _≤_}
+use Prim.Native.Nat.{ℕ, suc, _+_, _-_, _≤_}
 use native.Mathlib.Omega.{arith}
 use lib.ListN.{length, length-take, length-drop}
 use Rattle.encoding.specs.File.{rows, scriptStart, taskBytes}
@@ -109,7 +108,8 @@ returns c =
     let l = c .before .loop in
     let entry = c .before .before .before .before .before in
     let z : l .t ≡ length (entry .args .bases .now) = omega arith in
-    l .inv .2 ∙ ap (λ (k : ℕ). overFront (rows k (taskBytes (entry .args .bases .now) (entry .args .lengths .now))) (entry .args .table .now)) z
+    let f = taskBytes (entry .args .bases .now) (entry .args .lengths .now) in
+    l .inv .2 ∙ ap (λ (k : ℕ). overFront (rows k f) (entry .args .table .now)) z
 
 pub write-tasks-spec : {M : Type 1} → statement M
 write-tasks-spec =

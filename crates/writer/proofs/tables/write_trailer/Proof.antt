@@ -5,7 +5,6 @@ use lib.ListN.{length-set}
 use lib.Seq.{sets-eq}
 use Rattle.format.specs.Limits.{firstMark, secondMark}
 use Rattle.encoding.specs.File.{trailerBytes}
-use Rattle.words.specs.Words.{overFront}
 use Rattle.words.specs.Words.{word}
 use borrow.Author.Needs.{needs}
 use Rattle.writer.proofs.tables.write_trailer.Statement.{statement}

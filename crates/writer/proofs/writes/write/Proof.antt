@@ -1,5 +1,7 @@
 -- `writer::writes::write` meets its contract.
 use mathlib.Core.Path.{_≡_}
+use mathlib.Core.List.{List}
+use Prim.Native.Nat.{ℕ}
 use borrow.Author.Tests.{not-true, not-false}
 use lib.ListN.{length}
 use Rattle.encoding.specs.File.{Parts, parts}
@@ -17,7 +19,10 @@ given c =
     let a = c .before .before .before .before .before .before .before .before .args in
     parts (a .bases .now) (a .ceilings .now) (a .lengths .now) (a .steps .now)
 
-goes : (c : tie.Else1) → answerOf (given c) (length (c .before .before .before .before .before .before .before .before .args .out .now)) ≡ Done
+abbrev lent : tie.Else1 → List ℕ
+lent c = c .before .before .before .before .before .before .before .before .args .out .now
+
+goes : (c : tie.Else1) → answerOf (given c) (length (lent c)) ≡ Done
 goes c = done-answer (given c) _ _ _ (c .before .before .answer .ensures) (c .before .done .ensures) (not-false _ (c .if1 .left))
 
 answer-requires : tie.Need-answer-requires

@@ -109,25 +109,29 @@ write-objects-requires c κs =
 
 cast-write-trailer : tie.Need-cast-write-trailer
 cast-write-trailer c =
-    let e = c .before .before .before .before .before .before .before .before .before .before .before .before .before .before .before .before .before in
+    let scripts = c .before .before .before .before .before .before .before .before .before .before in
+    let e = scripts .before .before .before .before .before .before .before in
     let k = known _ (e .args .out .now) (e .pre) in
     omega (arith, k .counts .tasks, k .counts .objects, small _ (e .args .out .now) (e .pre))
 
 cast-write-trailer-2 : tie.Need-cast-write-trailer-2
 cast-write-trailer-2 c =
-    let e = c .before .before .before .before .before .before .before .before .before .before .before .before .before .before .before .before .before in
+    let scripts = c .before .before .before .before .before .before .before .before .before .before in
+    let e = scripts .before .before .before .before .before .before .before in
     let k = known _ (e .args .out .now) (e .pre) in
     omega (arith, k .counts .tasks, k .counts .objects, small _ (e .args .out .now) (e .pre))
 
 cast-write-trailer-3 : tie.Need-cast-write-trailer-3
 cast-write-trailer-3 c =
-    let e = c .before .before .before .before .before .before .before .before .before .before .before .before .before .before .before .before .before in
+    let scripts = c .before .before .before .before .before .before .before .before .before .before in
+    let e = scripts .before .before .before .before .before .before .before in
     let k = known _ (e .args .out .now) (e .pre) in
     omega (arith, k .counts .tasks, k .counts .objects, small _ (e .args .out .now) (e .pre))
 
 cast-write-trailer-4 : tie.Need-cast-write-trailer-4
 cast-write-trailer-4 c =
-    let e = c .before .before .before .before .before .before .before .before .before .before .before .before .before .before .before .before .before in
+    let scripts = c .before .before .before .before .before .before .before .before .before .before in
+    let e = scripts .before .before .before .before .before .before .before in
     let k = known _ (e .args .out .now) (e .pre) in
     omega (arith, k .counts .tasks, k .counts .objects, small _ (e .args .out .now) (e .pre))
 

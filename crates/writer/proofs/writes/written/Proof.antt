@@ -1,5 +1,7 @@
 -- `writer::writes::written` meets its contract.
 use mathlib.Core.Path.{_≡_, ap, sym, _∙_}
+use mathlib.Core.List.{List}
+use Prim.Native.Nat.{ℕ}
 use native.Mathlib.Omega.{arith}
 use borrow.Author.Tests.{not-true, not-false}
 use lib.ListN.{length}
@@ -20,7 +22,10 @@ given c =
     let a = c .before .before .before .before .before .before .before .before .args in
     parts (a .bases .now) (a .ceilings .now) (a .lengths .now) (a .steps .now)
 
-goes : (c : tie.Else1) → answerOf (given c) (length (c .before .before .before .before .before .before .before .before .args .out .now)) ≡ Done
+abbrev lent : tie.Else1 → List ℕ
+lent c = c .before .before .before .before .before .before .before .before .args .out .now
+
+goes : (c : tie.Else1) → answerOf (given c) (length (lent c)) ≡ Done
 goes c = done-answer (given c) _ _ _ (c .before .before .answer .ensures) (c .before .done .ensures) (not-false _ (c .if1 .left))
 
 answer-requires : tie.Need-answer-requires
@@ -42,7 +47,7 @@ returns c =
 size-requires : tie.Need-size-requires
 size-requires c κs =
     let p = given c in
-    let k = known p (c .before .before .before .before .before .before .before .before .args .out .now) (goes c) in
+    let k = known p (lent c) (goes c) in
     (k .counts .tasks, (k .counts .objects, omega (arith, file-length p, k .small)))
 
 write-file-requires : tie.Need-write-file-requires
@@ -52,7 +57,7 @@ slice-aggregate-result-2 : tie.Need-slice-aggregate-result-2
 slice-aggregate-result-2 c =
     let c5 = c .before .before .before .before .before in
     let p = given (c5 .before) in
-    let out = c5 .before .before .before .before .before .before .before .before .before .args .out .now in
+    let out = lent (c5 .before) in
     let n = c5 .size .ensures ∙ sym (file-length p) in
     n ∙ sym (ap length (over-taken (fileOf p) out _ _ (c .before .before .before .write-file .ensures) n))
 
@@ -61,7 +66,7 @@ returns-2 c =
     let c5 = c .before .before .before .before .before in
     let p = given (c5 .before) in
     let n = c5 .size .ensures ∙ sym (file-length p) in
-    let out = c5 .before .before .before .before .before .before .before .before .before .args .out .now in
+    let out = lent (c5 .before) in
     part-whole p _ _ (goes (c5 .before)) (over-taken (fileOf p) out _ _ (c .before .before .before .write-file .ensures) n)
 
 pub written-spec : {M : Type 1} → statement M
