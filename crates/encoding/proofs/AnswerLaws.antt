@@ -17,27 +17,27 @@ use Rattle.format.specs.declared.Verdict.{Verdict}
 use Rattle.format.specs.declared.Verdict.the-variants.{Passed, BadLength, BadCounts, BadLayout, BadValues}
 use Rattle.format.proofs.TestLaws.{by-test, past, and-no, and-yes, passed-is}
 use Rattle.encoding.specs.File.{Parts, tasksOf, stepsBefore, fileOf}
-use Rattle.encoding.specs.Answers.{done, lengthsGood, scriptsForm, partsForm, fileForm, answerOf, bufferOf, writtenOf}
+use Rattle.encoding.specs.Answers.{wrote, lengthsAddUp, lentScriptsForm, partsForm, fileForm, writeAnswerOf, writeBufferOf, writtenOf}
 use Rattle.encoding.specs.declared.WriteAnswer.{WriteAnswer}
 use Rattle.encoding.specs.declared.WriteAnswer.the-variants.{Done, Refused, ShortBuffer}
 use Rattle.encoding.proofs.FileLaws.{Sizes}
 
 module _ (p : Parts) where
   -- 14
-  pub lengths-no : (length (p .lengths) ≡ tasksOf p → ⊥) → false ≡ lengthsGood p
-  unfolding lengthsGood
+  pub lengths-no : (length (p .lengths) ≡ tasksOf p → ⊥) → false ≡ lengthsAddUp p
+  unfolding lengthsAddUp
   lengths-no h = and-no _ _ (ne-eqb (length (p .lengths)) (tasksOf p) h)
 
   pub lengths-sum : (sum : ℕ) → length (p .lengths) ≡ tasksOf p → sum ≡ stepsBefore (p .lengths) (length (p .lengths)) →
-      eqb (stepSize * sum) (length (p .steps)) ≡ lengthsGood p
-  unfolding lengthsGood
+      eqb (stepSize * sum) (length (p .steps)) ≡ lengthsAddUp p
+  unfolding lengthsAddUp
   lengths-sum sum e f =
       and-yes _ _ _ (eq-eqb (length (p .lengths)) (tasksOf p) e)
       (ap (λ (x : ℕ). eqb (stepSize * x) (length (p .steps))) (f ∙ ap (stepsBefore (p .lengths)) e))
 
-  pub lengths-known : lengthsGood p ≡ true →
+  pub lengths-known : lengthsAddUp p ≡ true →
       (length (p .lengths) ≡ tasksOf p) × (stepSize * stepsBefore (p .lengths) (tasksOf p) ≡ length (p .steps))
-  unfolding lengthsGood
+  unfolding lengthsAddUp
   lengths-known e =
       let a = eqb (length (p .lengths)) (tasksOf p) in
       let b = eqb (stepSize * stepsBefore (p .lengths) (tasksOf p)) (length (p .steps)) in
@@ -48,30 +48,30 @@ module _ (p : Parts) where
   unfolding partsForm
   parts-13 e = simp e
 
-  pub parts-14 : setupCounted (p .setup) ≡ true → lengthsGood p ≡ false → BadLayout ≡ partsForm p
+  pub parts-14 : setupCounted (p .setup) ≡ true → lengthsAddUp p ≡ false → BadLayout ≡ partsForm p
   unfolding partsForm
   parts-14 e f = simp (e, f)
 
-  pub parts-15 : setupCounted (p .setup) ≡ true → lengthsGood p ≡ true → setupInRange (p .setup) ≡ false → BadValues ≡ partsForm p
+  pub parts-15 : setupCounted (p .setup) ≡ true → lengthsAddUp p ≡ true → setupInRange (p .setup) ≡ false → BadValues ≡ partsForm p
   unfolding partsForm
   parts-15 e f g = simp (e, f, g)
 
-  pub parts-16 : setupCounted (p .setup) ≡ true → lengthsGood p ≡ true → setupInRange (p .setup) ≡ true → scriptsForm p ≡ partsForm p
+  pub parts-16 : setupCounted (p .setup) ≡ true → lengthsAddUp p ≡ true → setupInRange (p .setup) ≡ true → lentScriptsForm p ≡ partsForm p
   unfolding partsForm
   parts-16 e f g = simp (e, f, g)
 
   -- what passes 13 to 16
   pub record Kept : Type 0 where
     pub counts : setupCounted (p .setup) ≡ true
-    pub lengths : lengthsGood p ≡ true
+    pub lengths : lengthsAddUp p ≡ true
     pub values : setupInRange (p .setup) ≡ true
-    pub scripts : scriptsForm p ≡ Passed
+    pub scripts : lentScriptsForm p ≡ Passed
 
   pub kept : partsForm p ≡ Passed → Kept
   unfolding partsForm
   kept e =
       let a = past (not (setupCounted (p .setup))) BadCounts _ refl e in
-      let b = past (not (lengthsGood p)) BadLayout _ refl (a .1) in
+      let b = past (not (lengthsAddUp p)) BadLayout _ refl (a .1) in
       let d = past (not (setupInRange (p .setup))) BadValues _ refl (b .1) in
       record { counts = not-false _ (a .0); lengths = not-false _ (b .0); values = not-false _ (d .0); scripts = d .1 }
 
@@ -109,7 +109,7 @@ module _ (p : Parts) where
       (λ g. ltb-false _ _ g)
 
   -- the sizes of what passes
-  pub sizes-of : setupCounted (p .setup) ≡ true → lengthsGood p ≡ true → length (fileOf p) ≤ largestRoster → Sizes p
+  pub sizes-of : setupCounted (p .setup) ≡ true → lengthsAddUp p ≡ true → length (fileOf p) ≤ largestRoster → Sizes p
   sizes-of e f h =
       record {
         counts = counted-by _ _ e;
@@ -123,64 +123,64 @@ module _ (p : Parts) where
 
   -- 22
   module _ (size : ℕ) where
-    answer-then : fileForm p ≡ Passed → answerOf p size ≡ cond (ltb size (length (fileOf p))) ShortBuffer Done
-    unfolding answerOf
+    answer-then : fileForm p ≡ Passed → writeAnswerOf p size ≡ cond (ltb size (length (fileOf p))) ShortBuffer Done
+    unfolding writeAnswerOf
     answer-then e = ap (λ (v : Verdict). cond (passed v) (cond (ltb size (length (fileOf p))) ShortBuffer Done) (Refused v)) e
 
-    pub answer-refused : (v : Verdict) (b : Bool) → v ≡ fileForm p → b ≡ passed v → b ≡ false → Refused v ≡ answerOf p size
-    unfolding answerOf
+    pub answer-refused : (v : Verdict) (b : Bool) → v ≡ fileForm p → b ≡ passed v → b ≡ false → Refused v ≡ writeAnswerOf p size
+    unfolding writeAnswerOf
     answer-refused v b e f g =
         ap (λ (x : Verdict). Refused x) e ∙ sym (cond-false (passed (fileForm p)) _ _ (ap passed (sym e) ∙ (sym f ∙ g)))
 
-    pub answer-short : fileForm p ≡ Passed → size < length (fileOf p) → ShortBuffer ≡ answerOf p size
+    pub answer-short : fileForm p ≡ Passed → size < length (fileOf p) → ShortBuffer ≡ writeAnswerOf p size
     answer-short e h = sym (answer-then e ∙ cond-true _ ShortBuffer Done (lt-ltb size _ h))
 
-    pub answer-done : fileForm p ≡ Passed → length (fileOf p) ≤ size → Done ≡ answerOf p size
+    pub answer-done : fileForm p ≡ Passed → length (fileOf p) ≤ size → Done ≡ writeAnswerOf p size
     answer-done e h = sym (answer-then e ∙ cond-false _ ShortBuffer Done (le-ltb size _ h))
 
     -- what is known of a file that is written
     refused-done : (v : Verdict) → passed v ≡ false → Refused v ≡ Done → ⊥
-    refused-done v g e = clash (sym (ap done e) ∙ g)
+    refused-done v g e = clash (sym (ap wrote e) ∙ g)
 
-    pub done-file : answerOf p size ≡ Done → fileForm p ≡ Passed
-    unfolding answerOf
+    pub done-file : writeAnswerOf p size ≡ Done → fileForm p ≡ Passed
+    unfolding writeAnswerOf
     done-file e =
         by-test (passed (fileForm p)) (λ g. passed-is _ g)
         (λ g. absurd (refused-done (fileForm p) g (sym (cond-false (passed (fileForm p)) _ _ g) ∙ e)))
 
-    pub done-room : answerOf p size ≡ Done → length (fileOf p) ≤ size
+    pub done-room : writeAnswerOf p size ≡ Done → length (fileOf p) ≤ size
     done-room e =
         by-test (ltb size (length (fileOf p)))
-        (λ g. clash (sym (ap done e) ∙ ap done (answer-then (done-file e) ∙ cond-true _ ShortBuffer Done g)))
+        (λ g. clash (sym (ap wrote e) ∙ ap wrote (answer-then (done-file e) ∙ cond-true _ ShortBuffer Done g)))
         (λ g. ltb-false _ _ g)
 
     -- by the test of an answer
-    is-done : (x y : Bool) → passed (fileForm p) ≡ x → done (cond x (cond y ShortBuffer Done) (Refused (fileForm p))) ≡ true →
+    is-done : (x y : Bool) → passed (fileForm p) ≡ x → wrote (cond x (cond y ShortBuffer Done) (Refused (fileForm p))) ≡ true →
         cond x (cond y ShortBuffer Done) (Refused (fileForm p)) ≡ Done
     is-done true true e f = clash (sym f)
     is-done true false e f = refl
     is-done false y e f = clash (sym f ∙ e)
 
-    pub done-answer : (a : WriteAnswer) (b : Bool) → a ≡ answerOf p size → b ≡ done a → b ≡ true → answerOf p size ≡ Done
-    unfolding answerOf
+    pub done-answer : (a : WriteAnswer) (b : Bool) → a ≡ writeAnswerOf p size → b ≡ wrote a → b ≡ true → writeAnswerOf p size ≡ Done
+    unfolding writeAnswerOf
     done-answer a b e f g =
-        is-done (passed (fileForm p)) (ltb size (length (fileOf p))) refl (ap done (sym e) ∙ (sym f ∙ g))
+        is-done (passed (fileForm p)) (ltb size (length (fileOf p))) refl (ap wrote (sym e) ∙ (sym f ∙ g))
 
     -- the part that is handed back
-    pub part-none : (a : WriteAnswer) (b : Bool) → a ≡ answerOf p size → b ≡ done a → b ≡ false → [] ≡ writtenOf p size
+    pub part-none : (a : WriteAnswer) (b : Bool) → a ≡ writeAnswerOf p size → b ≡ wrote a → b ≡ false → [] ≡ writtenOf p size
     unfolding writtenOf
-    part-none a b e f g = sym (cond-false (done (answerOf p size)) (fileOf p) [] (ap done (sym e) ∙ (sym f ∙ g)))
+    part-none a b e f g = sym (cond-false (wrote (writeAnswerOf p size)) (fileOf p) [] (ap wrote (sym e) ∙ (sym f ∙ g)))
 
-    pub part-whole : (v : List ℕ) → answerOf p size ≡ Done → v ≡ fileOf p → v ≡ writtenOf p size
+    pub part-whole : (v : List ℕ) → writeAnswerOf p size ≡ Done → v ≡ fileOf p → v ≡ writtenOf p size
     unfolding writtenOf
-    part-whole v e f = f ∙ sym (ap (λ (x : WriteAnswer). cond (done x) (fileOf p) []) e)
+    part-whole v e f = f ∙ sym (ap (λ (x : WriteAnswer). cond (wrote x) (fileOf p) []) e)
 
   -- the buffer
   module _ (out : List ℕ) where
-    pub buffer-stays : (a : WriteAnswer) (b : Bool) → a ≡ answerOf p (length out) → b ≡ done a → b ≡ false → out ≡ bufferOf p out
-    unfolding bufferOf
-    buffer-stays a b e f g = sym (cond-false (done (answerOf p (length out))) _ out (ap done (sym e) ∙ (sym f ∙ g)))
+    pub buffer-stays : (a : WriteAnswer) (b : Bool) → a ≡ writeAnswerOf p (length out) → b ≡ wrote a → b ≡ false → out ≡ writeBufferOf p out
+    unfolding writeBufferOf
+    buffer-stays a b e f g = sym (cond-false (wrote (writeAnswerOf p (length out))) _ out (ap wrote (sym e) ∙ (sym f ∙ g)))
 
-    pub buffer-written : (v : List ℕ) → answerOf p (length out) ≡ Done → v ≡ overFront (fileOf p) out → v ≡ bufferOf p out
-    unfolding bufferOf
-    buffer-written v e f = f ∙ sym (ap (λ (x : WriteAnswer). cond (done x) (overFront (fileOf p) out) out) e)
+    pub buffer-written : (v : List ℕ) → writeAnswerOf p (length out) ≡ Done → v ≡ overFront (fileOf p) out → v ≡ writeBufferOf p out
+    unfolding writeBufferOf
+    buffer-written v e f = f ∙ sym (ap (λ (x : WriteAnswer). cond (wrote x) (overFront (fileOf p) out) out) e)

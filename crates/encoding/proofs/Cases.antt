@@ -9,20 +9,20 @@ use Rattle.format.specs.Form
 use Rattle.encoding.specs.File
 use Rattle.encoding.specs.Answers
 use Rattle.encoding.specs.Cases
-use Rattle.encoding.specs.Cases.{Answered, WholeWritten}
+use Rattle.encoding.specs.Cases.{WritingsAnswered, WholeWritten}
 
-pub answered : Answered
-unfolding File.rows File.stepsBefore File.scriptAt File.taskBytes File.objectBytes File.trailerBytes File.fileOf
-    Answers.lengthsGood Answers.scriptForm Answers.scriptsForm Answers.partsForm Answers.fileForm Answers.answerOf
+pub answered : WritingsAnswered
+unfolding File.pieces File.stepsBefore File.scriptAt File.taskRowBytes File.objectRowBytes File.trailerBytes File.fileOf
+    Answers.lengthsAddUp Answers.lentScriptForm Answers.lentScriptsForm Answers.partsForm Answers.fileForm Answers.writeAnswerOf
     Verdicts.first Lists.allOf Lists.below Words.wordAt Words.tabulate Steps.setStep Steps.stepOf Steps.codeAt Steps.aAt
     Steps.bAt Steps.stepAt Form.isStep Form.unusedZero Form.namesListed Form.standsRight Form.stepGood Form.stepForm
     Form.stepsForm Cases.cases
 answered = refl
 
 pub whole-written : WholeWritten
-unfolding File.rows File.stepsBefore File.scriptAt File.taskBytes File.objectBytes File.trailerBytes File.fileOf
-    Answers.lengthsGood Answers.scriptForm Answers.scriptsForm Answers.partsForm Answers.fileForm Answers.answerOf
-    Answers.bufferOf Answers.writtenOf
+unfolding File.pieces File.stepsBefore File.scriptAt File.taskRowBytes File.objectRowBytes File.trailerBytes File.fileOf
+    Answers.lengthsAddUp Answers.lentScriptForm Answers.lentScriptsForm Answers.partsForm Answers.fileForm Answers.writeAnswerOf
+    Answers.writeBufferOf Answers.writtenOf
     Verdicts.first Lists.allOf Lists.below Words.wordAt Words.tabulate Steps.setStep Steps.stepOf Steps.codeAt Steps.aAt
     Steps.bAt Steps.stepAt Form.isStep Form.unusedZero Form.namesListed Form.standsRight Form.stepGood Form.stepForm
     Form.stepsForm

@@ -9,7 +9,7 @@ use Rattle.format.specs.Roster.{Roster, rosterOf}
 use Rattle.format.specs.Form.{formOf}
 use Rattle.format.specs.declared.Verdict.the-variants.{BadLength}
 use Rattle.encoding.specs.File.{fileOf}
-use Rattle.encoding.specs.Answers.{bufferOf}
+use Rattle.encoding.specs.Answers.{writeBufferOf}
 use Rattle.encoding.specs.Encoding.{partsOf}
 use Rattle.encoding.specs.Claims.{ReadsBack, RefusesAsRead, LengthBeforeRoom, OneEncoding, WritesAgain}
 use Rattle.encoding.proofs.AnswerLaws.{sizes-of, sizes, file-long, file-parts, file-passes, done-file, answer-refused}
@@ -27,7 +27,7 @@ reads-back p out e =
     let buffer = sym (buffer-written p out (overFront (fileOf p) out) e refl) in
     record {
       front =
-          ap (λ (l : List ℕ). take (length l) (bufferOf p out)) file ∙
+          ap (λ (l : List ℕ). take (length l) (writeBufferOf p out)) file ∙
           (ap (take (length (fileOf p))) buffer ∙ (take-append-seam (fileOf p) (drop (length (fileOf p)) out) ∙ sym file));
       form = ap formOf file ∙ (as-read p (sizes p ok) ∙ file-parts p ok);
       says = ap rosterOf file ∙ file-given p (sizes p ok);

@@ -30,10 +30,10 @@ use Rattle.format.proofs.FormatLaws.{base-listed, ceiling-listed, script-listed
 use Rattle.format.proofs.FormLaws.{tables-laid, script-starts, script-whole, scripts-close}
 use Rattle.format.proofs.FormedLaws.{formed, part-inside, row-inside, step-good}
 use Rattle.format.proofs.ScriptLaws.{part-bytes}
-use Rattle.encoding.specs.File as E
-use Rattle.encoding.specs.File.{Parts, rows, scriptStart, scriptSize, taskBytes, objectBytes, objectStart, trailerBytes, fileOf}
-use Rattle.encoding.specs.Encoding.{scriptBytes, lengthsOf, partsOf}
-use Rattle.encoding.proofs.RowLaws.{rows-suc, rows-found}
+use Rattle.encoding.specs.File.{Parts, pieces, bytesBefore, scriptSize, taskRowBytes, objectRowBytes, objectStart, trailerBytes}
+use Rattle.encoding.specs.File.{trailerOf, fileOf}
+use Rattle.encoding.specs.Encoding.{bytesOfScript, lengthsOf, partsOf}
+use Rattle.encoding.proofs.PieceLaws.{pieces-suc, pieces-found}
 use Rattle.encoding.proofs.FileLaws.{before-none, before-suc, task-rows, object-rows, Sizes}
 use Rattle.encoding.proofs.StepLaws.{word-back, script-bytes}
 
@@ -45,7 +45,7 @@ module _ (s : List ℕ) (bytes : Bytes s) (ok : formOf s ≡ Passed) where
   p = partsOf (rosterOf s)
 
   abbrev script : ℕ → List ℕ
-  script t = scriptBytes (scriptOf (rosterOf s) t)
+  script t = bytesOfScript (scriptOf (rosterOf s) t)
 
   -- each script
   part-length : (t : ℕ) → t < taskCount s → length (partAt s t) ≡ lengthAt s t
@@ -65,7 +65,7 @@ module _ (s : List ℕ) (bytes : Bytes s) (ok : formOf s ≡ Passed) where
 
   script-back : (t : ℕ) → t < taskCount s → script t ≡ partAt s t
   script-back t h =
-      ap scriptBytes (script-listed s t h) ∙
+      ap bytesOfScript (script-listed s t h) ∙
       script-bytes (partAt s t) (part-bytes s bytes t) (omega (arith, part-length t h, script-whole s (formed s ok .layout) t h))
       (λ k g. and-left _ _ (part-step t h k g)) (λ k g. and-right (isStep (stepAt (partAt s t) k)) _ (part-step t h k g))
 
@@ -77,27 +77,27 @@ module _ (s : List ℕ) (bytes : Bytes s) (ok : formOf s ≡ Passed) where
       let b = ap length (script-listed s t h) ∙ steps-length (partAt s t) in
       omega (arith, a, b, part-length t h, script-whole s (formed s ok .layout) t h)
 
-  before-back : (t : ℕ) → t ≤ taskCount s → scriptStart (p .lengths) t ≡ scriptsEnd s t
+  before-back : (t : ℕ) → t ≤ taskCount s → bytesBefore (p .lengths) t ≡ scriptsEnd s t
   unfolding scriptsEnd
   before-back zero h = omega (arith, before-none (lengthsOf r))
   before-back (suc t) h = omega (arith, before-suc (lengthsOf r) t, before-back t (omega arith), length-back t h)
 
-  scripts-length : (t : ℕ) → t ≤ taskCount s → length (rows t script) ≡ scriptsEnd s t
-  unfolding scriptsEnd rows
+  scripts-length : (t : ℕ) → t ≤ taskCount s → length (pieces t script) ≡ scriptsEnd s t
+  unfolding scriptsEnd pieces
   scripts-length zero h = refl
   scripts-length (suc t) h =
-      omega (arith, rows-suc script t, scripts-length t (omega arith), ap length (script-back t h), part-length t h)
+      omega (arith, pieces-suc script t, scripts-length t (omega arith), ap length (script-back t h), part-length t h)
 
-  scripts-whole : length (rows (taskCount s) script) ≡ taskTable s
+  scripts-whole : length (pieces (taskCount s) script) ≡ taskTable s
   scripts-whole = scripts-length (taskCount s) (omega arith) ∙ scripts-close s (formed s ok .layout)
 
-  scripts-back : take (taskTable s) s ≡ rows (taskCount s) script
+  scripts-back : take (taskTable s) s ≡ pieces (taskCount s) script
   unfolding partAt
   scripts-back =
       ap (λ (k : ℕ). take k s) (sym scripts-whole) ∙
-      rows-found script s (taskCount s) (λ t h.
+      pieces-found script s (taskCount s) (λ t h.
       let e = script-back t h in
-      ap (λ (k : ℕ). take k (drop (length (rows t script)) s)) (ap length e ∙ part-length t h) ∙
+      ap (λ (k : ℕ). take k (drop (length (pieces t script)) s)) (ap length e ∙ part-length t h) ∙
       (ap (λ (k : ℕ). take (lengthAt s t) (drop k s)) (scripts-length t (omega arith) ∙ sym (script-starts s (formed s ok .layout) t h)) ∙
       sym e))
 
@@ -114,15 +114,15 @@ module _ (s : List ℕ) (bytes : Bytes s) (ok : formOf s ≡ Passed) where
       )
 
   -- each task row
-  row-back : (t : ℕ) → t < taskCount s → take taskRowSize (drop (taskRow s t) s) ≡ taskBytes (p .setup .bases) (p .lengths) t
-  unfolding tabulate taskBytes valuesGood taskRowGood baseAt startAt lengthAt
+  row-back : (t : ℕ) → t < taskCount s → take taskRowSize (drop (taskRow s t) s) ≡ taskRowBytes (p .setup .bases) (p .lengths) t
+  unfolding tabulate taskRowBytes valuesGood taskRowGood baseAt startAt lengthAt
   row-back t h =
       let at = taskRow s t in
       let b0 : getD s at 0 ≡ getD (r .bases) t 0 = sym (base-listed s t h) in
       let good = below-at (taskRowGood s) (taskCount s) t
       (and-left (below (taskCount s) (taskRowGood s)) (below (objectCount s) (objectRowGood s)) (formed s ok .values)) h in
       let b1 : getD s (at + 1) 0 ≡ 0 = eqb-true _ _ (and-right (inRange (baseAt s t)) (eqb (byteAt s (at + 1)) 0) good) in
-      let w1 : getD s (at + 2) 0 ∷ getD s (at + 3) 0 ∷ [] ≡ word (scriptStart (p .lengths) t) =
+      let w1 : getD s (at + 2) 0 ∷ getD s (at + 3) 0 ∷ [] ≡ word (bytesBefore (p .lengths) t) =
       ap (λ (k : ℕ). getD s (at + 2) 0 ∷ getD s k 0 ∷ []) (let z : at + 3 ≡ at + 2 + 1 = omega arith in z) ∙
       (sym (word-back s (at + 2) bytes) ∙ ap word (script-starts s (formed s ok .layout) t h ∙ sym (before-back t (omega arith)))) in
       let w2 : getD s (at + 4) 0 ∷ getD s (at + 5) 0 ∷ [] ≡ word (scriptSize (p .lengths) t) =
@@ -136,14 +136,14 @@ module _ (s : List ℕ) (bytes : Bytes s) (ok : formOf s ≡ Passed) where
       (ap (λ (x : ℕ). x ∷ getD s (at + 1) 0 ∷ (u1 ++ u2)) b0 ∙
       (ap (λ (x : ℕ). getD (r .bases) t 0 ∷ x ∷ (u1 ++ u2)) b1 ∙
       (ap (λ (l : List ℕ). getD (r .bases) t 0 ∷ 0 ∷ (l ++ u2)) w1 ∙
-      ap (λ (l : List ℕ). getD (r .bases) t 0 ∷ 0 ∷ (word (scriptStart (p .lengths) t) ++ l)) w2))))
+      ap (λ (l : List ℕ). getD (r .bases) t 0 ∷ 0 ∷ (word (bytesBefore (p .lengths) t) ++ l)) w2))))
 
-  tasks-back : take (taskRowSize * taskCount s) (drop (taskTable s) s) ≡ rows (taskCount s) (taskBytes (p .setup .bases) (p .lengths))
-  unfolding taskBytes taskRow
+  tasks-back : take (taskRowSize * taskCount s) (drop (taskTable s) s) ≡ pieces (taskCount s) (taskRowBytes (p .setup .bases) (p .lengths))
+  unfolding taskRowBytes taskRow
   tasks-back =
-      let f = taskBytes (p .setup .bases) (p .lengths) in
+      let f = taskRowBytes (p .setup .bases) (p .lengths) in
       ap (λ (k : ℕ). take k (drop (taskTable s) s)) (sym (task-rows (p .setup .bases) (p .lengths) (taskCount s))) ∙
-      rows-found f (drop (taskTable s) s) (taskCount s) (λ t h.
+      pieces-found f (drop (taskTable s) s) (taskCount s) (λ t h.
       ap (λ (k : ℕ). take 6 (drop k (drop (taskTable s) s))) (task-rows (p .setup .bases) (p .lengths) t) ∙
       (ap (take 6) (drop-drop (6 * t) (taskTable s) s) ∙ row-back t h))
 
@@ -152,8 +152,8 @@ module _ (s : List ℕ) (bytes : Bytes s) (ok : formOf s ≡ Passed) where
   unfolding objectRow
   object-inside o h = omega (arith, tables .1, long)
 
-  object-back : (o : ℕ) → o < objectCount s → take objectRowSize (drop (objectRow s o) s) ≡ objectBytes (p .setup .ceilings) o
-  unfolding tabulate objectBytes valuesGood objectRowGood ceilingAt
+  object-back : (o : ℕ) → o < objectCount s → take objectRowSize (drop (objectRow s o) s) ≡ objectRowBytes (p .setup .ceilings) o
+  unfolding tabulate objectRowBytes valuesGood objectRowGood ceilingAt
   object-back o h =
       let at = objectRow s o in
       let b0 : getD s at 0 ≡ getD (r .ceilings) o 0 = sym (ceiling-listed s o h) in
@@ -164,24 +164,25 @@ module _ (s : List ℕ) (bytes : Bytes s) (ok : formOf s ≡ Passed) where
       (ap (λ (k : ℕ). getD s k 0 ∷ getD s (at + 1) 0 ∷ []) (add-zero at) ∙
       (ap (λ (x : ℕ). x ∷ getD s (at + 1) 0 ∷ []) b0 ∙ ap (λ (x : ℕ). getD (r .ceilings) o 0 ∷ x ∷ []) b1))
 
-  objects-back : take (objectRowSize * objectCount s) (drop (objectTable s) s) ≡ rows (objectCount s) (objectBytes (p .setup .ceilings))
-  unfolding objectBytes objectRow
+  objects-back : take (objectRowSize * objectCount s) (drop (objectTable s) s) ≡
+      pieces (objectCount s) (objectRowBytes (p .setup .ceilings))
+  unfolding objectRowBytes objectRow
   objects-back =
-      let f = objectBytes (p .setup .ceilings) in
+      let f = objectRowBytes (p .setup .ceilings) in
       ap (λ (k : ℕ). take k (drop (objectTable s) s)) (sym (object-rows (p .setup .ceilings) (objectCount s))) ∙
-      rows-found f (drop (objectTable s) s) (objectCount s) (λ o h.
+      pieces-found f (drop (objectTable s) s) (objectCount s) (λ o h.
       ap (λ (k : ℕ). take 2 (drop k (drop (objectTable s) s))) (object-rows (p .setup .ceilings) o) ∙
       (ap (take 2) (drop-drop (2 * o) (objectTable s) s) ∙ object-back o h))
 
   -- the trailer
   table-start : length (p .steps) ≡ taskTable s
-  table-start = ap (λ (n : ℕ). length (rows n script)) (base-count s) ∙ scripts-whole
+  table-start = ap (λ (n : ℕ). length (pieces n script)) (base-count s) ∙ scripts-whole
 
   object-start : objectStart p ≡ objectTable s
   unfolding taskRow
   object-start = omega (arith, table-start, base-count s, tables .0)
 
-  trailer-back : drop (trailer s) s ≡ E.trailer p
+  trailer-back : drop (trailer s) s ≡ trailerOf p
   unfolding tabulate trailerBytes markGood taskCount objectCount objectTable taskTable
   trailer-back =
       let z = trailer s in
@@ -216,23 +217,23 @@ module _ (s : List ℕ) (bytes : Bytes s) (ok : formOf s ≡ Passed) where
   encoded =
       let n = taskCount s in
       let m = objectCount s in
-      let tasks = taskBytes (p .setup .bases) (p .lengths) in
-      let objects = objectBytes (p .setup .ceilings) in
-      let rest = rows m objects ++ E.trailer p in
+      let tasks = taskRowBytes (p .setup .bases) (p .lengths) in
+      let objects = objectRowBytes (p .setup .ceilings) in
+      let rest = pieces m objects ++ trailerOf p in
       let last : drop (objectTable s) s ≡ rest =
       sym (take-append-drop (2 * m) (drop (objectTable s) s)) ∙
       (ap (λ (l : List ℕ). l ++ drop (2 * m) (drop (objectTable s) s)) objects-back ∙
-      ap (λ (l : List ℕ). rows m objects ++ l)
+      ap (λ (l : List ℕ). pieces m objects ++ l)
       (drop-drop (2 * m) (objectTable s) s ∙ (ap (λ (k : ℕ). drop k s) (tables .1) ∙ trailer-back))) in
-      let middle : drop (taskTable s) s ≡ rows n tasks ++ rest =
+      let middle : drop (taskTable s) s ≡ pieces n tasks ++ rest =
       sym (take-append-drop (6 * n) (drop (taskTable s) s)) ∙
       (ap (λ (l : List ℕ). l ++ drop (6 * n) (drop (taskTable s) s)) tasks-back ∙
-      ap (λ (l : List ℕ). rows n tasks ++ l)
+      ap (λ (l : List ℕ). pieces n tasks ++ l)
       (drop-drop (6 * n) (taskTable s) s ∙ (ap (λ (k : ℕ). drop k s) (tables .0) ∙ last))) in
-      let whole : s ≡ rows n script ++ (rows n tasks ++ rest) =
+      let whole : s ≡ pieces n script ++ (pieces n tasks ++ rest) =
       sym (take-append-drop (taskTable s) s) ∙
-      (ap (λ (l : List ℕ). l ++ drop (taskTable s) s) scripts-back ∙ ap (λ (l : List ℕ). rows n script ++ l) middle) in
-      let file : ℕ → ℕ → List ℕ = λ x y. rows x script ++ (rows x tasks ++ (rows y objects ++ E.trailer p)) in
+      (ap (λ (l : List ℕ). l ++ drop (taskTable s) s) scripts-back ∙ ap (λ (l : List ℕ). pieces n script ++ l) middle) in
+      let file : ℕ → ℕ → List ℕ = λ x y. pieces x script ++ (pieces x tasks ++ (pieces y objects ++ trailerOf p)) in
       ap (λ (x : ℕ). file x (length (r .ceilings))) (base-count s) ∙ (ap (file n) (ceiling-count s) ∙ sym whole)
 
   -- and its sizes are good
@@ -247,7 +248,7 @@ module _ (s : List ℕ) (bytes : Bytes s) (ok : formOf s ≡ Passed) where
         whole =
             omega (
               arith,
-              ap (scriptStart (p .lengths)) (base-count s),
+              ap (bytesBefore (p .lengths)) (base-count s),
               before-back n (omega arith),
               scripts-close s (formed s ok .layout),
               table-start,

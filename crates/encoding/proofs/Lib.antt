@@ -1,4 +1,4 @@
-pub mod RowLaws
+pub mod PieceLaws
 pub mod FileLaws
 pub mod AnswerLaws
 pub mod PlaceLaws

@@ -27,10 +27,10 @@ use Rattle.format.specs.Form.{lengthGood, markGood, countsKept, tablesGood, scr
 use Rattle.format.specs.Form.{taskRowGood, objectRowGood, valuesGood, stepsForm, formOf}
 use Rattle.format.specs.declared.Step.{Step}
 use Rattle.format.proofs.TestLaws.{below-all, below-same, below-list, first-same}
-use Rattle.encoding.specs.File.{Parts, tasksOf, objectsOf, rows, stepsBefore, scriptStart, scriptSize, scriptAt, taskBytes}
-use Rattle.encoding.specs.File.{objectBytes, trailerBytes, taskTable, objectTable, taskStart, objectStart, trailer, fileOf, given}
-use Rattle.encoding.specs.Answers.{lengthsGood, scriptForm, scriptsForm, partsForm}
-use Rattle.encoding.proofs.RowLaws.{rows-at}
+use Rattle.encoding.specs.File.{Parts, tasksOf, objectsOf, pieces, stepsBefore, bytesBefore, scriptSize, scriptAt, taskRowBytes}
+use Rattle.encoding.specs.File.{objectRowBytes, trailerBytes, taskRows, objectRows, taskStart, objectStart, trailerOf, fileOf, given}
+use Rattle.encoding.specs.Answers.{lengthsAddUp, lentScriptForm, lentScriptsForm, partsForm}
+use Rattle.encoding.proofs.PieceLaws.{pieces-at}
 use Rattle.encoding.proofs.FileLaws.{before-none, before-suc, trailerStart, task-rows, object-rows}
 use Rattle.encoding.proofs.FileLaws.{front-length, tables-length, file-whole, file-length, Sizes, script-inside}
 
@@ -52,43 +52,43 @@ module _ (p : Parts) where
   unfolding R.trailer
   trailer-at = omega (arith, file-length p)
 
-  trailer-byte : (i j : ℕ) → i ≡ R.trailer file + j → byteAt file i ≡ getD (trailer p) j 0
+  trailer-byte : (i j : ℕ) → i ≡ R.trailer file + j → byteAt file i ≡ getD (trailerOf p) j 0
   trailer-byte i j e =
-      let h = (p .steps ++ taskTable p) ++ objectTable p in
+      let h = (p .steps ++ taskRows p) ++ objectRows p in
       let k : i ≡ length h + j = omega (arith, trailer-at, tables-length p) in
       ap (λ (x : ℕ). getD file x 0) k ∙
-      (ap (λ (l : List ℕ). getD l (length h + j) 0) (sym (file-whole p)) ∙ getD-append-add h (trailer p) j 0)
+      (ap (λ (l : List ℕ). getD l (length h + j) 0) (sym (file-whole p)) ∙ getD-append-add h (trailerOf p) j 0)
 
   -- the bytes of a task row
   task-byte : (i t j : ℕ) → i ≡ taskStart p + taskRowSize * t + j → t < tasksOf p → j < taskRowSize →
-      byteAt file i ≡ getD (taskBytes (p .setup .bases) (p .lengths) t) j 0
-  unfolding fileOf taskBytes
+      byteAt file i ≡ getD (taskRowBytes (p .setup .bases) (p .lengths) t) j 0
+  unfolding fileOf taskRowBytes
   task-byte i t j e h g =
-      let f = taskBytes (p .setup .bases) (p .lengths) in
-      let rest = objectTable p ++ trailer p in
+      let f = taskRowBytes (p .setup .bases) (p .lengths) in
+      let rest = objectRows p ++ trailerOf p in
       let size = task-rows (p .setup .bases) (p .lengths) in
-      let k : i ≡ length (p .steps) + (length (rows t f) + j) = omega (arith, size t) in
+      let k : i ≡ length (p .steps) + (length (pieces t f) + j) = omega (arith, size t) in
       ap (λ (x : ℕ). getD file x 0) k ∙
-      (getD-append-add (p .steps) (rows (tasksOf p) f ++ rest) (length (rows t f) + j) 0 ∙
-      (List·getD-append (rows (tasksOf p) f) rest 0 (length (rows t f) + j) (omega (arith, size t, size (tasksOf p))) ∙
-      rows-at f (tasksOf p) t j h g))
+      (getD-append-add (p .steps) (pieces (tasksOf p) f ++ rest) (length (pieces t f) + j) 0 ∙
+      (List·getD-append (pieces (tasksOf p) f) rest 0 (length (pieces t f) + j) (omega (arith, size t, size (tasksOf p))) ∙
+      pieces-at f (tasksOf p) t j h g))
 
   -- the bytes of an object row
   object-byte : (i o j : ℕ) → i ≡ objectStart p + objectRowSize * o + j → o < objectsOf p → j < objectRowSize →
-      byteAt file i ≡ getD (objectBytes (p .setup .ceilings) o) j 0
-  unfolding objectBytes
+      byteAt file i ≡ getD (objectRowBytes (p .setup .ceilings) o) j 0
+  unfolding objectRowBytes
   object-byte i o j e h g =
-      let f = objectBytes (p .setup .ceilings) in
-      let head = p .steps ++ taskTable p in
-      let z = trailer p in
+      let f = objectRowBytes (p .setup .ceilings) in
+      let head = p .steps ++ taskRows p in
+      let z = trailerOf p in
       let size = object-rows (p .setup .ceilings) in
-      let k : i ≡ length head + (length (rows o f) + j) = omega (arith, size o, front-length p) in
+      let k : i ≡ length head + (length (pieces o f) + j) = omega (arith, size o, front-length p) in
       ap (λ (x : ℕ). getD file x 0) k ∙
-      (ap (λ (l : List ℕ). getD l (length head + (length (rows o f) + j)) 0)
-      (sym (file-whole p) ∙ append-assoc head (rows (objectsOf p) f) z) ∙
-      (getD-append-add head (rows (objectsOf p) f ++ z) (length (rows o f) + j) 0 ∙
-      (List·getD-append (rows (objectsOf p) f) z 0 (length (rows o f) + j) (omega (arith, size o, size (objectsOf p))) ∙
-      rows-at f (objectsOf p) o j h g)))
+      (ap (λ (l : List ℕ). getD l (length head + (length (pieces o f) + j)) 0)
+      (sym (file-whole p) ∙ append-assoc head (pieces (objectsOf p) f) z) ∙
+      (getD-append-add head (pieces (objectsOf p) f ++ z) (length (pieces o f) + j) 0 ∙
+      (List·getD-append (pieces (objectsOf p) f) z 0 (length (pieces o f) + j) (omega (arith, size o, size (objectsOf p))) ∙
+      pieces-at f (objectsOf p) o j h g)))
 
   -- the counts and the starts
   tasks-read : taskCount file ≡ tasksOf p
@@ -118,22 +118,22 @@ module _ (p : Parts) where
 
   module _ (t : ℕ) (h : t < tasksOf p) where
     base-read : baseAt file t ≡ getD (p .setup .bases) t 0
-    unfolding baseAt taskBytes
+    unfolding baseAt taskRowBytes
     base-read = task-byte (taskRow file t) t 0 (omega (arith, task-row-read t)) h (omega arith)
 
     zero-read : byteAt file (taskRow file t + 1) ≡ 0
-    unfolding taskBytes
+    unfolding taskRowBytes
     zero-read = task-byte (taskRow file t + 1) t 1 (omega (arith, task-row-read t)) h (omega arith)
 
-    start-read : startAt file t ≡ scriptStart (p .lengths) t
-    unfolding startAt taskBytes
+    start-read : startAt file t ≡ bytesBefore (p .lengths) t
+    unfolding startAt taskRowBytes
     start-read =
         let at = taskRow file t + 2 in
-        word-is file at (scriptStart (p .lengths) t) (task-byte at t 2 (omega (arith, task-row-read t)) h (omega arith))
+        word-is file at (bytesBefore (p .lengths) t) (task-byte at t 2 (omega (arith, task-row-read t)) h (omega arith))
         (task-byte (at + 1) t 3 (omega (arith, task-row-read t)) h (omega arith))
 
     length-read : lengthAt file t ≡ scriptSize (p .lengths) t
-    unfolding lengthAt taskBytes
+    unfolding lengthAt taskRowBytes
     length-read =
         let at = taskRow file t + 4 in
         word-is file at (scriptSize (p .lengths) t) (task-byte at t 4 (omega (arith, task-row-read t)) h (omega arith))
@@ -146,11 +146,11 @@ module _ (p : Parts) where
 
   module _ (o : ℕ) (h : o < objectsOf p) where
     ceiling-read : ceilingAt file o ≡ getD (p .setup .ceilings) o 0
-    unfolding ceilingAt objectBytes
+    unfolding ceilingAt objectRowBytes
     ceiling-read = object-byte (objectRow file o) o 0 (omega (arith, object-row-read o)) h (omega arith)
 
     object-zero-read : byteAt file (objectRow file o + 1) ≡ 0
-    unfolding objectBytes
+    unfolding objectRowBytes
     object-zero-read = object-byte (objectRow file o + 1) o 1 (omega (arith, object-row-read o)) h (omega arith)
 
   -- of what keeps 13, 14 and 11: a script
@@ -158,9 +158,9 @@ module _ (p : Parts) where
     part-read : (t : ℕ) → t < tasksOf p → partAt file t ≡ scriptAt p t
     unfolding partAt scriptAt fileOf
     part-read t h =
-        let a = scriptStart (p .lengths) t in
+        let a = bytesBefore (p .lengths) t in
         let k = scriptSize (p .lengths) t in
-        let rest = taskTable p ++ (objectTable p ++ trailer p) in
+        let rest = taskRows p ++ (objectRows p ++ trailerOf p) in
         let inside = script-inside p (known .whole) t h in
         ap (λ (x : ℕ). take x (drop (startAt file t) file)) (length-read t h) ∙
         (ap (λ (x : ℕ). take k (drop x file)) (start-read t h) ∙
@@ -192,13 +192,13 @@ module _ (p : Parts) where
         ap (λ (n : ℕ). countsGood n (objectCount file)) tasks-read ∙ (ap (countsGood (tasksOf p)) objects-read ∙ given-counts)
 
     -- 14
-    given-lengths : lengthsGood p ≡ true
-    unfolding lengthsGood
+    given-lengths : lengthsAddUp p ≡ true
+    unfolding lengthsAddUp
     given-lengths =
         and-make _ _ (eq-eqb (length (p .lengths)) (tasksOf p) (known .each))
         (eq-eqb (stepSize * stepsBefore (p .lengths) (tasksOf p)) (length (p .steps)) (known .whole))
 
-    ends-read : (t : ℕ) → t ≤ tasksOf p → scriptsEnd file t ≡ scriptStart (p .lengths) t
+    ends-read : (t : ℕ) → t ≤ tasksOf p → scriptsEnd file t ≡ bytesBefore (p .lengths) t
     unfolding scriptsEnd
     ends-read zero h = omega (arith, before-none (p .lengths))
     ends-read (suc t) h = omega (arith, ends-read t (omega arith), length-read t h, before-suc (p .lengths) t)
@@ -248,13 +248,13 @@ module _ (p : Parts) where
         ap (λ (b : Bool). allOf inRange (p .setup .bases) && b) objects-same
 
     -- so is 16, with its task and step
-    steps-same : F.scriptsForm file ≡ scriptsForm p
-    unfolding F.scriptsForm F.scriptForm scriptsForm scriptForm
+    steps-same : F.scriptsForm file ≡ lentScriptsForm p
+    unfolding F.scriptsForm F.scriptForm lentScriptsForm lentScriptForm
     steps-same =
         let n = tasksOf p in
         let m = objectsOf p in
         ap (λ (k : ℕ). first k (F.scriptForm file)) tasks-read ∙
-        first-same (F.scriptForm file) (scriptForm p) n (λ t h.
+        first-same (F.scriptForm file) (lentScriptForm p) n (λ t h.
         ap (λ (x : ℕ). stepsForm x (objectCount file) t (partAt file t)) tasks-read ∙
         (ap (λ (x : ℕ). stepsForm n x t (partAt file t)) objects-read ∙ ap (stepsForm n m t) (part-read t h)))
 

@@ -22,9 +22,9 @@ use Rattle.format.specs.declared.Step.{Step}
 use Rattle.format.specs.declared.Step.the-variants.{Enter, Leave, Delay, Work, Suspend, Release, Set, Again, Finish}
 use Rattle.format.proofs.TestLaws.{by-test}
 use Rattle.format.proofs.StepLaws.{step-none, steps-at, steps-length}
-use Rattle.encoding.specs.File.{rows}
-use Rattle.encoding.specs.Encoding.{stepBytes, scriptBytes}
-use Rattle.encoding.proofs.RowLaws.{rows-found, rows-length}
+use Rattle.encoding.specs.File.{pieces}
+use Rattle.encoding.specs.Encoding.{bytesOfStep, bytesOfScript}
+use Rattle.encoding.proofs.PieceLaws.{pieces-found, pieces-length}
 
 -- a word's two bytes
 pub word-back : (s : List ℕ) (i : ℕ) → Bytes s → word (wordAt s i) ≡ byteAt s i ∷ byteAt s (i + 1) ∷ []
@@ -37,7 +37,7 @@ word-back s i h =
 module _ (a b : ℕ) where
   -- a code, read as a step that leaves nothing unused, is what the step is written with
   Back : ℕ → Type 0
-  Back code = isStep (stepOf code a b) ≡ true → unusedZero a b (stepOf code a b) ≡ true → stepBytes (stepOf code a b) ≡ code ∷ a ∷ word b
+  Back code = isStep (stepOf code a b) ≡ true → unusedZero a b (stepOf code a b) ≡ true → bytesOfStep (stepOf code a b) ≡ code ∷ a ∷ word b
 
   b-none : (code : ℕ) → eqb b 0 ≡ true → code ∷ a ∷ word 0 ≡ code ∷ a ∷ word b
   b-none code e = ap (λ (x : ℕ). code ∷ a ∷ word x) (sym (eqb-true b 0 e))
@@ -51,31 +51,31 @@ module _ (a b : ℕ) where
       b-none code (and-right (eqb a 0) (eqb b 0) e)
 
   back-1 : Back 1
-  unfolding Back stepOf unusedZero stepBytes
+  unfolding Back stepOf unusedZero bytesOfStep
   back-1 i e = b-none 1 e
 
   back-2 : Back 2
-  unfolding Back stepOf unusedZero stepBytes
+  unfolding Back stepOf unusedZero bytesOfStep
   back-2 i e = b-none 2 e
 
   back-3 : Back 3
-  unfolding Back stepOf unusedZero stepBytes
+  unfolding Back stepOf unusedZero bytesOfStep
   back-3 i e = a-none 3 e
 
   back-4 : Back 4
-  unfolding Back stepOf unusedZero stepBytes
+  unfolding Back stepOf unusedZero bytesOfStep
   back-4 i e = both-none 4 e
 
   back-5 : Back 5
-  unfolding Back stepOf unusedZero stepBytes
+  unfolding Back stepOf unusedZero bytesOfStep
   back-5 i e = both-none 5 e
 
   back-6 : Back 6
-  unfolding Back stepOf unusedZero stepBytes
+  unfolding Back stepOf unusedZero bytesOfStep
   back-6 i e = b-none 6 e
 
-  set-back : (v : Checked) → v ≡ checkedOf b → isStep (setStep a v) ≡ true → stepBytes (setStep a v) ≡ 7 ∷ a ∷ word b
-  unfolding setStep isStep stepBytes
+  set-back : (v : Checked) → v ≡ checkedOf b → isStep (setStep a v) ≡ true → bytesOfStep (setStep a v) ≡ 7 ∷ a ∷ word b
+  unfolding setStep isStep bytesOfStep
   set-back (Good p) f e =
       by-test (inRange b)
       (λ h.
@@ -92,11 +92,11 @@ module _ (a b : ℕ) where
   back-7 i e = set-back (checkedOf b) refl i
 
   back-8 : Back 8
-  unfolding Back stepOf unusedZero stepBytes
+  unfolding Back stepOf unusedZero bytesOfStep
   back-8 i e = both-none 8 e
 
   step-back : (code : ℕ) → isStep (stepOf code a b) ≡ true → unusedZero a b (stepOf code a b) ≡ true →
-      stepBytes (stepOf code a b) ≡ code ∷ a ∷ word b
+      bytesOfStep (stepOf code a b) ≡ code ∷ a ∷ word b
   unfolding Back isStep
   step-back code i e =
       let at : (x : ℕ) → Back x → code ≡ x → Back code = λ x p k. subst Back (sym k) p in
@@ -106,8 +106,8 @@ module _ (a b : ℕ) where
       split code 7 (λ k. at 7 back-7 k i e) (λ n7. split code 8 (λ k. at 8 back-8 k i e) (λ n8.
       clash (sym i ∙ ap isStep (step-none code a b n1 n2 n3 n4 n5 n6 n7 n8))))))))))
 
-step-length : (x : Step) → length (stepBytes x) ≡ stepSize
-unfolding stepBytes
+step-length : (x : Step) → length (bytesOfStep x) ≡ stepSize
+unfolding bytesOfStep
 step-length (Enter o) = refl
 step-length (Leave o) = refl
 step-length (Delay d) = refl
@@ -122,7 +122,7 @@ step-length Finish = refl
 module _ (part : List ℕ) (bytes : Bytes part) (whole : length part % stepSize ≡ 0)
     (steps : (k : ℕ) → k < stepCount part → isStep (stepAt part k) ≡ true)
     (zeros : (k : ℕ) → k < stepCount part → unusedZero (aAt part k) (bAt part k) (stepAt part k) ≡ true) where
-  four : (k : ℕ) → k < stepCount part → take 4 (drop (4 * k) part) ≡ stepBytes (stepAt part k)
+  four : (k : ℕ) → k < stepCount part → take 4 (drop (4 * k) part) ≡ bytesOfStep (stepAt part k)
   unfolding tabulate stepAt codeAt aAt bAt
   four k h =
       let at = 4 * k in
@@ -134,17 +134,18 @@ module _ (part : List ℕ) (bytes : Bytes part) (whole : length part % stepSize 
       (ap (λ (l : List ℕ). getD part at 0 ∷ getD part (at + 1) 0 ∷ l) (sym w) ∙
       sym (step-back (aAt part k) (bAt part k) (codeAt part k) (steps k h) (zeros k h)))))
 
-  pub script-bytes : scriptBytes (stepsOf part) ≡ part
-  unfolding scriptBytes
+  pub script-bytes : bytesOfScript (stepsOf part) ≡ part
+  unfolding bytesOfScript
   script-bytes =
-      let f : ℕ → List ℕ = λ k. stepBytes (stepIn (stepsOf part) k) in
+      let f : ℕ → List ℕ = λ k. bytesOfStep (stepIn (stepsOf part) k) in
       let n = length (stepsOf part) in
       let count : n ≡ stepCount part = steps-length part in
-      let size : (m : ℕ) → length (rows m f) ≡ m * stepSize = λ m. rows-length f stepSize m (λ k. step-length (stepIn (stepsOf part) k)) in
-      let found = rows-found f part n (λ k h.
+      let size : (m : ℕ) → length (pieces m f) ≡ m * stepSize =
+      λ m. pieces-length f stepSize m (λ k. step-length (stepIn (stepsOf part) k)) in
+      let found = pieces-found f part n (λ k h.
       let low : k < stepCount part = omega arith in
-      let from : length (rows k f) ≡ 4 * k = omega (arith, size k) in
-      ap (λ (x : ℕ). take x (drop (length (rows k f)) part)) (step-length (stepIn (stepsOf part) k)) ∙
+      let from : length (pieces k f) ≡ 4 * k = omega (arith, size k) in
+      ap (λ (x : ℕ). take x (drop (length (pieces k f)) part)) (step-length (stepIn (stepsOf part) k)) ∙
       (ap (λ (x : ℕ). take 4 (drop x part)) from ∙
-      (four k low ∙ ap stepBytes (sym (steps-at part k low))))) in
-      sym found ∙ take-all (length (rows n f)) part (omega (arith, size n, count))
+      (four k low ∙ ap bytesOfStep (sym (steps-at part k low))))) in
+      sym found ∙ take-all (length (pieces n f)) part (omega (arith, size n, count))

@@ -33,41 +33,41 @@ positionOf Done = 0
 positionOf (Refused v) = Roster.positionOf v
 positionOf ShortBuffer = 0
 
-abbrev pub done : WriteAnswer → Bool
-done a = eqb (numberOf a) 0
+abbrev pub wrote : WriteAnswer → Bool
+wrote a = eqb (numberOf a) 0
 
 -- 14 "lengths in steps that aren't one per base or don't add up to the lent steps": not so here
-unfoldable pub lengthsGood : Parts → Bool
-lengthsGood p = eqb (length (p .lengths)) (tasksOf p) && eqb (stepSize * stepsBefore (p .lengths) (tasksOf p)) (length (p .steps))
+unfoldable pub lengthsAddUp : Parts → Bool
+lengthsAddUp p = eqb (length (p .lengths)) (tasksOf p) && eqb (stepSize * stepsBefore (p .lengths) (tasksOf p)) (length (p .steps))
 
 -- 16 "as the reader would", "the first fault in task and step order"
-unfoldable pub scriptForm : Parts → ℕ → Verdict
-scriptForm p t = stepsForm (tasksOf p) (objectsOf p) t (scriptAt p t)
+unfoldable pub lentScriptForm : Parts → ℕ → Verdict
+lentScriptForm p t = stepsForm (tasksOf p) (objectsOf p) t (scriptAt p t)
 
-unfoldable pub scriptsForm : Parts → Verdict
-scriptsForm p = first (tasksOf p) (scriptForm p)
+unfoldable pub lentScriptsForm : Parts → Verdict
+lentScriptsForm p = first (tasksOf p) (lentScriptForm p)
 
 -- "It refuses with 13, 14 (..), 15 and 16 as the reader would": counts, bases and ceilings as for a fresh start
 unfoldable pub partsForm : Parts → Verdict
 partsForm p =
     cond (not (setupCounted (p .setup))) BadCounts
-    (cond (not (lengthsGood p)) BadLayout
+    (cond (not (lengthsAddUp p)) BadLayout
     (cond (not (setupInRange (p .setup))) BadValues
-    (scriptsForm p)))
+    (lentScriptsForm p)))
 
 -- "then 11 if the file would pass its limit"
 unfoldable pub fileForm : Parts → Verdict
 fileForm p = cond (passed (partsForm p)) (cond (ltb largestRoster (length (fileOf p))) BadLength Passed) (partsForm p)
 
 -- "then 22 if the buffer is too short": of a buffer of size bytes
-unfoldable pub answerOf : Parts → ℕ → WriteAnswer
-answerOf p size =
+unfoldable pub writeAnswerOf : Parts → ℕ → WriteAnswer
+writeAnswerOf p size =
     cond (passed (fileForm p)) (cond (ltb size (length (fileOf p))) ShortBuffer Done) (Refused (fileForm p))
 
 -- "and writes nothing in those cases"; "bytes past it stay"
-unfoldable pub bufferOf : Parts → List ℕ → List ℕ
-bufferOf p out = cond (done (answerOf p (length out))) (overFront (fileOf p) out) out
+unfoldable pub writeBufferOf : Parts → List ℕ → List ℕ
+writeBufferOf p out = cond (wrote (writeAnswerOf p (length out))) (overFront (fileOf p) out) out
 
 -- "Exactly the written file is returned as the front part of the lent buffer"; "a refusal gives an empty part"
 unfoldable pub writtenOf : Parts → ℕ → List ℕ
-writtenOf p size = cond (done (answerOf p size)) (fileOf p) []
+writtenOf p size = cond (wrote (writeAnswerOf p size)) (fileOf p) []

@@ -5,7 +5,7 @@ use Prim.Native.Nat.{ℕ}
 use lib.ListN.{length, replicate}
 use Rattle.format.specs.Cases.{wholeCase, stepBytes, enter, leave, delay, work, setTo, again}
 use Rattle.encoding.specs.File.{Parts, parts, fileOf}
-use Rattle.encoding.specs.Answers.{numberOf, taskOf, positionOf, answerOf, bufferOf, writtenOf}
+use Rattle.encoding.specs.Answers.{numberOf, taskOf, positionOf, writeAnswerOf, writeBufferOf, writtenOf}
 
 -- the whole case's steps, and its parts with a ceiling
 abbrev pub wholeSteps : List ℕ
@@ -15,8 +15,8 @@ abbrev pub whole : List ℕ → List ℕ → List ℕ → Parts
 whole bases ceilings lengths = parts bases ceilings lengths wholeSteps
 
 -- two tasks of base 10 and an object of ceiling 10, with a script of one step for the second
-abbrev pub second : List ℕ → Parts
-second step = parts (10 ∷ 10 ∷ []) (10 ∷ []) (0 ∷ 1 ∷ []) step
+abbrev pub secondSteps : List ℕ → Parts
+secondSteps step = parts (10 ∷ 10 ∷ []) (10 ∷ []) (0 ∷ 1 ∷ []) step
 
 -- parts, the room in bytes, and number, task and step of the answer
 pub record Case : Type 0 where
@@ -33,8 +33,8 @@ cases =
     case (whole (10 ∷ 20 ∷ []) (20 ∷ []) (0 ∷ 6 ∷ [])) 46 0 0 0 ∷
     case (parts (1 ∷ []) [] (0 ∷ []) []) 14 0 0 0 ∷
     -- 17 to 20 are not applied: Leave of what is not held, Set of another task
-    case (second (leave 0)) 30 0 0 0 ∷
-    case (second (setTo 0 32)) 30 0 0 0 ∷
+    case (secondSteps (leave 0)) 30 0 0 0 ∷
+    case (secondSteps (setTo 0 32)) 30 0 0 0 ∷
     -- 22: one byte less room
     case (whole (10 ∷ 20 ∷ []) (20 ∷ []) (3 ∷ 3 ∷ [])) 45 22 0 0 ∷
     -- 13, though 14 applies too: no bases, 65, 33 ceilings
@@ -55,26 +55,26 @@ cases =
     -- 16, though 22 applies too: no objects, so that Enter 0 names none; with an empty first script it is task 1's
     case (whole (10 ∷ 20 ∷ []) [] (3 ∷ 3 ∷ [])) 0 16 0 0 ∷
     case (whole (10 ∷ 20 ∷ []) [] (0 ∷ 6 ∷ [])) 0 16 1 0 ∷
-    case (second (stepBytes 0 0 0)) 0 16 1 0 ∷
-    case (second (stepBytes 9 0 0)) 0 16 1 0 ∷
-    case (second (stepBytes 4 0 1)) 0 16 1 0 ∷
-    case (second (stepBytes 6 2 0)) 0 16 1 0 ∷
-    case (second (setTo 0 33)) 0 16 1 0 ∷
+    case (secondSteps (stepBytes 0 0 0)) 0 16 1 0 ∷
+    case (secondSteps (stepBytes 9 0 0)) 0 16 1 0 ∷
+    case (secondSteps (stepBytes 4 0 1)) 0 16 1 0 ∷
+    case (secondSteps (stepBytes 6 2 0)) 0 16 1 0 ∷
+    case (secondSteps (setTo 0 33)) 0 16 1 0 ∷
     case (parts (10 ∷ 10 ∷ []) [] (1 ∷ 2 ∷ []) (again ++ work ++ stepBytes 4 1 0)) 0 16 1 1 ∷
     case (parts (10 ∷ 10 ∷ []) [] (2 ∷ 0 ∷ []) (again ++ again)) 0 16 0 0 ∷
     []
 
 abbrev pub answered : Case → List ℕ
-answered c = let a = answerOf (c .given) (c .room) in numberOf a ∷ taskOf a ∷ positionOf a ∷ []
+answered c = let a = writeAnswerOf (c .given) (c .room) in numberOf a ∷ taskOf a ∷ positionOf a ∷ []
 
 -- each case is answered as it says
-abbrev pub Answered : Type 0
-Answered = map answered cases ≡ map (λ (c : Case). c .says) cases
+abbrev pub WritingsAnswered : Type 0
+WritingsAnswered = map answered cases ≡ map (λ (c : Case). c .says) cases
 
 -- the roster of 46 bytes, written into 48: two bytes stay; into 45: all stay, and the part is empty
 pub record WholeWritten : Type 0 where
   pub file : fileOf (whole (10 ∷ 20 ∷ []) (20 ∷ []) (3 ∷ 3 ∷ [])) ≡ wholeCase 20
-  pub buffer : bufferOf (whole (10 ∷ 20 ∷ []) (20 ∷ []) (3 ∷ 3 ∷ [])) (replicate 48 7) ≡ wholeCase 20 ++ replicate 2 7
+  pub buffer : writeBufferOf (whole (10 ∷ 20 ∷ []) (20 ∷ []) (3 ∷ 3 ∷ [])) (replicate 48 7) ≡ wholeCase 20 ++ replicate 2 7
   pub part : writtenOf (whole (10 ∷ 20 ∷ []) (20 ∷ []) (3 ∷ 3 ∷ [])) 48 ≡ wholeCase 20
-  pub kept : bufferOf (whole (10 ∷ 20 ∷ []) (20 ∷ []) (3 ∷ 3 ∷ [])) (replicate 45 7) ≡ replicate 45 7
+  pub kept : writeBufferOf (whole (10 ∷ 20 ∷ []) (20 ∷ []) (3 ∷ 3 ∷ [])) (replicate 45 7) ≡ replicate 45 7
   pub none : writtenOf (whole (10 ∷ 20 ∷ []) (20 ∷ []) (3 ∷ 3 ∷ [])) 45 ≡ []

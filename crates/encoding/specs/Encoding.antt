@@ -8,22 +8,22 @@ use Rattle.format.specs.Steps.{stepIn}
 use Rattle.format.specs.Roster.{Roster, setupOf, scriptOf}
 use Rattle.format.specs.declared.Step.{Step}
 use Rattle.format.specs.declared.Step.the-variants.{Enter, Leave, Delay, Work, Suspend, Release, Set, Again, Finish}
-use Rattle.encoding.specs.File.{Parts, rows}
+use Rattle.encoding.specs.File.{Parts, pieces}
 
 -- "A step has 4 bytes: code, a, b (2)."; "Unused operands are 0."; Finish is no step of a script
-unfoldable pub stepBytes : Step → List ℕ
-stepBytes (Enter o) = enterCode ∷ o ∷ word 0
-stepBytes (Leave o) = leaveCode ∷ o ∷ word 0
-stepBytes (Delay d) = delayCode ∷ 0 ∷ word d
-stepBytes Work = workCode ∷ 0 ∷ word 0
-stepBytes Suspend = suspendCode ∷ 0 ∷ word 0
-stepBytes (Release t) = releaseCode ∷ t ∷ word 0
-stepBytes (Set t p) = setCode ∷ t ∷ word (p .0)
-stepBytes Again = againCode ∷ 0 ∷ word 0
-stepBytes Finish = 0 ∷ 0 ∷ word 0
+unfoldable pub bytesOfStep : Step → List ℕ
+bytesOfStep (Enter o) = enterCode ∷ o ∷ word 0
+bytesOfStep (Leave o) = leaveCode ∷ o ∷ word 0
+bytesOfStep (Delay d) = delayCode ∷ 0 ∷ word d
+bytesOfStep Work = workCode ∷ 0 ∷ word 0
+bytesOfStep Suspend = suspendCode ∷ 0 ∷ word 0
+bytesOfStep (Release t) = releaseCode ∷ t ∷ word 0
+bytesOfStep (Set t p) = setCode ∷ t ∷ word (p .0)
+bytesOfStep Again = againCode ∷ 0 ∷ word 0
+bytesOfStep Finish = 0 ∷ 0 ∷ word 0
 
-unfoldable pub scriptBytes : List Step → List ℕ
-scriptBytes steps = rows (length steps) (λ k. stepBytes (stepIn steps k))
+unfoldable pub bytesOfScript : List Step → List ℕ
+bytesOfScript steps = pieces (length steps) (λ k. bytesOfStep (stepIn steps k))
 
 -- what the writer is given for a roster: its bases and ceilings, the lengths of its scripts in steps, and their bytes
 unfoldable pub lengthsOf : Roster → List ℕ
@@ -31,4 +31,4 @@ lengthsOf r = tabulate (length (r .bases)) (λ t. length (scriptOf r t))
 
 abbrev pub partsOf : Roster → Parts
 partsOf r =
-    record { setup = setupOf r; lengths = lengthsOf r; steps = rows (length (r .bases)) (λ t. scriptBytes (scriptOf r t)) }
+    record { setup = setupOf r; lengths = lengthsOf r; steps = pieces (length (r .bases)) (λ t. bytesOfScript (scriptOf r t)) }

@@ -26,9 +26,9 @@ abbrev pub objectsOf : Parts → ℕ
 objectsOf p = length (p .setup .ceilings)
 
 -- f 0, f 1, .. up to f (n - 1), one after the other
-unfoldable pub rows : ℕ → (ℕ → List ℕ) → List ℕ
-rows zero f = []
-rows (suc n) f = rows n f ++ f n
+unfoldable pub pieces : ℕ → (ℕ → List ℕ) → List ℕ
+pieces zero f = []
+pieces (suc n) f = pieces n f ++ f n
 
 -- how many steps stand before task t's
 unfoldable pub stepsBefore : List ℕ → ℕ → ℕ
@@ -36,34 +36,34 @@ stepsBefore lengths zero = 0
 stepsBefore lengths (suc t) = stepsBefore lengths t + getD lengths t 0
 
 -- where task t's script starts and how long it is, in bytes
-abbrev pub scriptStart : List ℕ → ℕ → ℕ
-scriptStart lengths t = stepSize * stepsBefore lengths t
+abbrev pub bytesBefore : List ℕ → ℕ → ℕ
+bytesBefore lengths t = stepSize * stepsBefore lengths t
 
 abbrev pub scriptSize : List ℕ → ℕ → ℕ
 scriptSize lengths t = stepSize * getD lengths t 0
 
 -- "scripts in task order from byte 0": the bytes of task t's
 unfoldable pub scriptAt : Parts → ℕ → List ℕ
-scriptAt p t = take (scriptSize (p .lengths) t) (drop (scriptStart (p .lengths) t) (p .steps))
+scriptAt p t = take (scriptSize (p .lengths) t) (drop (bytesBefore (p .lengths) t) (p .steps))
 
 -- "Task row, 6 bytes: base, 0, script start (2), script length in bytes (2, a multiple of 4)."
-unfoldable pub taskBytes : List ℕ → List ℕ → ℕ → List ℕ
-taskBytes bases lengths t = getD bases t 0 ∷ 0 ∷ (word (scriptStart lengths t) ++ word (scriptSize lengths t))
+unfoldable pub taskRowBytes : List ℕ → List ℕ → ℕ → List ℕ
+taskRowBytes bases lengths t = getD bases t 0 ∷ 0 ∷ (word (bytesBefore lengths t) ++ word (scriptSize lengths t))
 
 -- "Object row, 2 bytes: ceiling, 0."
-unfoldable pub objectBytes : List ℕ → ℕ → List ℕ
-objectBytes ceilings o = getD ceilings o 0 ∷ 0 ∷ []
+unfoldable pub objectRowBytes : List ℕ → ℕ → List ℕ
+objectRowBytes ceilings o = getD ceilings o 0 ∷ 0 ∷ []
 
 -- "Trailer: 52 35, task count, object count, start of object table (2 bytes), start of task table (2)."
 unfoldable pub trailerBytes : ℕ → ℕ → ℕ → ℕ → List ℕ
-trailerBytes tasks objects objectTable taskTable = firstMark ∷ secondMark ∷ tasks ∷ objects ∷ (word objectTable ++ word taskTable)
+trailerBytes tasks objects objectsAt tasksAt = firstMark ∷ secondMark ∷ tasks ∷ objects ∷ (word objectsAt ++ word tasksAt)
 
 -- the tables and the trailer of what is given: the task table starts where the scripts end, the object table where the task table does
-abbrev pub taskTable : Parts → List ℕ
-taskTable p = rows (tasksOf p) (taskBytes (p .setup .bases) (p .lengths))
+abbrev pub taskRows : Parts → List ℕ
+taskRows p = pieces (tasksOf p) (taskRowBytes (p .setup .bases) (p .lengths))
 
-abbrev pub objectTable : Parts → List ℕ
-objectTable p = rows (objectsOf p) (objectBytes (p .setup .ceilings))
+abbrev pub objectRows : Parts → List ℕ
+objectRows p = pieces (objectsOf p) (objectRowBytes (p .setup .ceilings))
 
 abbrev pub taskStart : Parts → ℕ
 taskStart p = length (p .steps)
@@ -71,12 +71,12 @@ taskStart p = length (p .steps)
 abbrev pub objectStart : Parts → ℕ
 objectStart p = taskStart p + taskRowSize * tasksOf p
 
-abbrev pub trailer : Parts → List ℕ
-trailer p = trailerBytes (tasksOf p) (objectsOf p) (objectStart p) (taskStart p)
+abbrev pub trailerOf : Parts → List ℕ
+trailerOf p = trailerBytes (tasksOf p) (objectsOf p) (objectStart p) (taskStart p)
 
 -- "with no gaps: scripts in task order from byte 0, task table, object table, then an 8-byte trailer"
 unfoldable pub fileOf : Parts → List ℕ
-fileOf p = p .steps ++ (taskTable p ++ (objectTable p ++ trailer p))
+fileOf p = p .steps ++ (taskRows p ++ (objectRows p ++ trailerOf p))
 
 -- what was given, as a reader tells it
 unfoldable pub given : Parts → Roster

@@ -1,6 +1,6 @@
 // What the writer of rosters answers. What it writes, and that each roster has one encoding, is in specs/.
 ghost use mathlib.Core.Path.{_≡_};
-ghost use Rattle.encoding.specs.Answers.{numberOf, taskOf, positionOf, done};
+ghost use Rattle.encoding.specs.Answers.{numberOf, taskOf, positionOf, wrote};
 use format::Verdict;
 
 // Done, what is wrong with what was given (13 to 16, then 11), or a buffer shorter than the file.
@@ -11,8 +11,8 @@ pub enum WriteAnswer {
 }
 
 impl WriteAnswer {
-    pub fn done(self) -> bool
-        ensures { λ r. ⌜ r ≡ done self ⌝ }
+    pub fn wrote(self) -> bool
+        ensures { λ r. ⌜ r ≡ wrote self ⌝ }
     {
         self.number() == 0
     }

@@ -2,7 +2,7 @@
 ghost use mathlib.Core.Path.{_≡_};
 ghost use lib.ListN.{length};
 ghost use Rattle.encoding.specs.File.{parts};
-ghost use Rattle.encoding.specs.Answers.{answerOf, bufferOf, writtenOf};
+ghost use Rattle.encoding.specs.Answers.{writeAnswerOf, writeBufferOf, writtenOf};
 ghost use Rattle.packed.specs.Packed.{packedWrite};
 use packed::pack;
 
@@ -17,11 +17,12 @@ pub extern "C" fn dispatch_write(
 ) -> u64
     ensures { λ r.
         ⌜ r ≡
-        packedWrite (answerOf (parts (now (bases .entry)) (now (ceilings .entry)) (now (lengths .entry)) (now (steps .entry)))
+        packedWrite (writeAnswerOf (parts (now (bases .entry)) (now (ceilings .entry)) (now (lengths .entry)) (now (steps .entry)))
         (length (now (buffer .entry)))) ⌝ }
     ensures { λ r.
         ⌜ now (buffer .exit) ≡
-        bufferOf (parts (now (bases .entry)) (now (ceilings .entry)) (now (lengths .entry)) (now (steps .entry))) (now (buffer .entry)) ⌝ }
+        writeBufferOf (parts (now (bases .entry)) (now (ceilings .entry)) (now (lengths .entry)) (now (steps .entry)))
+        (now (buffer .entry)) ⌝ }
 {
     let a = writer::write(bases, ceilings, lengths, steps, buffer);
     pack(a.number(), a.task(), a.position())
@@ -38,7 +39,8 @@ pub extern "C" fn dispatch_write_answer(
 ) -> u64
     ensures { λ r.
         ⌜ r ≡
-        packedWrite (answerOf (parts (now (bases .entry)) (now (ceilings .entry)) (now (lengths .entry)) (now (steps .entry))) room) ⌝ }
+        packedWrite (writeAnswerOf (parts (now (bases .entry)) (now (ceilings .entry)) (now (lengths .entry)) (now (steps .entry)))
+        room) ⌝ }
 {
     let a = writer::answer(bases, ceilings, lengths, steps, room as usize);
     pack(a.number(), a.task(), a.position())
@@ -59,7 +61,8 @@ pub extern "C" fn dispatch_written(
         (length (now (buffer .entry)))) ⌝ }
     ensures { λ r.
         ⌜ now (buffer .exit) ≡
-        bufferOf (parts (now (bases .entry)) (now (ceilings .entry)) (now (lengths .entry)) (now (steps .entry))) (now (buffer .entry)) ⌝ }
+        writeBufferOf (parts (now (bases .entry)) (now (ceilings .entry)) (now (lengths .entry)) (now (steps .entry)))
+        (now (buffer .entry)) ⌝ }
 {
     let n = writer::length(bases, ceilings, lengths, steps, buffer.len());
     writer::write(bases, ceilings, lengths, steps, buffer);

@@ -51,5 +51,5 @@ run-place a s events size p e f = rw (f, e) (let h = run-small s events size in 
 
 -- what the writer names, its lengths being of 16 bits
 pub write-place : (a : WriteAnswer) (given : Parts) (size p : ℕ) → ((t : ℕ) → getD (given .lengths) t 0 ≤ lastPosition) →
-    a ≡ Write.answerOf given size → p ≡ Write.positionOf a → p ≤ lastPosition
+    a ≡ Write.writeAnswerOf given size → p ≡ Write.positionOf a → p ≤ lastPosition
 write-place a given size p h e f = rw (f, e) (answer-low given lastPosition h size)

@@ -6,8 +6,8 @@ use native.Mathlib.Omega.{arith}
 use lib.ListN.{length, take, drop, length-append, length-drop, drop-of-length-le}
 use lib.Seq.{take-all, take-at, drop-at, drop-drop}
 use Rattle.words.specs.Words.{overFront}
-use Rattle.encoding.specs.File.{rows}
-use Rattle.encoding.proofs.RowLaws.{rows-more}
+use Rattle.encoding.specs.File.{pieces}
+use Rattle.encoding.proofs.PieceLaws.{pieces-more}
 
 pub over-length : (l out : List ℕ) → length l ≤ length out → length (overFront l out) ≡ length out
 over-length l out h = omega (arith, length-append l (drop (length l) out), length-drop (length l) out)
@@ -47,7 +47,7 @@ module _ (l x out v ys : List ℕ) (a : ℕ) (e : a ≡ length l) (room : length
       ap (λ (k : ℕ). (l ++ x) ++ drop k out) (sym (length-append l x)))))
 
 -- a turn of a table's loop: one more row, written into the part that begins where it starts
-module _ (f : ℕ → List ℕ) (t : ℕ) (x out v ys : List ℕ) (a : ℕ) (e : a ≡ length (rows t f))
-    (room : length (rows t f) + length x ≤ length out) (g : v ≡ overFront (rows t f) out) where
-  pub row-over : x ≡ f t → ys ≡ overFront x (partFrom v a) → lentFrom v a ys ≡ overFront (rows (t + 1) f) out
-  row-over h k = part-over (rows t f) x out v ys a e room g k ∙ ap (λ (z : List ℕ). overFront z out) (rows-more f t x h)
+module _ (f : ℕ → List ℕ) (t : ℕ) (x out v ys : List ℕ) (a : ℕ) (e : a ≡ length (pieces t f))
+    (room : length (pieces t f) + length x ≤ length out) (g : v ≡ overFront (pieces t f) out) where
+  pub row-over : x ≡ f t → ys ≡ overFront x (partFrom v a) → lentFrom v a ys ≡ overFront (pieces (t + 1) f) out
+  row-over h k = part-over (pieces t f) x out v ys a e room g k ∙ ap (λ (z : List ℕ). overFront z out) (pieces-more f t x h)

@@ -7,7 +7,7 @@ ghost use Rattle.rules.specs.Limits.{taskLimit, objectLimit, largestRoster};
 ghost use Rattle.rules.specs.Fresh.{setupCounted, setupInRange};
 ghost use Rattle.format.specs.Limits.{taskRowSize, objectRowSize, trailerSize};
 ghost use Rattle.encoding.specs.File.{parts, stepsBefore};
-ghost use Rattle.encoding.specs.Answers.{lengthsGood, scriptsForm, partsForm, fileForm, answerOf, writtenOf};
+ghost use Rattle.encoding.specs.Answers.{lengthsAddUp, lentScriptsForm, partsForm, fileForm, writeAnswerOf, writtenOf};
 use encoding::WriteAnswer;
 use format::File;
 use format::Verdict;
@@ -34,7 +34,7 @@ fn total(lengths: &[u16]) -> usize
 // 14
 fn lengths_good(bases: &[u8], ceilings: &[u8], lengths: &[u16], steps: &[u8]) -> bool
     requires { ⌜ length (now bases) ≤ taskLimit ⌝ }
-    ensures { λ r. ⌜ r ≡ lengthsGood (parts (now (bases .entry)) (now (ceilings .entry)) (now (lengths .entry)) (now (steps .entry))) ⌝ }
+    ensures { λ r. ⌜ r ≡ lengthsAddUp (parts (now (bases .entry)) (now (ceilings .entry)) (now (lengths .entry)) (now (steps .entry))) ⌝ }
 {
     if lengths.len() != bases.len() {
         return false;
@@ -56,8 +56,9 @@ fn values_good(bases: &[u8], ceilings: &[u8]) -> bool
 // 16, in task and step order: each script as the reader judges it.
 fn scripts_form(bases: &[u8], ceilings: &[u8], lengths: &[u16], steps: &[u8]) -> Verdict
     requires { ⌜ setupCounted (record { bases = now bases; ceilings = now ceilings }) ≡ true ⌝ }
-    requires { ⌜ lengthsGood (parts (now bases) (now ceilings) (now lengths) (now steps)) ≡ true ⌝ }
-    ensures { λ r. ⌜ r ≡ scriptsForm (parts (now (bases .entry)) (now (ceilings .entry)) (now (lengths .entry)) (now (steps .entry))) ⌝ }
+    requires { ⌜ lengthsAddUp (parts (now bases) (now ceilings) (now lengths) (now steps)) ≡ true ⌝ }
+    ensures { λ r.
+        ⌜ r ≡ lentScriptsForm (parts (now (bases .entry)) (now (ceilings .entry)) (now (lengths .entry)) (now (steps .entry))) ⌝ }
 {
     let n = bases.len() as u8;
     let m = ceilings.len() as u8;
@@ -131,7 +132,8 @@ pub fn answer(
     steps: &[u8],
     room: usize,
 ) -> WriteAnswer
-    ensures { λ r. ⌜ r ≡ answerOf (parts (now (bases .entry)) (now (ceilings .entry)) (now (lengths .entry)) (now (steps .entry))) room ⌝ }
+    ensures { λ r.
+        ⌜ r ≡ writeAnswerOf (parts (now (bases .entry)) (now (ceilings .entry)) (now (lengths .entry)) (now (steps .entry))) room ⌝ }
 {
     let v = file_form(bases, ceilings, lengths, steps);
     if !v.passed() {
@@ -150,7 +152,7 @@ pub fn length(bases: &[u8], ceilings: &[u8], lengths: &[u16], steps: &[u8], room
         ⌜ r ≡ length (writtenOf (parts (now (bases .entry)) (now (ceilings .entry)) (now (lengths .entry)) (now (steps .entry))) room) ⌝ }
 {
     let a = answer(bases, ceilings, lengths, steps, room);
-    if !a.done() {
+    if !a.wrote() {
         return 0;
     }
     size(bases.len(), ceilings.len(), steps.len())

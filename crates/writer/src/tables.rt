@@ -6,7 +6,7 @@ ghost use lib.ListN.{length};
 ghost use Rattle.rules.specs.Limits.{taskLimit, objectLimit};
 ghost use Rattle.words.specs.Words.{word, overFront};
 ghost use Rattle.format.specs.Limits.{taskRowSize, objectRowSize, trailerSize};
-ghost use Rattle.encoding.specs.File.{rows, scriptStart, taskBytes, objectBytes, trailerBytes};
+ghost use Rattle.encoding.specs.File.{pieces, bytesBefore, taskRowBytes, objectRowBytes, trailerBytes};
 use format::File;
 
 // The scripts, one after the other as they were lent.
@@ -38,11 +38,11 @@ fn write_task(base: u8, start: u16, size: u16, row: &mut [u8])
 pub fn write_tasks(bases: &[u8], lengths: &[u16], table: &mut [u8])
     requires { ⌜ length (now bases) ≤ taskLimit ⌝ }
     requires { ⌜ length (now lengths) ≡ length (now bases) ⌝ }
-    requires { ⌜ scriptStart (now lengths) (length (now bases)) < 65536 ⌝ }
+    requires { ⌜ bytesBefore (now lengths) (length (now bases)) < 65536 ⌝ }
     requires { ⌜ taskRowSize * length (now bases) ≤ length (now table) ⌝ }
     ensures { λ u.
         ⌜ now (table .exit) ≡
-        overFront (rows (length (now (bases .entry))) (taskBytes (now (bases .entry)) (now (lengths .entry)))) (now (table .entry)) ⌝ }
+        overFront (pieces (length (now (bases .entry))) (taskRowBytes (now (bases .entry)) (now (lengths .entry)))) (now (table .entry)) ⌝ }
 {
     let n = bases.len();
     let mut start: usize = 0;
@@ -72,7 +72,7 @@ pub fn write_objects(ceilings: &[u8], table: &mut [u8])
     requires { ⌜ objectRowSize * length (now ceilings) ≤ length (now table) ⌝ }
     ensures { λ u.
         ⌜ now (table .exit) ≡
-        overFront (rows (length (now (ceilings .entry))) (objectBytes (now (ceilings .entry)))) (now (table .entry)) ⌝ }
+        overFront (pieces (length (now (ceilings .entry))) (objectRowBytes (now (ceilings .entry)))) (now (table .entry)) ⌝ }
 {
     let m = ceilings.len();
     let mut o: usize = 0;

@@ -3,7 +3,7 @@ ghost use mathlib.Core.Path.{_≡_};
 ghost use lib.ListN.{length};
 ghost use Rattle.words.specs.Words.{overFront};
 ghost use Rattle.encoding.specs.File.{parts, fileOf};
-ghost use Rattle.encoding.specs.Answers.{answerOf, bufferOf, writtenOf};
+ghost use Rattle.encoding.specs.Answers.{writeAnswerOf, writeBufferOf, writtenOf};
 ghost use Rattle.encoding.specs.declared.WriteAnswer.the-variants.{Done};
 use crate::answers;
 use crate::tables;
@@ -12,7 +12,7 @@ use format::File;
 
 // The file, each part from where it starts.
 fn write_file(bases: &[u8], ceilings: &[u8], lengths: &[u16], steps: &[u8], out: &mut [u8])
-    requires { ⌜ answerOf (parts (now bases) (now ceilings) (now lengths) (now steps)) (length (now out)) ≡ Done ⌝ }
+    requires { ⌜ writeAnswerOf (parts (now bases) (now ceilings) (now lengths) (now steps)) (length (now out)) ≡ Done ⌝ }
     ensures { λ u.
         ⌜ now (out .exit) ≡
         overFront (fileOf (parts (now (bases .entry)) (now (ceilings .entry)) (now (lengths .entry)) (now (steps .entry))))
@@ -45,14 +45,15 @@ pub fn write(
 ) -> WriteAnswer
     ensures { λ r.
         ⌜ r ≡
-        answerOf (parts (now (bases .entry)) (now (ceilings .entry)) (now (lengths .entry)) (now (steps .entry)))
+        writeAnswerOf (parts (now (bases .entry)) (now (ceilings .entry)) (now (lengths .entry)) (now (steps .entry)))
         (length (now (out .entry))) ⌝ }
     ensures { λ r.
         ⌜ now (out .exit) ≡
-        bufferOf (parts (now (bases .entry)) (now (ceilings .entry)) (now (lengths .entry)) (now (steps .entry))) (now (out .entry)) ⌝ }
+        writeBufferOf (parts (now (bases .entry)) (now (ceilings .entry)) (now (lengths .entry)) (now (steps .entry)))
+        (now (out .entry)) ⌝ }
 {
     let a = answers::answer(bases, ceilings, lengths, steps, out.len());
-    if !a.done() {
+    if !a.wrote() {
         return a;
     }
     write_file(bases, ceilings, lengths, steps, out);
@@ -73,7 +74,7 @@ pub fn written<'a>(
         (length (now (out .entry))) ⌝ }
 {
     let a = answers::answer(bases, ceilings, lengths, steps, out.len());
-    if !a.done() {
+    if !a.wrote() {
         return &mut out[..0];
     }
     let n = answers::size(bases.len(), ceilings.len(), steps.len());

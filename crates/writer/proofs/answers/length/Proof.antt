@@ -4,7 +4,7 @@ use native.Mathlib.Omega.{arith}
 use borrow.Author.Tests.{not-true, not-false}
 use lib.ListN.{length}
 use Rattle.encoding.specs.File.{Parts, parts, fileOf}
-use Rattle.encoding.specs.Answers.{answerOf}
+use Rattle.encoding.specs.Answers.{writeAnswerOf}
 use Rattle.encoding.specs.declared.WriteAnswer.the-variants.{Done}
 use Rattle.encoding.proofs.FileLaws.{file-length}
 use Rattle.encoding.proofs.AnswerLaws.{sizes, done-file, done-answer, part-none, part-whole}
@@ -18,20 +18,20 @@ given c =
     let a = c .before .before .before .before .before .before .before .args in
     parts (a .bases .now) (a .ceilings .now) (a .lengths .now) (a .steps .now)
 
-goes : (c : tie.Else1) → answerOf (given c) (c .before .before .before .before .before .before .before .args .room) ≡ Done
-goes c = done-answer (given c) _ _ _ (c .before .before .answer .ensures) (c .before .done .ensures) (not-false _ (c .if1 .left))
+goes : (c : tie.Else1) → writeAnswerOf (given c) (c .before .before .before .before .before .before .before .args .room) ≡ Done
+goes c = done-answer (given c) _ _ _ (c .before .before .answer .ensures) (c .before .wrote .ensures) (not-false _ (c .if1 .left))
 
 answer-requires : tie.Need-answer-requires
 answer-requires c κs = search needs
 
-done-requires : tie.Need-done-requires
-done-requires c κs = search needs
+wrote-requires : tie.Need-wrote-requires
+wrote-requires c κs = search needs
 
 returns : tie.Need-returns
 returns c =
     let a = c .before .before .before .before .before .before .before .args in
     let p = parts (a .bases .now) (a .ceilings .now) (a .lengths .now) (a .steps .now) in
-    ap length (part-none p (a .room) _ _ (c .before .before .answer .ensures) (c .before .done .ensures) (not-true _ (c .if1 .taken)))
+    ap length (part-none p (a .room) _ _ (c .before .before .answer .ensures) (c .before .wrote .ensures) (not-true _ (c .if1 .taken)))
 
 size-requires : tie.Need-size-requires
 size-requires c κs =
@@ -47,4 +47,4 @@ returns-2 c =
     c .size .ensures ∙ (sym (file-length p) ∙ ap length whole)
 
 pub length-spec : {M : Type 1} → statement M
-length-spec = tie.close (tie.spec answer-requires done-requires returns size-requires returns-2)
+length-spec = tie.close (tie.spec answer-requires wrote-requires returns size-requires returns-2)

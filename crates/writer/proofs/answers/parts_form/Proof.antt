@@ -6,7 +6,7 @@ use lib.ListN.{length}
 use Rattle.rules.specs.Fresh.{setupCounted, setupInRange}
 use Rattle.rules.proofs.LimitLaws.{counted-by}
 use Rattle.encoding.specs.File.{Parts, parts}
-use Rattle.encoding.specs.Answers.{lengthsGood}
+use Rattle.encoding.specs.Answers.{lengthsAddUp}
 use Rattle.encoding.proofs.AnswerLaws.{parts-13, parts-14, parts-15, parts-16}
 use borrow.Author.Needs.{needs}
 use Rattle.writer.proofs.answers.parts_form.Statement.{statement}
@@ -21,7 +21,7 @@ given c =
 counted : (c : tie.Else1) → setupCounted (given c .setup) ≡ true
 counted c = sym (c .before .counts-good .ensures) ∙ not-false _ (c .if1 .left)
 
-added : (c : tie.Else2) → lengthsGood (given (c .before .before)) ≡ true
+added : (c : tie.Else2) → lengthsAddUp (given (c .before .before)) ≡ true
 added c = sym (c .before .lengths-good .ensures) ∙ not-false _ (c .if2 .left)
 
 ranged : (c : tie.Else3) → setupInRange (given (c .before .before .before .before) .setup) ≡ true

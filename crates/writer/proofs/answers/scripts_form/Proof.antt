@@ -8,8 +8,8 @@ use Rattle.rules.proofs.LimitLaws.{counted-by}
 use Rattle.format.specs.Answers.{first}
 use Rattle.format.specs.declared.Verdict.the-variants.{Passed}
 use Rattle.format.proofs.TestLaws.{turn-finds, turn-passes, turns-pass}
-use Rattle.encoding.specs.File.{parts, scriptStart}
-use Rattle.encoding.specs.Answers.{scriptForm, scriptsForm}
+use Rattle.encoding.specs.File.{parts, bytesBefore}
+use Rattle.encoding.specs.Answers.{lentScriptForm, lentScriptsForm}
 use Rattle.encoding.proofs.FileLaws.{before-none, before-more, script-inside}
 use Rattle.encoding.proofs.AnswerLaws.{lengths-known}
 use Rattle.writer.proofs.TableLaws.{script-here}
@@ -19,7 +19,7 @@ use Rattle.writer.proofs.answers.scripts_form.Tie as tie
 
 abbrev Inv-loop : tie.InvT-loop
 Inv-loop bases ceilings lengths steps n m limits start₀ t₀ start t =
-    (t ≤ length lengths) × (start ≡ scriptStart lengths t) × (first t (scriptForm (parts bases ceilings lengths steps)) ≡ Passed)
+    (t ≤ length lengths) × (start ≡ bytesBefore lengths t) × (first t (lentScriptForm (parts bases ceilings lengths steps)) ≡ Passed)
 
 abbrev μ-loop : tie.MeasureT-loop
 μ-loop bases ceilings lengths steps n m limits start₀ t₀ start t = length lengths - t
@@ -101,14 +101,14 @@ passed-requires : tie.Need-passed-requires Inv-loop μ-loop
 passed-requires c κs = search needs
 
 returns : tie.Need-returns Inv-loop μ-loop
-unfolding scriptsForm
+unfolding lentScriptsForm
 returns c =
     let found = c .before .before in
     let at = found .before .before .before .before .before .before in
     let e = at .before .before .before .before .before .before in
     let p = parts (e .args .bases .now) (e .args .ceilings .now) (e .args .lengths .now) (e .args .steps .now) in
     let v = script-here p _ _ (at .loop .t) _ _ _ refl refl (at .loop .inv .1) refl (found .steps-form .ensures .0) in
-    turn-finds (scriptForm p) _ _ (at .loop .t) _ _ (lengths-known p (e .pre .1) .0)
+    turn-finds (lentScriptForm p) _ _ (at .loop .t) _ _ (lengths-known p (e .pre .1) .0)
     (found .before .before .before .before .before .loop-test .taken) (at .loop .inv .2) v
     (c .before .passed .ensures) (not-true _ (c .if1 .taken))
 
@@ -127,16 +127,16 @@ loop-again c =
     let v = script-here p _ _ (at .loop .t) _ _ _ refl refl (at .loop .inv .1) refl (found .steps-form .ensures .0) in (
       omega arith,
       omega (arith, before-more (e .args .lengths .now) (at .loop .t) _ _ refl refl),
-      turn-passes (scriptForm p) (at .loop .t) _ _ (at .loop .inv .2) v (c .before .passed .ensures) (not-false _ (c .if1 .left)),
+      turn-passes (lentScriptForm p) (at .loop .t) _ _ (at .loop .inv .2) v (c .before .passed .ensures) (not-false _ (c .if1 .left)),
     )
 
 returns-2 : tie.Need-returns-2 Inv-loop μ-loop
-unfolding scriptsForm
+unfolding lentScriptsForm
 returns-2 c =
     let at = c .before in
     let e = at .before .before .before .before .before .before in
     let p = parts (e .args .bases .now) (e .args .ceilings .now) (e .args .lengths .now) (e .args .steps .now) in
-    turns-pass (scriptForm p) _ _ _ (lengths-known p (e .pre .1) .0) (at .loop .inv .0) (c .loop-test .left) (at .loop .inv .2)
+    turns-pass (lentScriptForm p) _ _ _ (lengths-known p (e .pre .1) .0) (at .loop .inv .0) (c .loop-test .left) (at .loop .inv .2)
 
 pub scripts-form-spec : {M : Type 1} → statement M
 scripts-form-spec =

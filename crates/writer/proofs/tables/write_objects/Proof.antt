@@ -3,7 +3,7 @@ use mathlib.Core.Path.{_≡_, refl, ap, _∙_}
 use Prim.Native.Nat.{ℕ, _+_, _-_, _≤_}
 use native.Mathlib.Omega.{arith}
 use lib.ListN.{length, length-take, length-drop}
-use Rattle.encoding.specs.File.{rows, objectBytes}
+use Rattle.encoding.specs.File.{pieces, objectRowBytes}
 use Rattle.writer.proofs.FrontLaws.{over-length, row-over}
 use Rattle.encoding.proofs.FileLaws.{object-rows}
 use Rattle.writer.proofs.TableLaws.{object-row}
@@ -14,13 +14,13 @@ use Rattle.writer.proofs.tables.write_objects.Tie as tie
 
 abbrev Inv-loop : tie.InvT-loop
 Inv-loop ceilings table₀ m o₀ table o =
-    (o ≤ m) × (table ≡ overFront (rows o (objectBytes ceilings)) table₀) × (length table ≡ length table₀)
+    (o ≤ m) × (table ≡ overFront (pieces o (objectRowBytes ceilings)) table₀) × (length table ≡ length table₀)
 
 abbrev μ-loop : tie.MeasureT-loop
 μ-loop ceilings table₀ m o₀ table o = m - o
 
 loop-holds : tie.Need-loop-holds Inv-loop μ-loop
-unfolding rows
+unfolding pieces
 loop-holds c = (omega arith, refl, refl)
 
 cast-at : tie.Need-cast-at Inv-loop μ-loop
@@ -54,13 +54,13 @@ loop-again : tie.Need-loop-again Inv-loop μ-loop
 loop-again c =
     let at = c .before .before .before .before .before .before in
     let entry = at .before .before .before in
-    let row = row-over (objectBytes (entry .args .ceilings .now)) (at .loop .o) _ (entry .args .table .now) (at .loop .table) _ _
+    let row = row-over (objectRowBytes (entry .args .ceilings .now)) (at .loop .o) _ (entry .args .table .now) (at .loop .table) _ _
     (omega (arith, object-rows (entry .args .ceilings .now) (at .loop .o)))
     (omega (arith, object-rows (entry .args .ceilings .now) (at .loop .o))) (at .loop .inv .1)
     (object-row (entry .args .ceilings .now) (at .loop .o) _ refl) (c .before .before .write-object .ensures) in (
       omega arith,
       row,
-      ap length row ∙ over-length (rows (at .loop .o + 1) (objectBytes (entry .args .ceilings .now))) (entry .args .table .now)
+      ap length row ∙ over-length (pieces (at .loop .o + 1) (objectRowBytes (entry .args .ceilings .now))) (entry .args .table .now)
           (omega (arith, object-rows (entry .args .ceilings .now) (at .loop .o + 1))),
     )
 
@@ -72,7 +72,7 @@ returns c =
     let l = c .before .loop in
     let entry = c .before .before .before .before in
     let z : l .o ≡ length (entry .args .ceilings .now) = omega arith in
-    l .inv .1 ∙ ap (λ (k : ℕ). overFront (rows k (objectBytes (entry .args .ceilings .now))) (entry .args .table .now)) z
+    l .inv .1 ∙ ap (λ (k : ℕ). overFront (pieces k (objectRowBytes (entry .args .ceilings .now))) (entry .args .table .now)) z
 
 pub write-objects-spec : {M : Type 1} → statement M
 write-objects-spec =

@@ -3,7 +3,7 @@ use mathlib.Core.Path.{_≡_, refl, ap, _∙_}
 use Prim.Native.Nat.{ℕ, suc, _+_, _-_, _≤_}
 use native.Mathlib.Omega.{arith}
 use lib.ListN.{length, length-take, length-drop}
-use Rattle.encoding.specs.File.{rows, scriptStart, taskBytes}
+use Rattle.encoding.specs.File.{pieces, bytesBefore, taskRowBytes}
 use Rattle.writer.proofs.FrontLaws.{over-length, row-over}
 use Rattle.encoding.proofs.FileLaws.{before-none, before-suc, before-rise, before-more, task-rows}
 use Rattle.writer.proofs.TableLaws.{task-row}
@@ -14,14 +14,14 @@ use Rattle.writer.proofs.tables.write_tasks.Tie as tie
 
 abbrev Inv-loop : tie.InvT-loop
 Inv-loop bases lengths table₀ n start₀ t₀ table start t =
-    (t ≤ n) × (start ≡ scriptStart lengths t) × (table ≡ overFront (rows t (taskBytes bases lengths)) table₀) ×
+    (t ≤ n) × (start ≡ bytesBefore lengths t) × (table ≡ overFront (pieces t (taskRowBytes bases lengths)) table₀) ×
     (length table ≡ length table₀)
 
 abbrev μ-loop : tie.MeasureT-loop
 μ-loop bases lengths table₀ n start₀ t₀ table start t = n - t
 
 loop-holds : tie.Need-loop-holds Inv-loop μ-loop
-unfolding rows
+unfolding pieces
 loop-holds c = (omega arith, omega (arith, before-none (c .before .before .before .args .lengths .now)), refl, refl)
 
 cast-at : tie.Need-cast-at Inv-loop μ-loop
@@ -90,13 +90,13 @@ loop-again c =
     let entry = at .before .before .before .before in
     let bases = entry .args .bases .now in
     let lengths = entry .args .lengths .now in
-    let row = row-over (taskBytes bases lengths) (at .loop .t) _ (entry .args .table .now) (at .loop .table) _ _
+    let row = row-over (taskRowBytes bases lengths) (at .loop .t) _ (entry .args .table .now) (at .loop .table) _ _
     (omega (arith, task-rows bases lengths (at .loop .t))) (omega (arith, task-rows bases lengths (at .loop .t))) (at .loop .inv .2)
     (task-row bases lengths (at .loop .t) _ _ _ refl (at .loop .inv .1) refl) (c .before .before .write-task .ensures) in (
       omega arith,
       omega (arith, before-more lengths (at .loop .t) _ _ refl refl),
       row,
-      ap length row ∙ over-length (rows (at .loop .t + 1) (taskBytes bases lengths)) (entry .args .table .now)
+      ap length row ∙ over-length (pieces (at .loop .t + 1) (taskRowBytes bases lengths)) (entry .args .table .now)
           (omega (arith, task-rows bases lengths (at .loop .t + 1))),
     )
 
@@ -108,8 +108,8 @@ returns c =
     let l = c .before .loop in
     let entry = c .before .before .before .before .before in
     let z : l .t ≡ length (entry .args .bases .now) = omega arith in
-    let f = taskBytes (entry .args .bases .now) (entry .args .lengths .now) in
-    l .inv .2 ∙ ap (λ (k : ℕ). overFront (rows k f) (entry .args .table .now)) z
+    let f = taskRowBytes (entry .args .bases .now) (entry .args .lengths .now) in
+    l .inv .2 ∙ ap (λ (k : ℕ). overFront (pieces k f) (entry .args .table .now)) z
 
 pub write-tasks-spec : {M : Type 1} → statement M
 write-tasks-spec =

@@ -6,7 +6,7 @@ use native.Mathlib.Omega.{arith}
 use borrow.Author.Tests.{not-true, not-false}
 use lib.ListN.{length}
 use Rattle.encoding.specs.File.{Parts, parts, fileOf}
-use Rattle.encoding.specs.Answers.{answerOf}
+use Rattle.encoding.specs.Answers.{writeAnswerOf}
 use Rattle.encoding.specs.declared.WriteAnswer.the-variants.{Done}
 use Rattle.encoding.proofs.FileLaws.{file-length}
 use Rattle.encoding.proofs.AnswerLaws.{done-answer, part-none, part-whole}
@@ -25,14 +25,14 @@ given c =
 abbrev lent : tie.Else1 → List ℕ
 lent c = c .before .before .before .before .before .before .before .before .args .out .now
 
-goes : (c : tie.Else1) → answerOf (given c) (length (lent c)) ≡ Done
-goes c = done-answer (given c) _ _ _ (c .before .before .answer .ensures) (c .before .done .ensures) (not-false _ (c .if1 .left))
+goes : (c : tie.Else1) → writeAnswerOf (given c) (length (lent c)) ≡ Done
+goes c = done-answer (given c) _ _ _ (c .before .before .answer .ensures) (c .before .wrote .ensures) (not-false _ (c .if1 .left))
 
 answer-requires : tie.Need-answer-requires
 answer-requires c κs = search needs
 
-done-requires : tie.Need-done-requires
-done-requires c κs = search needs
+wrote-requires : tie.Need-wrote-requires
+wrote-requires c κs = search needs
 
 slice-aggregate-result : tie.Need-slice-aggregate-result
 slice-aggregate-result c = search needs
@@ -42,7 +42,7 @@ returns c =
     let c1 = c .before in
     let a = c1 .before .before .before .before .before .before .before .before .args in
     let p = parts (a .bases .now) (a .ceilings .now) (a .lengths .now) (a .steps .now) in
-    part-none p _ _ _ (c1 .before .before .answer .ensures) (c1 .before .done .ensures) (not-true _ (c1 .if1 .taken))
+    part-none p _ _ _ (c1 .before .before .answer .ensures) (c1 .before .wrote .ensures) (not-true _ (c1 .if1 .taken))
 
 size-requires : tie.Need-size-requires
 size-requires c κs =
@@ -74,7 +74,7 @@ written-spec =
     tie.close
     (tie.spec
     answer-requires
-    done-requires
+    wrote-requires
     slice-aggregate-result
     returns
     size-requires
