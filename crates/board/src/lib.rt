@@ -1,5 +1,7 @@
 // The lent board: rows of task records that a host lends, filled from a state and asked for the next row.
 // A slice of records is proved by hand: `next`, `fill`, and `next_within` and `fill_within`, which lend one. All else is covered.
+#![tactic(auto)]
+
 mod scan;
 mod source;
 
@@ -17,7 +19,7 @@ use rules::{Answer, Priority, Roster};
 pub const ROW_LIMIT: usize = Roster::TASKS;
 
 // Where a task is, without its due time.
-#[derive(Drop)]
+#[derive(Clone, Copy)]
 pub enum PlaceKind {
     Running,
     Ready,
@@ -27,7 +29,7 @@ pub enum PlaceKind {
 }
 
 // One task on the board. Its fields are public, so a row of any values can be handed in.
-#[derive(Drop)]
+#[derive(Clone, Copy)]
 pub struct Row {
     pub kind: PlaceKind,
     pub priority: Priority,
@@ -35,7 +37,7 @@ pub struct Row {
 }
 
 // What the board answers when it is asked for its next row; told_of in specs/ has the number and the row of each.
-#[derive(Drop)]
+#[derive(Clone, Copy)]
 pub enum NextAnswer {
     Row(usize),
     Nobody,
@@ -44,7 +46,7 @@ pub enum NextAnswer {
 }
 
 // What filling a board answers; fill_number in specs/ has the number of each.
-#[derive(Drop)]
+#[derive(Clone, Copy)]
 pub enum FillAnswer {
     Done,
     Unsound,
@@ -52,7 +54,7 @@ pub enum FillAnswer {
 }
 
 // What `fill_first` hands back: the answer, and the rows after it.
-#[derive(Drop)]
+#[derive(Clone, Copy)]
 pub struct Filled {
     pub answer: FillAnswer,
     pub rows: [Row; ROW_LIMIT],

@@ -9,7 +9,7 @@ use rules::Priority;
 
 // The best of the rows seen so far, with its number; a row that is not ready stands for nobody. `bad` says that a
 // priority was out of range.
-#[derive(Drop)]
+#[derive(Clone, Copy)]
 pub struct Best {
     pub bad: bool,
     pub number: usize,

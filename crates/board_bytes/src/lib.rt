@@ -1,4 +1,6 @@
 // Internal: pub only for our own crates. The board, as lent bytes: filled from a state, and asked for its next row.
+#![tactic(auto)]
+
 ghost use Rattle.std.specs.Prelude.{◌≡◌, ◌+◌, ◌*◌, ◌≤◌, length, take};
 ghost use mathlib.Core.List.{flat_map};
 ghost use Rattle.std.proofs.lemmas.List.Edits.{sets};

@@ -1,4 +1,6 @@
 // Plays the scope's marked cases A to L, and a preemption, through the dispatcher's methods; what it prints is held to the file stdout.
+#![tactic(auto)]
+
 use dispatch::{Listed, State, Stepped};
 use rules::{Priority, Runner};
 

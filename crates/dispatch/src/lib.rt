@@ -1,4 +1,6 @@
 // The dispatcher: a state by value, and every event a method that hands it back beside its answer and report.
+#![tactic(auto)]
+
 mod load;
 mod methods;
 mod readers;
@@ -11,7 +13,7 @@ use rules::{Answer, Priority, Report, Roster, Runner, Task};
 
 // All fields are public: whatever a caller hands in gets an answer. Cells past a count or past a row's length are no part of it.
 // Bit p - 1 of the marks is on exactly where the ready queue for p is not empty; otherwise the state is unsound.
-#[derive(Drop)]
+#[derive(Clone, Copy)]
 pub struct State {
     pub now: u64,
     pub running: Runner,
@@ -25,7 +27,7 @@ pub struct State {
 }
 
 // What an event gives back.
-#[derive(Drop)]
+#[derive(Clone, Copy)]
 pub struct Stepped {
     pub answer: Answer,
     pub report: Report,
@@ -33,14 +35,14 @@ pub struct Stepped {
 }
 
 // What a fresh start gives back: it is no event, so it has no report.
-#[derive(Drop)]
+#[derive(Clone, Copy)]
 pub struct Started {
     pub answer: Answer,
     pub state: State,
 }
 
 // What stands at a place of a list: a task's or an object's number, or nothing.
-#[derive(Drop)]
+#[derive(Clone, Copy)]
 pub enum Listed {
     Number(u8),
     Nothing,

@@ -42,7 +42,7 @@ pub fn load_ceilings(ceilings: [Priority; Roster::OBJECTS], n: usize, to: &mut [
 }
 
 // The engine's slices.
-#[derive(Drop)]
+#[derive(Clone, Copy)]
 pub struct Memory {
     pub head: [u64; HEAD_WIDTH],
     pub tasks: [u64; TASK_CELLS],

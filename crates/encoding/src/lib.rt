@@ -1,11 +1,13 @@
 // What the writer of rosters answers. What it writes, and that each roster has one encoding, is in specs/.
+#![tactic(auto)]
+
 ghost use Rattle.std.specs.Prelude.{◌≡◌};
 ghost use Rattle.encoding.specs.Answers.{number_of, task_of, position_of, wrote};
 
 use format::Verdict;
 
 // Done, what is wrong with what was given (13 to 16, then 11), or a buffer shorter than the file.
-#[derive(Drop)]
+#[derive(Clone, Copy)]
 pub enum WriteAnswer {
     Done,
     Refused(Verdict),

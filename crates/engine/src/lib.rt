@@ -1,4 +1,6 @@
 // Internal: pub only for our own crates. Any event in place on the slices of crate memory: the one match over the nine of crate events.
+#![tactic(auto)]
+
 ghost use Rattle.rules.specs.Events.{apply};
 ghost use Rattle.memory.specs.Memory.{model_of, Valid, Moves};
 

@@ -1,5 +1,7 @@
 // Internal: pub only for our own crates. The nine events, as in specs/Events.antt of crate rules, in place on the slices of crate memory.
 // Each event may assume that the slices are laid out and mean a sound Model.
+#![tactic(auto)]
+
 ghost use Rattle.std.specs.Prelude.{◌≡◌};
 ghost use Rattle.rules.specs.Events.{enter, leave, delay, suspend, release, bad_reading, clock, set_base, work, finish};
 ghost use Rattle.memory.specs.Memory.{model_of, Valid, Did};

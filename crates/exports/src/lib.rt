@@ -1,4 +1,6 @@
 // Functions for Rust, C and Ada, on numbers and byte slices.
+#![tactic(auto)]
+
 ghost use Rattle.std.specs.Prelude.{◌≡◌, length};
 ghost use Rattle.format.specs.Answers.{number_of};
 ghost use Rattle.format.specs.Form.{form_of, script_answer, script_part};

@@ -1,4 +1,6 @@
 // Internal: pub only for our own crates. The numbers and steps of a roster, read from its bytes.
+#![tactic(auto)]
+
 ghost use Rattle.std.specs.Prelude.{◌≡◌, ◌+◌, ◌≤◌, ◌<◌, length, take};
 ghost use Rattle.rules.specs.Model.{ceiling_of};
 ghost use Rattle.format.specs.Format.{trailer, task_count, object_count, task_table, object_table};

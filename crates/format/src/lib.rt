@@ -1,11 +1,13 @@
 // The kinds of the roster file: its sizes, its steps and their codes, and what its form and check answer. Their meaning is in specs/.
+#![tactic(auto)]
+
 ghost use Rattle.std.specs.Prelude.{◌≡◌};
 ghost use Rattle.format.specs.Answers.{number_of, task_of, position_of, passed};
 
 use rules::Priority;
 
 // The sizes of a roster file's parts and its mark, all of this kind; how large it may be is said by Roster of the rules.
-#[derive(Drop)]
+#[derive(Clone, Copy)]
 pub struct File;
 
 impl File {
@@ -23,7 +25,7 @@ impl File {
 }
 
 // A step of a script. Finish is what is asked at the script's end; bytes that are no step read as it, and form refuses them.
-#[derive(Drop)]
+#[derive(Clone, Copy)]
 pub enum Step {
     Enter(u8),
     Leave(u8),
@@ -55,7 +57,7 @@ impl Step {
 }
 
 // What the form, the check and a reader answer, a fault of a step with its task and step.
-#[derive(Drop)]
+#[derive(Clone, Copy)]
 pub enum Verdict {
     Passed,
     NoSuchTask,
@@ -73,19 +75,19 @@ pub enum Verdict {
 }
 
 // What the readers of a roster find, or why they find nothing.
-#[derive(Drop)]
+#[derive(Clone, Copy)]
 pub enum PriorityFound {
     Found(Priority),
     Refused(Verdict),
 }
 
-#[derive(Drop)]
+#[derive(Clone, Copy)]
 pub enum CountFound {
     Found(usize),
     Refused(Verdict),
 }
 
-#[derive(Drop)]
+#[derive(Clone, Copy)]
 pub enum StepFound {
     Found(Step),
     Refused(Verdict),

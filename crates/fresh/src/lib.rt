@@ -1,5 +1,7 @@
 // Internal: pub only for our own crates. A fresh start: slices of the right sizes are filled, the tasks join their queues in number
 // order, and one dispatch follows.
+#![tactic(auto)]
+
 ghost use Rattle.std.specs.Prelude.{◌≡◌, ◌++◌, ◌≤◌, length, drop, replicate};
 ghost use Rattle.rules.specs.Limits.{task_limit};
 ghost use Rattle.rules.specs.Fresh.{unstarted, join_from, fresh_model, Startable};

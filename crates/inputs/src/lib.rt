@@ -1,4 +1,6 @@
 // Internal: pub only for our own crates. The events of a run, from their bytes.
+#![tactic(auto)]
+
 ghost use Rattle.std.specs.Prelude.{◌≡◌, ◌/◌, ◌%◌, ◌<◌, eqb};
 ghost use Rattle.rules.specs.Lists.{below};
 ghost use Rattle.trace.specs.Limits.{clock_kind, release_kind};

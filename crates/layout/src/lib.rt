@@ -1,5 +1,6 @@
 // A state as bytes, for callers in other languages: read out of lent bytes and written into them, in the layout that specs/ of crate
 // cells has, and moved there by a fresh start and by events; and a board as bytes.
+#![tactic(auto)]
 
 mod events;
 mod sizes;

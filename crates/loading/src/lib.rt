@@ -1,5 +1,7 @@
 // Internal: pub only for our own crates. A state in rows of its own, tested for its sizes and loaded into the engine's slices: the
 // lists and the head. Who loads adds the task records and the ceilings, which are by value in one place and bytes in another.
+#![tactic(auto)]
+
 ghost use Rattle.std.specs.Prelude.{◌≡◌, true, ◌*◌, ◌-◌, ◌≤◌, ◌<◌, length, get_or, replicate};
 ghost use mathlib.Core.List.{◌++◌, flat_map};
 ghost use Rattle.rules.specs.Limits.{task_limit, last_priority};

@@ -1,5 +1,7 @@
 // Internal: pub only for our own crates. Words of bits: one bit set, cleared, tested or found; and the word of marks for the ready
 // queues, whose bit p - 1 is on exactly where the queue for p is not empty.
+#![tactic(auto)]
+
 ghost use Rattle.std.specs.Prelude.{◌≡◌, ◌-◌, ◌^◌, ◌≤◌, ◌<◌, eqb};
 ghost use Rattle.rules.specs.Limits.{first_priority, last_priority};
 ghost use Rattle.marks.specs.Marks.{word_bits, bit_at, with_bit, Highest, mark_for, highest_on};

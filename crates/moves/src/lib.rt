@@ -1,5 +1,7 @@
 // Internal: pub only for our own crates. The moves that events are made of, as in specs/Moves.antt of crate rules, in place on the slices
 // of crate memory.
+#![tactic(auto)]
+
 ghost use Rattle.std.specs.Prelude.{◌≡◌, ◌<◌};
 ghost use Rattle.rules.specs.Model.{active};
 ghost use Rattle.rules.specs.Moves.{become_ready, preempt, start, dispatch};

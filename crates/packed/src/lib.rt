@@ -1,5 +1,7 @@
 // Internal: pub only for our own crates. More than one number in one, for callers in other languages: an answer and its place, and
 // what a reader of a roster finds.
+#![tactic(auto)]
+
 ghost use Rattle.std.specs.Prelude.{◌≡◌, ◌<◌, ◌≤◌};
 ghost use Rattle.packed.specs.Packed.{last_position, packed, packed_priority, step_word, word_of, packed_step};
 

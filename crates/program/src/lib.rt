@@ -1,4 +1,6 @@
 // The program: it reads a roster and events, runs them, and writes the lines of that run.
+#![tactic(auto)]
+
 ghost use Rattle.std.specs.Prelude.{◌≡◌, ◌≤◌, length, take};
 ghost use Rattle.io.specs.Counts.{IsPrefixLen};
 ghost use Rattle.lines.specs.Printed.{lines_enough, printed};

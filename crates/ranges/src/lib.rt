@@ -1,4 +1,6 @@
 // Internal: pub only for our own crates. Whether lent numbers are priorities.
+#![tactic(auto)]
+
 ghost use Rattle.std.specs.Prelude.{◌≡◌};
 ghost use Rattle.rules.specs.Priorities.{in_range};
 ghost use Rattle.rules.specs.Lists.{all_of};

@@ -1,4 +1,6 @@
 // The roster file: its form, its check, and the readers of bases, ceilings, scripts and steps.
+#![tactic(auto)]
+
 mod checks;
 mod forms;
 mod held;

@@ -1,4 +1,6 @@
 // The kinds of the dispatcher: a roster's limits, priorities, places of tasks, events, answers and reports. Their rules are in specs/.
+#![tactic(auto)]
+
 mod roster;
 
 ghost use Rattle.std.specs.Prelude.{◌≡◌, max};
@@ -8,18 +10,18 @@ ghost use Rattle.rules.specs.Answers.{number_of, report_number};
 pub use roster::Roster;
 
 // A priority is a kind of its own. Its field is public, so one out of range can be handed in: rules refuse it.
-#[derive(Drop)]
+#[derive(Clone, Copy)]
 pub struct Priority(pub u8);
 
 // What the checked constructor finds.
-#[derive(Drop)]
+#[derive(Clone, Copy)]
 pub enum Checked {
     Good(Priority),
     OutOfRange,
 }
 
 // The two subranges of Annex D (D.1), or neither.
-#[derive(Drop)]
+#[derive(Clone, Copy)]
 pub enum Subrange {
     Priority,
     InterruptPriority,
@@ -90,7 +92,7 @@ fn in_range(value: u64) -> bool
 }
 
 // Where a task is; a delayed one carries its due time.
-#[derive(Drop)]
+#[derive(Clone, Copy)]
 pub enum Place {
     Running,
     Ready,
@@ -100,14 +102,14 @@ pub enum Place {
 }
 
 // The base that waits for a task's outermost Leave, if there is one.
-#[derive(Drop)]
+#[derive(Clone, Copy)]
 pub enum WaitingBase {
     Nothing,
     Base(Priority),
 }
 
 // A task's record; the objects that it holds are kept beside it.
-#[derive(Drop)]
+#[derive(Clone, Copy)]
 pub struct Task {
     pub place: Place,
     pub base: Priority,
@@ -116,14 +118,14 @@ pub struct Task {
 }
 
 // Who has the processor.
-#[derive(Drop)]
+#[derive(Clone, Copy)]
 pub enum Runner {
     Nobody,
     Task(u8),
 }
 
 // What can happen to a state. Task numbers, object numbers and readings are as wide as a caller may say them.
-#[derive(Drop)]
+#[derive(Clone, Copy)]
 pub enum Event {
     Enter(u64),
     Leave(u64),
@@ -137,7 +139,7 @@ pub enum Event {
 }
 
 // What an event or a fresh start answers; number_of in specs/ has the number of each.
-#[derive(Drop)]
+#[derive(Clone, Copy)]
 pub enum Answer {
     Done,
     NoSuchTask,
@@ -177,7 +179,7 @@ impl Answer {
 }
 
 // Why the processor changed hands at an event; report_number in specs/ has the number of each.
-#[derive(Drop)]
+#[derive(Clone, Copy)]
 pub enum Report {
     Unchanged,
     Preempted,

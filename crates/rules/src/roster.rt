@@ -3,7 +3,7 @@
 ghost use Rattle.std.specs.Prelude.{◌≡◌};
 ghost use Rattle.rules.specs.Limits.{counts_good, size_good};
 
-#[derive(Drop)]
+#[derive(Clone, Copy)]
 pub struct Roster;
 
 impl Roster {

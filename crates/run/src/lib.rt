@@ -1,4 +1,6 @@
 // A run of a roster under events.
+#![tactic(auto)]
+
 mod pass;
 mod start;
 

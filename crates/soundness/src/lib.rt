@@ -1,5 +1,7 @@
 // Internal: pub only for our own crates. The test of soundness, clause by clause as in specs/Sound.antt of crate rules, of slices
 // that are laid out, and of the word of marks.
+#![tactic(auto)]
+
 ghost use Rattle.std.specs.Prelude.{◌≡◌, true, ◌&&◌, [], ◌+◌, ◌-◌, ◌≤◌, ◌<◌, eqb, length, take, drop, get_or};
 ghost use Rattle.rules.specs.Limits.{task_limit};
 ghost use Rattle.rules.specs.Priorities.{in_range};

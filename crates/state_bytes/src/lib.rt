@@ -1,4 +1,5 @@
 // Internal: pub only for our own crates. A state by value, read out of lent bytes and written into them.
+#![tactic(auto)]
 
 mod decode;
 mod encode;

@@ -1,4 +1,6 @@
 // Internal: pub only for our own crates. The form of a script's steps: answer 16.
+#![tactic(auto)]
+
 ghost use Rattle.std.specs.Prelude.{◌≡◌, ◌&&◌, suc, ◌<◌, eqb};
 ghost use Rattle.format.specs.Form.{is_step, unused_zero, names_listed, stands_right, step_good, steps_form};
 ghost use Rattle.format.specs.Steps.{a_at, b_at, step_at, step_count, steps_of};
@@ -98,7 +100,7 @@ fn good_step_at(tasks: u8, objects: u8, part: &[u8], k: usize) -> bool
 }
 
 // What the form finds in one script: 16 or Passed, and with that the highest of the task's base and its own Set values.
-#[derive(Drop)]
+#[derive(Clone, Copy)]
 pub struct Formed {
     pub verdict: Verdict,
     pub top: Priority,

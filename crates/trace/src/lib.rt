@@ -1,4 +1,6 @@
 // The kinds of a run: its events, decoded, and what it answers. Their meaning, and what a run writes, is in specs/.
+#![tactic(auto)]
+
 ghost use Rattle.std.specs.Prelude.{◌≡◌};
 ghost use Rattle.trace.specs.Answers.{number_of, task_of, position_of};
 
@@ -7,7 +9,7 @@ use format::Verdict;
 pub mod sizes;
 
 // An event of a run, decoded. Fields that an event does not use are gone; the others may be out of range.
-#[derive(Drop)]
+#[derive(Clone, Copy)]
 pub enum Input {
     Clock(u64),
     Release(u8),
@@ -16,14 +18,14 @@ pub enum Input {
 }
 
 // What a record of eight bytes is: an event, or nothing that a run takes.
-#[derive(Drop)]
+#[derive(Clone, Copy)]
 pub enum Decoded {
     Good(Input),
     Bad,
 }
 
 // What a run answers: done, what the roster's check found, bad events, or a buffer shorter than needed.
-#[derive(Drop)]
+#[derive(Clone, Copy)]
 pub enum RunAnswer {
     Done,
     BadRoster(Verdict),

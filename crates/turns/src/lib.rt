@@ -1,4 +1,6 @@
 // Internal: pub only for our own crates. One event of a run, in place on the engine's slices and the script positions.
+#![tactic(auto)]
+
 ghost use Rattle.std.specs.Prelude.{◌≡◌, ◌<◌};
 ghost use Rattle.rules.specs.Events.{set_base};
 ghost use Rattle.format.specs.Roster.{roster_of};

@@ -1,4 +1,6 @@
 // Internal: pub only for our own crates. Bytes and little-endian numbers of a slice, and bytes put into one.
+#![tactic(auto)]
+
 ghost use Rattle.std.specs.Prelude.{◌≡◌, ◌+◌, ◌≤◌, ◌<◌, length};
 ghost use Rattle.std.proofs.lemmas.List.Edits.{sets};
 ghost use Rattle.words.specs.Words.{byte_at, word_at, long_at, number_at};
