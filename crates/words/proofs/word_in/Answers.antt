@@ -1,0 +1,8 @@
+-- `words::word_in` meets its contract.
+use native.Mathlib.Omega.{arith}
+use Rattle.words.specs.Words.{word_at}
+use Rattle.words.proofs.word_in.Goals as goal
+
+pub returns : goal.returns
+unfolding word_at
+returns c = omega arith
