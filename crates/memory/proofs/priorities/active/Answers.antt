@@ -7,4 +7,4 @@ use Rattle.memory.proofs.priorities.active.Goals as goal
 
 pub returns : goal.returns
 returns c =
-    active-is c.requires.0 _ _ _ _ (omega arith) refl (ap (λ (p : Priority). p.0) c.base-base.ensures) c.raised.ensures
+    active-is c.requires.laid_out _ _ _ _ (omega arith) refl (ap (λ (p : Priority). p.0) c.base-base.ensures) c.raised.ensures

@@ -8,15 +8,18 @@ use Rattle.memory.proofs.priorities.active_inside.Goals as goal
 
 pub returns-then-depth-eq0 : goal.returns-then-depth-eq0
 returns-then-depth-eq0 c =
-    active-bare c.requires.laid_out _ _ c.requires.t_bound.0 (ap (λ (p : Priority). p.0) c.base.ensures)
+    active-bare c.requires.laid_out _ _ c.requires.t_bound (ap (λ (p : Priority). p.0) c.base.ensures)
     (omega (arith, c.depth.ensures, c.if-depth-eq0.true))
 
 pub last-requires : goal.last-requires
 last-requires c =
-    let whole = (search rules, (search rules, omega (arith, c.depth.ensures, c.if1.false))) in
-    record { t_lt_task_limit = whole.0; held = whole.1; nonzero = whole.2 }
+    record {
+      t_lt_task_limit = search rules;
+      held = search rules;
+      nonzero = omega (arith, c.depth.ensures, c.if-depth-eq0.false);
+    }
 
 pub returns : goal.returns
 returns c =
-    active-rises c.requires.0 _ _ _ _ c.requires.1.0 refl c.requires.1.1
-    (omega (arith, c.depth.ensures, c.if1.false)) c.last.ensures c.ceiling.ensures
+    active-rises c.requires.laid_out _ _ _ _ c.requires.t_bound refl c.requires.rises
+    (omega (arith, c.depth.ensures, c.if-depth-eq0.false)) c.last.ensures c.ceiling.ensures

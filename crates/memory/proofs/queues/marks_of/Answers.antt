@@ -26,11 +26,10 @@ overflow_add-word c =
     record { fits = omega (arith, small, c.mark_for.ensures, mark-small c.size.result) }
 
 pub loop-p-preserved : goal.loop-p-preserved
-loop-p-preserved c =
-     (
-      search rules,
-      word_next _ _ _ _ _ (omega arith) (omega arith) c.loop-p.invariant.1 c.size.ensures c.mark_for.ensures,
-    )
+loop-p-preserved c = (
+  search rules,
+  word_next _ _ _ _ _ (omega arith) (omega arith) c.loop-p.invariant.1 c.size.ensures c.mark_for.ensures,
+)
 
 pub returns : goal.returns
 returns c =

@@ -1,5 +1,5 @@
 -- `memory::queues::push_tail` meets its contract.
-use mathlib.Core.List.{List, ◌∷◌, ◌++◌}
+use mathlib.Core.List.{List, [], ◌∷◌, ◌++◌}
 use Prim.Native.Nat.{ℕ}
 use native.Mathlib.Omega.{arith}
 use lib.ListN.{length-append}
@@ -8,21 +8,22 @@ use Rattle.memory.proofs.GridLaws.{queue-open, queue-became}
 use Rattle.memory.proofs.queues.push_tail.Goals as goal
 
 pub join-requires : goal.join-requires
-join-requires c = queue-open c.requires.has_queue c.requires.queues.0 (omega arith)
+join-requires c = queue-open c.requires.has_queue c.requires.queues (omega arith)
 
 pub remark-requires : goal.remark-requires
 remark-requires c =
-    let entry = c.before in
     let became =
-    queue-became entry.requires.0 entry.requires.1.0 _ (λ (q : List ℕ). q ++ (entry.args.t ∷ [])) c.join.ensures
+    queue-became c.requires.has_queue c.requires.queues _ (λ (q : List ℕ). q ++ (c.args.t ∷ [])) c.join.ensures
     (simp length-append (omega arith)) in
-    let whole = (entry.requires.0, (became.good, entry.requires.1.1.0.size)) in
-    record { has_queue = whole.0; queues = whole.1; head_len = whole.2 }
+    record {
+      has_queue = c.requires.has_queue;
+      queues = became.good;
+      head_len = c.requires.marked.size;
+    }
 
 pub returns : goal.returns
 returns c =
-    let entry = c.before in
     let became =
-    queue-became entry.requires.0 entry.requires.1.0 _ (λ (q : List ℕ). q ++ (entry.args.t ∷ [])) c.join.ensures
+    queue-became c.requires.has_queue c.requires.queues _ (λ (q : List ℕ). q ++ (c.args.t ∷ [])) c.join.ensures
     (simp length-append (omega arith)) in
-    ready-became _ entry.requires.0 entry.requires.1.1.0 became c.remark.ensures
+    ready-became _ c.requires.has_queue c.requires.marked became c.remark.ensures
