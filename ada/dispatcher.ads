@@ -1,4 +1,4 @@
---  The dispatcher's functions for Ada, over libexports.a (rt staticlib exports).
+--  The dispatcher's functions for Ada, over libexports.a (rt lib in crates/exports).
 --
 --  Every function answers for any bytes of any length. An event whose answer is not Done leaves the state as it was.
 --  Numbers of different kinds have different types. Each is as wide as a caller can need: one that is out of the dispatcher's

@@ -1,4 +1,4 @@
-/* The dispatcher's functions for C99, C11 and C++, from libexports.a (rt staticlib exports).
+/* The dispatcher's functions for C99, C11 and C++, from libexports.a (rt lib in crates/exports).
  *
  * Every function answers for any bytes of any length, and touches nothing but what is said here. A slice is passed as its
  * address and its length; an address may be anything that is not null where the length is 0. Slices that are lent for

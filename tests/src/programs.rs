@@ -19,7 +19,10 @@ fn built(path: &str, how: &str) -> PathBuf {
 
 /// The compiled program.
 pub fn proved() -> PathBuf {
-    built("target/bin/dispatcher", "rt check dispatcher")
+    built(
+        "crates/dispatcher/out/dispatcher",
+        "rt run in crates/dispatcher",
+    )
 }
 
 /// The second program's command.

@@ -33,8 +33,8 @@ pub fn accepted(name: &str, edits: &[Edit], case: &Case) -> (bool, String) {
     }
     write_refutation(&copy, case);
     let output = Command::new("rt")
-        .args(["check", "safety"])
-        .current_dir(&copy)
+        .arg("check")
+        .current_dir(copy.join("crates/safety"))
         .output()
         .expect("rt is installed");
     let mut text = String::from_utf8_lossy(&output.stdout).into_owned();
@@ -47,7 +47,7 @@ fn root() -> PathBuf {
     Path::new(env!("CARGO_MANIFEST_DIR")).join("../..")
 }
 
-/// A repository of its own with the definitions alone: no functions, no laws. Not under target/, which rt ci removes.
+/// A repository of its own with the definitions alone: no functions, no laws. Outside this one, where rt ci refuses such files.
 fn copy_of_definitions(name: &str) -> PathBuf {
     let copy = std::env::temp_dir()
         .join(format!("slips-{}", std::process::id()))
@@ -61,10 +61,11 @@ fn copy_of_definitions(name: &str) -> PathBuf {
         below.push_str(&format!(" {name}"));
     }
     write(&copy.join("crates.txt"), &listed);
+    fs::create_dir_all(copy.join(".git")).expect("the folder can be made");
     copy
 }
 
-/// The modules of a crate's definitions that name no other crates than these; the bridge to the methods is none of them.
+/// The modules of a crate's definitions that name no other crates than these and std; the bridge to the methods is none of them.
 fn modules(name: &str) -> Vec<String> {
     let specs = root().join("crates").join(name).join("specs");
     read(&specs.join("Lib.antt"))
@@ -76,9 +77,9 @@ fn modules(name: &str) -> Vec<String> {
 }
 
 fn names_only_these(text: &str) -> bool {
-    text.split("Rattle·").skip(1).all(|rest| {
-        let end = rest.find(['.', '·']).unwrap_or(rest.len());
-        CRATES.contains(&&rest[..end])
+    text.split("Rattle.").skip(1).all(|rest| {
+        let name = rest.split('.').next().unwrap_or_default();
+        name == "std" || CRATES.contains(&name)
     })
 }
 
@@ -100,22 +101,24 @@ fn copy_crate(copy: &Path, name: &str) {
 
 /// The types that a source declares, with what it brings in for them.
 fn types(source: &str) -> String {
-    let mut code = String::from("// The declared types alone.\n");
+    let mut code = String::from("// The declared types alone.\n#![tactic(auto)]\n\n");
     for line in source.lines() {
         if line.starts_with("use ") {
             code.push_str(&format!("{line}\n"));
         }
     }
+    let mut before = "";
     for line in source.lines() {
         if line.starts_with("pub struct ") || line.starts_with("pub enum ") {
-            code.push_str(&declaration(source, line));
+            code.push_str(&declaration(source, before, line));
         }
+        before = line;
     }
     code
 }
 
-/// The text of a declaration from its first line up to its end.
-fn declaration(source: &str, first: &str) -> String {
+/// The text of a declaration from its first line up to its end, with the derives that stand on the line before it.
+fn declaration(source: &str, before: &str, first: &str) -> String {
     let start = source.find(first).expect("a line of the source");
     let rest = &source[start..];
     let end = if first.ends_with(';') {
@@ -123,7 +126,11 @@ fn declaration(source: &str, first: &str) -> String {
     } else {
         rest.find("\n}").expect("the end of a declaration") + 2
     };
-    format!("\n{}\n", &rest[..end])
+    let derives = match before.starts_with("#[derive(") {
+        true => format!("{before}\n"),
+        false => String::new(),
+    };
+    format!("\n{derives}{}\n", &rest[..end])
 }
 
 fn make(copy: &Path, edit: &Edit) {
@@ -145,8 +152,8 @@ fn write_refutation(copy: &Path, case: &Case) {
     let numbers: Vec<String> = bytes_of(&case.roster).iter().map(u8::to_string).collect();
     let text = format!(
         "{uses}{IMPORTS}\nbytes : List ℕ\nbytes = {} ∷ []\n\nevents : List Event\nevents = {}\n\n\
-         passes : passed (checkOf bytes) ≡ true\n{unfolding} bytes\npasses = refl\n\n\
-         unsafe : Safe (rosterOf bytes) events → ⊥\n{unfolding} bytes events\nunsafe s = {}\n",
+         passes : passed (check_of bytes) ≡ true\n{unfolding} bytes\npasses = refl\n\n\
+         unsafe : Safe (roster_of bytes) events → ⊥\n{unfolding} bytes events\nunsafe s = {}\n",
         numbers.join(" ∷ "),
         case.events,
         case.proof,
@@ -158,18 +165,18 @@ fn write_refutation(copy: &Path, case: &Case) {
     );
 }
 
-const IMPORTS: &str = "use mathlib.Core.Path.{_≡_, refl}
+const IMPORTS: &str = "use mathlib.Core.Path.{◌≡◌, refl}
 use mathlib.Core.Bool.{true}
-use mathlib.Core.List.{List, [], _∷_}
+use mathlib.Core.List.{List, [], ◌∷◌}
 use Prim.Native.Nat.{ℕ}
 use native.Mathlib.Omega.{arith}
-use Rattle·rules.specs.declared.Answer.the-variants.{Done, AboveCeiling}
-use Rattle·rules.specs.declared.Runner.the-variants.{Nobody, Task}
-use Rattle·format.specs.Answers.{passed}
-use Rattle·format.specs.Check.{checkOf}
-use Rattle·format.specs.Roster.{Roster, rosterOf}
-use Rattle·safety·specs.specs.History.{Event, clock, release, step}
-use Rattle·safety·specs.specs.Safe.{Safe, running, stepAnswer}
+use Rattle.rules.specs.declared.Answer.TheVariants.{Done, AboveCeiling}
+use Rattle.rules.specs.declared.Runner.TheVariants.{Nobody, Task}
+use Rattle.format.specs.Answers.{passed}
+use Rattle.format.specs.Check.{check_of}
+use Rattle.format.specs.Roster.{Roster, roster_of}
+use Rattle.safety.specs.History.{Event, clock, release, step}
+use Rattle.safety.specs.Safe.{Safe, running, step_answer}
 ";
 
 /// Import lines for every module, and one `unfolding` line that names every definition that does not unfold by itself.
@@ -179,11 +186,9 @@ fn all_definitions(copy: &Path) -> (String, String) {
     for crate_name in CRATES {
         for file in modules(crate_name) {
             let alias = format!("{crate_name}{file}");
-            let path = match crate_name {
-                "safety" => format!("Rattle·safety·specs.specs.{file}"),
-                other => format!("Rattle·{other}.specs.{file}"),
-            };
-            uses.push_str(&format!("use {path} as {alias}\n"));
+            uses.push_str(&format!(
+                "use Rattle.{crate_name}.specs.{file} as {alias}\n"
+            ));
             let text = read(&copy.join(format!("crates/{crate_name}/specs/{file}.antt")));
             for line in text.lines() {
                 if let Some(rest) = line.strip_prefix("unfoldable pub ") {

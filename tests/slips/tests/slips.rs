@@ -3,8 +3,8 @@
 use slips::{accepted, Case, Edit, Roster, Step};
 
 /// Two tasks inside the object 0: tasks 0 and 1.
-const BOTH_INSIDE: &str = "let e : _≡_ {A = ℕ} 0 1 = \
-    s .exclusive 0 1 0 (record { is = omega arith }) (record { is = omega arith }) in omega arith";
+const BOTH_INSIDE: &str = "let e : ◌≡◌ {A = ℕ} 0 1 = \
+    s.exclusive 0 1 0 (record { is = omega arith }) (record { is = omega arith }) in omega arith";
 
 /// Task 0 is inside and preempted; task 1, whose base is the ceiling, must not enter before task 0 has left.
 const PREEMPTED: Case = Case {
@@ -24,8 +24,8 @@ const PREEMPTED: Case = Case {
 fn a_preempted_task_sent_to_the_tail() {
     let edit = Edit {
         file: "rules/specs/Moves.antt",
-        old: "(t ∷ queue m (active m t))) t (withPlace (taskAt m t) Ready)",
-        new: "(queue m (active m t) ++ (t ∷ []))) t (withPlace (taskAt m t) Ready)",
+        old: "(t ∷ queue m (active m t))) t (with_place (task_at m t) Ready)",
+        new: "(queue m (active m t) ++ (t ∷ []))) t (with_place (task_at m t) Ready)",
     };
     let (is, text) = accepted("preempted_to_tail", &[edit], &PREEMPTED);
     assert!(is, "{text}");
@@ -35,8 +35,8 @@ fn a_preempted_task_sent_to_the_tail() {
 fn a_leaver_sent_behind_its_equals_while_it_holds_an_outer_object() {
     let edit = Edit {
         file: "rules/specs/Events.antt",
-        old: "settle m t = cond (inside (taskAt m t)) m",
-        new: "settle m t = cond (inside (taskAt m t)) (becomeReady (stopped m) t)",
+        old: "settle m t = cond (inside (task_at m t)) m",
+        new: "settle m t = cond (inside (task_at m t)) (become_ready (stopped m) t)",
     };
     let case = Case {
         roster: Roster {
@@ -65,8 +65,8 @@ fn a_leaver_sent_behind_its_equals_while_it_holds_an_outer_object() {
 fn a_base_changed_inside_a_protected_action() {
     let edit = Edit {
         file: "rules/specs/Events.antt",
-        old: "    cond (inside (taskAt m t))\n    (withTask m t (withWaiting",
-        new: "    cond false\n    (withTask m t (withWaiting",
+        old: "    cond (inside (task_at m t))\n    (with_task m t (with_waiting",
+        new: "    cond false\n    (with_task m t (with_waiting",
     };
     let case = Case {
         roster: Roster {
@@ -87,8 +87,8 @@ fn a_base_changed_inside_a_protected_action() {
 fn a_check_that_forgets_set_values_after_the_enter() {
     let edit = Edit {
         file: "format/specs/Check.antt",
-        old: "topAt r t = topOf t (baseOf r t) (scriptOf r t)",
-        new: "topAt r t = baseOf r t",
+        old: "top_at r t = top_of t (base_of r t) (script_of r t)",
+        new: "top_at r t = base_of r t",
     };
     let case = Case {
         roster: Roster {
@@ -105,9 +105,9 @@ fn a_check_that_forgets_set_values_after_the_enter() {
         },
         events: "step ∷ step ∷ step ∷ step ∷ step ∷ []",
         // the fifth step, an Enter above the ceiling, is refused although task 0 runs
-        proof: "let i = s .refused (step ∷ step ∷ step ∷ step ∷ []) [] refl .0 \
-                (record { is = λ d. let z : _≡_ {A = ℕ} 0 1 = cc in omega arith }) in \
-                let n = i .nobody in let z : _≡_ {A = ℕ} 0 1 = cc in omega arith",
+        proof: "let i = (s.refused (step ∷ step ∷ step ∷ step ∷ []) [] refl).0 \
+                (record { is = λ d. let z : ◌≡◌ {A = ℕ} 0 1 = cc in omega arith }) in \
+                let n = i.nobody in let z : ◌≡◌ {A = ℕ} 0 1 = cc in omega arith",
     };
     let (is, text) = accepted("later_set_values_forgotten", &[edit], &case);
     assert!(is, "{text}");
