@@ -15,20 +15,15 @@ join_all-requires c =
 
 pub dispatch-requires : goal.dispatch-requires
 dispatch-requires c =
-    let at-lay-out =
-    at-join-all.before.before.before.before.before.before.before.before.before.before in
-    let entry = at-lay-out.before.before.before.before.before.before.before.before.before.before in
-    let x = at-lay-out.lay-out.ensures in
+    let x = c.lay_out.ensures in
     let y = joined-law _ x c.join_all.ensures in
     record {
       laid_out = y.laid;
-      dispatches = rw y.same (fresh-dispatches _ entry.pre.0);
+      dispatches = rw y.same (fresh-dispatches _ c.requires.startable);
     }
 
 pub returns : goal.returns
 unfolding fresh_model
 returns c =
-    let at-lay-out =
-    at-join-all.before.before.before.before.before.before.before.before.before.before in
-    let y = joined-law _ at-lay-out.lay-out.ensures c.join_all.ensures in
+    let y = joined-law _ c.lay_out.ensures c.join_all.ensures in
     then-means dispatch y c.dispatch.ensures

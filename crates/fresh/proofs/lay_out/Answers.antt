@@ -8,13 +8,10 @@ use Rattle.fresh.proofs.lay_out.Goals as goal
 
 pub enroll-requires : goal.enroll-requires
 enroll-requires c =
-    let at-clear-words =
-    c.before.before.before.before.before.before.before.before.before.before.before.before.before in
-    let entry = at-clear-words.before.before.before.before.before.before in
-    let z = at-clear-words.clear-words.ensures ∙ ap (λ (n : ℕ). replicate n 0) entry.pre.1.tasks in
+    let z = c.clear_words.ensures ∙ ap (λ (n : ℕ). replicate n 0) c.requires.sized.tasks in
     record {
       tasks = blank-rows _ z;
-      bases_len_bound = entry.pre.0.count;
+      bases_len_bound = c.requires.startable.count;
     }
 
 pub returns : goal.returns
