@@ -1,21 +1,12 @@
 -- `writer::answers::answer` meets its contract.
 use mathlib.Core.Path.{◌≡◌}
 use native.Mathlib.Omega.{arith}
-use borrow.Author.Tests.{not-false}
 use Rattle.format.specs.declared.Verdict.TheVariants.{Passed}
 use Rattle.encoding.specs.File.{Parts, parts}
 use Rattle.encoding.specs.Answers.{file_form}
 use Rattle.encoding.proofs.FileLaws.{file-length}
 use Rattle.encoding.proofs.AnswerLaws.{passed-file, sizes, answer-refused, answer-short, answer-done}
 use Rattle.writer.proofs.answers.answer.Goals as goal
-
-abbrev given : tie.Else1 → Parts
-given c =
-    let a = c.before.before.before.before.before.before.before.args in
-    parts a.bases.now a.ceilings.now a.lengths.now a.steps.now
-
-passes : (c : tie.Else1) → file_form (given c) ≡ Passed
-passes c = passed-file (given c) _ _ c.before.before.file-form.ensures c.before.passed.ensures (not-false _ c.if1.false)
 
 pub returns-then-not-passed : goal.returns-then-not-passed
 returns-then-not-passed c =
@@ -25,8 +16,13 @@ returns-then-not-passed c =
 
 pub size-n-requires : goal.size-n-requires
 size-n-requires c =
-    let p = given c in
-    let k = sizes p (passes c) in
+    let given : Parts =
+        let a = c.args in
+    parts a.bases.now a.ceilings.now a.lengths.now a.steps.now in
+    let passes : file_form given ≡ Passed =
+        passed-file given _ _ c.file_form-v.ensures c.passed.ensures (c.if-not-passed.false) in
+    let p = given in
+    let k = sizes p passes in
     record {
       tasks_le_task_limit = k.counts.tasks;
       objects_le_object_limit = k.counts.objects;
@@ -35,10 +31,20 @@ size-n-requires c =
 
 pub returns-then-room-n : goal.returns-then-room-n
 returns-then-room-n c =
-    let p = given c2 in
-    answer-short p c.args.room (passes c2) (omega (arith, file-length p))
+    let given : Parts =
+        let a = c.args in
+    parts a.bases.now a.ceilings.now a.lengths.now a.steps.now in
+    let passes : file_form given ≡ Passed =
+        passed-file given _ _ c.file_form-v.ensures c.passed.ensures (c.if-not-passed.false) in
+    let p = given in
+    answer-short p c.args.room passes (omega (arith, file-length p))
 
 pub returns : goal.returns
 returns c =
-    let p = given c2 in
-    answer-done p c.args.room (passes c2) (omega (arith, file-length p))
+    let given : Parts =
+        let a = c.args in
+    parts a.bases.now a.ceilings.now a.lengths.now a.steps.now in
+    let passes : file_form given ≡ Passed =
+        passed-file given _ _ c.file_form-v.ensures c.passed.ensures (c.if-not-passed.false) in
+    let p = given in
+    answer-done p c.args.room passes (omega (arith, file-length p))

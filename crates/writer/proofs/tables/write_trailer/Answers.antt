@@ -33,5 +33,5 @@ pub returns : goal.returns
 unfolding trailer_bytes
 returns c =
     let args = c.args in
-    sets-eq (first_mark ∷ second_mark ∷ args.tasks ∷ args.objects ∷ (word args.object-start ++ word args.task-start))
+    sets-eq (first_mark ∷ second_mark ∷ args.tasks ∷ args.objects ∷ (word args.object_start ++ word args.task_start))
     args.end.now 0 (omega arith)

@@ -3,7 +3,6 @@ use mathlib.Core.Path.{◌≡◌, ap, sym, ◌∙◌}
 use mathlib.Core.List.{List}
 use Prim.Native.Nat.{ℕ}
 use native.Mathlib.Omega.{arith}
-use borrow.Author.Tests.{not-false}
 use lib.ListN.{length}
 use Rattle.encoding.specs.File.{Parts, parts, file_of}
 use Rattle.encoding.specs.Answers.{write_answer_of}
@@ -14,17 +13,6 @@ use Rattle.writer.proofs.FrontLaws.{over-taken}
 use Rattle.writer.proofs.TableLaws.{known}
 use Rattle.writer.proofs.writes.written.Goals as goal
 
-abbrev given : tie.Else1 → Parts
-given c =
-    let a = c.before.before.before.before.before.before.before.before.args in
-    parts a.bases.now a.ceilings.now a.lengths.now a.steps.now
-
-abbrev lent : tie.Else1 → List ℕ
-lent c = c.before.before.before.before.before.before.before.before.args.out.now
-
-goes : (c : tie.Else1) → write_answer_of (given c) (length (lent c)) ≡ Done
-goes c = done-answer (given c) _ _ _ c.before.before.answer.ensures c.before.wrote.ensures (not-false _ c.if1.false)
-
 pub returns-then-not-wrote : goal.returns-then-not-wrote
 returns-then-not-wrote c =
     let a = c.args in
@@ -33,8 +21,15 @@ returns-then-not-wrote c =
 
 pub size-n-requires : goal.size-n-requires
 size-n-requires c =
-    let p = given c in
-    let k = known p (lent c) (goes c) in
+    let given : Parts =
+        let a = c.args in
+    parts a.bases.now a.ceilings.now a.lengths.now a.steps.now in
+    let lent : List ℕ =
+        c.args.out.now in
+    let goes : write_answer_of given (length lent) ≡ Done =
+        done-answer given _ _ _ c.answer-a.ensures c.wrote.ensures (c.if-not-wrote.false) in
+    let p = given in
+    let k = known p lent goes in
     record {
       tasks_le_task_limit = k.counts.tasks;
       objects_le_object_limit = k.counts.objects;
@@ -42,18 +37,38 @@ size-n-requires c =
     }
 
 pub write_file-requires : goal.write_file-requires
-write_file-requires c = goes c.before.before
+write_file-requires c =
+    let given : Parts =
+        let a = c.args in
+    parts a.bases.now a.ceilings.now a.lengths.now a.steps.now in
+    let lent : List ℕ =
+        c.args.out.now in
+    let goes : write_answer_of given (length lent) ≡ Done =
+        done-answer given _ _ _ c.answer-a.ensures c.wrote.ensures (c.if-not-wrote.false) in
+    goes
 
 pub slice_bounds-result-end-2 : goal.slice_bounds-result-end-2
 slice_bounds-result-end-2 c =
-    let p = given c5.before in
-    let out = lent c5.before in
+    let given : Parts =
+        let a = c.args in
+    parts a.bases.now a.ceilings.now a.lengths.now a.steps.now in
+    let lent : List ℕ =
+        c.args.out.now in
+    let p = given in
+    let out = lent in
     let n = c.size-n.ensures ∙ sym (file-length p) in
     n ∙ sym (ap length (over-taken (file_of p) out _ _ c.write_file.ensures n))
 
 pub returns : goal.returns
 returns c =
-    let p = given c5.before in
+    let given : Parts =
+        let a = c.args in
+    parts a.bases.now a.ceilings.now a.lengths.now a.steps.now in
+    let lent : List ℕ =
+        c.args.out.now in
+    let goes : write_answer_of given (length lent) ≡ Done =
+        done-answer given _ _ _ c.answer-a.ensures c.wrote.ensures (c.if-not-wrote.false) in
+    let p = given in
     let n = c.size-n.ensures ∙ sym (file-length p) in
-    let out = lent c5.before in
-    part-whole p _ _ (goes c5.before) (over-taken (file_of p) out _ _ c.write_file.ensures n)
+    let out = lent in
+    part-whole p _ _ goes (over-taken (file_of p) out _ _ c.write_file.ensures n)
