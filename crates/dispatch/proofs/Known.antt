@@ -1,5 +1,5 @@
 -- What a function knows of a state that it is handed: its arrays have their lengths.
--- `known s _ c.good.0` where the state is the first parameter.
+-- `known s _ c.well_formed.0` where the state is the first parameter.
 use mathlib.Core.Path.{◌≡◌, ◌∙◌, sym}
 use mathlib.Core.List.{List, map}
 use Prim.Native.Nat.{ℕ, ◌*◌}
@@ -22,13 +22,10 @@ pub record Shaped (s : State) : Type 0 where
   pub ceilings : length s.ceilings ≡ object_limit
   pub queues : length s.queues ≡ last_priority * queue_width
 
-mapped : {A B : Type 0} (f : A → B) (l : List A) (n : ℕ) → length (map f l) ≡ n → length l ≡ n
-mapped f l n e = sym (length-map l f) ∙ e
-
 pub known : (s : State) (vs : List Val) → Is (row the_type) s vs → Shaped s
 known s vs w = record {
-  tasks = mapped task-type.to s.tasks task_limit w.1.1.1.1.1.1.1.0.1.0.1;
-  held = length_unmapped ℕ s.held (task_limit * held_width) w.1.1.1.1.1.1.1.1.0.1.0.1;
-  ceilings = mapped priority-type.to s.ceilings object_limit w.1.1.1.1.1.1.1.1.1.0.1.0.1;
-  queues = length_unmapped ℕ s.queues (last_priority * queue_width) w.1.1.1.1.1.1.1.1.1.1.0.1.0.1;
+  tasks = w.1.1.1.1.1.1.1.0.1.0.1;
+  held = w.1.1.1.1.1.1.1.1.0.1.0.1;
+  ceilings = w.1.1.1.1.1.1.1.1.1.0.1.0.1;
+  queues = w.1.1.1.1.1.1.1.1.1.1.0.1.0.1;
 }
