@@ -1,7 +1,8 @@
 // The program: it reads a roster and events, runs them, and writes the lines of that run.
 #![tactic(auto)]
 
-ghost use Rattle.std.specs.Prelude.{◌≡◌, ◌≤◌, length, take};
+ghost use Rattle.std.specs.Prelude.{◌≡◌, ◌+◌, ◌<◌, ◌≤◌, length, take, drop, IfOk, IfSome};
+ghost use Rattle.std.specs.Io.KnownBytes.{Consumes, IsAtEnd};
 ghost use Rattle.lines.specs.Printed.{lines_enough, printed};
 ghost use Rattle.program.specs.Counts.{IsPrefixLen};
 
@@ -18,21 +19,33 @@ pub use printing::printed;
 // A reply to each of the events that a run takes.
 const REPLIES_ROOM: usize = REPLY_SIZE * (LARGEST_EVENTS / EVENT_SIZE);
 
-// Each of the roster, the events and the lines has a buffer of so many bytes. More than the longest of them, so that a full buffer
-// tells what is too long.
+// The roster, the events and the lines have a buffer of so many bytes each: more than the longest of them, so that what fills it is
+// too long.
 const BUFFER_SIZE: usize = 65536;
 
 // So many bytes past the longest events are read, so that whoever writes them is not cut off.
 const LONGEST_REST: usize = 1073741824;
 
+// One read into the buffer from the place `at` on.
+fn read_at<R: Read>(input: &mut R, buffer: &mut [u8], at: usize) -> io::Result<usize>
+    requires { at < length buffer.old }
+    ensures front { take at buffer.new ≡ take at buffer.old }
+    ensures fits { IfOk result (λ n. at + n ≤ length buffer.new) }
+    ensures read { IfOk result (λ n. Consumes (R.remaining input.old) (R.remaining input.new) (take n (drop at buffer.new))) }
+    ensures end { IfOk result (λ n. n ≡ 0 → IsAtEnd (R.remaining input.new)) }
+{
+    input.read(&mut buffer[at..])
+}
+
 // Reads to the end of the input: how many bytes stand at the start of the buffer. What is longer than the buffer, or fails on the way,
-// counts as filling it: that is too long for a roster and for events, so the run answers 11 or 21.
-fn read_to_end(input: &mut impl Read, buffer: &mut [u8]) -> usize
-    ensures { IsPrefixLen result buffer.new }
+// counts as filling it: that is too long for a roster and for events, so the run answers 11 or 21. A part is never taken for the whole.
+fn read_to_end<R: Read>(input: &mut R, buffer: &mut [u8]) -> usize
+    ensures prefix_len { IsPrefixLen result buffer.new }
+    ensures whole { result < length buffer.new → IfSome (R.remaining input.old) (λ bytes. take result buffer.new ≡ bytes) }
 {
     let mut done: usize = 0;
     while done < buffer.len() {
-        let Ok(n) = input.read(&mut buffer[done..]) else {
+        let Ok(n) = read_at(input, buffer, done) else {
             return buffer.len();
         };
         if n == 0 {
@@ -72,8 +85,9 @@ fn skip_rest(input: &mut impl Read) {
     }
 }
 
-fn read_events(input: &mut impl Read, buffer: &mut [u8]) -> usize
-    ensures { IsPrefixLen result buffer.new }
+fn read_events<R: Read>(input: &mut R, buffer: &mut [u8]) -> usize
+    ensures prefix_len { IsPrefixLen result buffer.new }
+    ensures whole { result < length buffer.new → IfSome (R.remaining input.old) (λ bytes. take result buffer.new ≡ bytes) }
 {
     let n = read_to_end(input, buffer);
     if n == buffer.len() {
