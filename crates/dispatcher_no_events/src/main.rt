@@ -1,6 +1,8 @@
 // Runs roster.bin under the events of standard input: no events at all.
 #![tactic(auto)]
 
-fn main() {
-    program::run_files();
+use std::io;
+
+fn main(rt: HostRuntime) -> io::Result<()> {
+    program::run_files(&rt)
 }

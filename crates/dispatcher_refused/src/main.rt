@@ -1,6 +1,8 @@
 // Runs roster.bin under the events of standard input: a ceiling below a base.
 #![tactic(auto)]
 
-fn main() {
-    program::run_files();
+use std::io;
+
+fn main(rt: HostRuntime) -> io::Result<()> {
+    program::run_files(&rt)
 }

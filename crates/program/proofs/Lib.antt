@@ -1,1 +1,1 @@
-pub mod CountLaws
+mod Reading

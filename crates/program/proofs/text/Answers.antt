@@ -1,0 +1,9 @@
+-- `text` meets its contract: the buffers for the replies and the lines are long enough for what `printed` tells of them.
+use Rattle.std.proofs.Common.{arith}
+use Rattle.lines.proofs.PrintedLaws.{printed-text}
+use Rattle.program.proofs.text.Goals as goal
+
+pub returns-clause-out_after : goal.returns-clause-out_after
+returns-clause-out_after c =
+    printed-text c.args.roster.now c.args.events.now _ c.args.out.now c.printed.ensures.value c.printed.ensures.out_after (omega arith)
+    c.requires
