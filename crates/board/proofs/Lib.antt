@@ -4,6 +4,3 @@ pub mod FillLaws
 pub mod FoldLaws
 pub mod StateLaws
 pub mod SourceLaws
-pub mod Shapes
-pub mod Lent
-pub mod Thin

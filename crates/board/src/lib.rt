@@ -1,5 +1,5 @@
 // The lent board: rows of task records that a host lends, filled from a state and asked for the next row.
-// A slice of records is proved by hand: `next`, `fill`, and `next_within` and `fill_within`, which lend one. All else is covered.
+// A lent slice of records is asked and filled in place.
 #![tactic(auto)]
 
 mod scan;
