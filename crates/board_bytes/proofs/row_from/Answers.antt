@@ -1,0 +1,7 @@
+-- `board_bytes::row_from` meets its contract.
+use Rattle.board_bytes.specs.Boards.{row_from}
+use Rattle.board_bytes.proofs.row_from.Goals as goal
+
+pub returns : goal.returns
+unfolding row_from
+returns c = cc
