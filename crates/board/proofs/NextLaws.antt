@@ -14,10 +14,10 @@ use Rattle.board.specs.declared.Row.{Row}
 use Rattle.board.specs.declared.scan.Best.{Best}
 use Rattle.board.specs.declared.NextAnswer.{NextAnswer}
 use Rattle.board.specs.Rows.{row_limit, is_ready_kind, row_at, Told, told_of}
-use Rattle.board.specs.Next.{priority_at, position_at, ReadyRow, Before, NextRow, BadRow, NoBadRow, Answers}
+use Rattle.board.specs.Next.{priority_at, position_at, Before, NextRow, Answers}
 use Rattle.board.specs.Next.Before.{higher, earlier, lower}
 use Rattle.board.specs.Next.Answers.{too_many, bad, named, none}
-use Rattle.board.specs.Scan.{ahead_of, better_of, best_of, looked_of, concluded, next_of}
+use Rattle.board.specs.Scan.{ahead_of, better_of, best_of, concluded, next_of}
 use Rattle.board.proofs.ScanLaws.{ahead-unready, ahead-alone, ahead-equal, ahead-other, better-new, better-old}
 use Rattle.board.proofs.ScanLaws.{looked-all, finish-many, finish-bad, finish-row, finish-nobody}
 

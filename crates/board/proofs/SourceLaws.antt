@@ -9,7 +9,7 @@ use lib.Dec.{eqb}
 use lib.ListN.{length, get_or}
 use Rattle.rules.specs.Limits.{task_limit}
 use Rattle.rules.specs.Priorities.{in_range}
-use Rattle.rules.specs.Model.{task_at, queue, active}
+use Rattle.rules.specs.Model.{task_at, active}
 use Rattle.rules.specs.declared.Priority.{Priority}
 use Rattle.rules.specs.declared.Task.{Task}
 use Rattle.rules.proofs.Choices.{compare, cond-true}

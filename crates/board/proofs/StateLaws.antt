@@ -1,7 +1,7 @@
 -- Laws of filling a board from a state: its answer, the rows that are written, and whom the board then names.
 use mathlib.Core.Path.{◌≡◌, refl, sym, ap, ◌∙◌}
 use mathlib.Core.Bool.{Bool, true, false, cond}
-use mathlib.Core.List.{List, [], ◌∷◌, ◌++◌}
+use mathlib.Core.List.{List}
 use Prim.Native.Nat.{ℕ, zero, suc, ◌≤◌, ◌<◌, zero-le}
 use native.Mathlib.Nat.{not-suc-le-zero}
 use native.Mathlib.Omega.{arith}
@@ -11,9 +11,8 @@ use lib.ListN.{length, take, drop}
 use lib.Seq.{take_at}
 use Rattle.rules.specs.Model.{task_at}
 use Rattle.rules.specs.Moves.{highest, head_of}
-use Rattle.rules.specs.Sound.{sound}
 use Rattle.rules.specs.declared.Place.TheVariants.{Ready}
-use Rattle.rules.proofs.Choices.{clash, cond-true, cond-false}
+use Rattle.rules.proofs.Choices.{cond-true, cond-false}
 use Rattle.rules.proofs.SoundLaws.{sound-is}
 use Rattle.dispatch.specs.State.{view}
 use Rattle.dispatch.specs.Sound.{sound_of}
@@ -22,7 +21,7 @@ use Rattle.dispatch.proofs.MethodLaws.{view-sound}
 use Rattle.board.specs.declared.Row.{Row}
 use Rattle.board.specs.declared.FillAnswer.{FillAnswer}
 use Rattle.board.specs.declared.NextAnswer.{NextAnswer}
-use Rattle.board.specs.Rows.{row_limit, Filling, fill_number, filling_of, behind, told_of}
+use Rattle.board.specs.Rows.{row_limit, filling_of, behind, told_of}
 use Rattle.board.specs.Scan.{next_of}
 use Rattle.board.specs.Fill.{row_of, rows_to, rows_of, fill_answer_of, board_after, fill_of, fill_first_of, rows_written}
 use Rattle.board.proofs.FillLaws.{rows-length, filled-ready, filled-nobody}

@@ -1,17 +1,14 @@
 -- What a function knows of a state that it is handed: its arrays have their lengths.
 -- `known s _ c.well_formed.0` where the state is the first parameter.
-use mathlib.Core.Path.{◌≡◌, ◌∙◌, sym}
-use mathlib.Core.List.{List, map}
-use Prim.Native.Nat.{ℕ, ◌*◌}
-use lib.ListN.{length, length-map}
+use mathlib.Core.Path.{◌≡◌}
+use mathlib.Core.List.{List}
+use Prim.Native.Nat.{◌*◌}
+use lib.ListN.{length}
 use mir.Val.{Val}
 use denote.Laws.{Is}
 use denote.Struct.Declared.{row}
-use borrow.Author.Rules.{length_unmapped}
 use Rattle.rules.specs.Limits.{task_limit, object_limit, last_priority}
 use Rattle.memory.specs.Rows.{held_width, queue_width}
-use Rattle.rules.specs.contracts.Task.{the_type as task-type}
-use Rattle.rules.specs.contracts.Priority.{the_type as priority-type}
 use Rattle.dispatch.specs.declared.State.{State}
 use Rattle.dispatch.specs.contracts.State.{the_type}
 

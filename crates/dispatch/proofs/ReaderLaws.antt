@@ -12,12 +12,12 @@ use lib.ListN.{length, take, drop, get_or, length-take, length-drop, length-map,
 use lib.Seq.{get_or-take, get_or-drop}
 use Rattle.rules.specs.Limits.{task_limit, last_priority}
 use Rattle.rules.specs.Priorities.{in_range}
-use Rattle.rules.specs.Model.{TaskRecord, blank, task_at, queue, ceiling_of, highest_of}
+use Rattle.rules.specs.Model.{TaskRecord, blank, task_at, ceiling_of, highest_of}
 use Rattle.rules.specs.declared.Priority.{Priority}
 use Rattle.rules.specs.declared.Task.{Task}
 use Rattle.rules.proofs.Choices.{compare}
 use Rattle.rules.proofs.PriorityLaws.{in_bounds}
-use Rattle.memory.specs.Rows.{rows, in_row, lists, held_width, held_in, queue_width}
+use Rattle.memory.specs.Rows.{in_row, lists, held_width, held_in, queue_width}
 use Rattle.memory.specs.Tasks.{blank_task}
 use Rattle.memory.specs.Memory.{together}
 use Rattle.memory.proofs.GridLaws.{row_at, list_at_lem, list_count}

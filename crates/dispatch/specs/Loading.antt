@@ -3,7 +3,6 @@ use Rattle.std.specs.Prelude.{◌≡◌, List, ℕ, take}
 use Rattle.rules.specs.Limits.{task_limit}
 use Rattle.rules.specs.declared.Task.{Task}
 use Rattle.memory.specs.Tasks.{blank_task, tasks_in, Tasks}
-use Rattle.dispatch.specs.declared.State.{State}
 use Rattle.dispatch.specs.State.{padded}
 
 -- the first n of the records, and blank rows behind them

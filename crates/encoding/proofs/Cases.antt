@@ -3,7 +3,6 @@ use mathlib.Core.Path.{refl}
 use Rattle.rules.specs.Lists
 use Rattle.words.specs.Words
 use Rattle.format.specs.Answers as Verdicts
-use Rattle.format.specs.Format
 use Rattle.format.specs.Steps
 use Rattle.format.specs.Form
 use Rattle.encoding.specs.File

@@ -1,5 +1,5 @@
 -- Written rosters worked out: document 01's whole case from its parts, and what is refused, each with its answer.
-use Rattle.std.specs.Prelude.{◌≡◌, List, [], ◌∷◌, ◌++◌, map, ℕ, length, replicate}
+use Rattle.std.specs.Prelude.{◌≡◌, List, [], ◌∷◌, ◌++◌, map, ℕ, replicate}
 use Rattle.format.specs.Cases.{whole_case, step_bytes, enter, leave, delay, work, set_to, again}
 use Rattle.encoding.specs.File.{Parts, parts, file_of}
 use Rattle.encoding.specs.Answers.{number_of, task_of, position_of, write_answer_of, write_buffer_of, written_of}

@@ -19,8 +19,7 @@ use Rattle.rules.proofs.Kept.{pending_done}
 use Rattle.rules.proofs.Effects.{done-model}
 use Rattle.rules.proofs.Refusals.{answers, done-only-when, refused-same, by_answer}
 use Rattle.rules.proofs.StillLaws.{still_alike}
-use Rattle.safety.specs.History.{Event, release}
-use Rattle.isolation.proofs.View.{seen, View, view-is}
+use Rattle.isolation.proofs.View.{View, view-is}
 use Rattle.isolation.proofs.Layers.{Layer, Firm, layer-back}
 use Rattle.isolation.proofs.Dispatching.{dispatch-both}
 

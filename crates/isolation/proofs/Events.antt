@@ -23,7 +23,7 @@ use Rattle.isolation.proofs.Layers.{Layer}
 use Rattle.isolation.proofs.Waking.{clock-both}
 use Rattle.isolation.proofs.Effects.{release-both, both-effect}
 use Rattle.isolation.proofs.Answering.{clock-answers, release-answers, both_end, both-event}
-use Rattle.isolation.proofs.Courses.{Course, good, now-firm, layer-next, clock-model, clock-places, release-model, release-places}
+use Rattle.isolation.proofs.Courses.{Course, now-firm, layer-next, clock-model, clock-places, release-model, release-places}
 use Rattle.isolation.proofs.Courses.{release-unseen, ruled, took, step-model, step-places, step-unseen}
 
 -- two runs

@@ -28,7 +28,7 @@ use Rattle.safety.specs.History.{Event, clock, release, step, input_of, after_fr
 use Rattle.safety.proofs.Invariant.{step-done}
 use Rattle.safety.proofs.Theorem.{all-zero}
 use Rattle.isolation.specs.Sharing.{Above, Agree}
-use Rattle.isolation.specs.Isolated.{Same, Apart, Excepted, answer, Isolated}
+use Rattle.isolation.specs.Isolated.{Same, Apart, Excepted, Isolated}
 use Rattle.isolation.specs.Unseen.{Unseen, Turn, both, first, second, firsts, seconds, next, Unnoticed}
 use Rattle.isolation.proofs.View.{view-sym, view_then}
 use Rattle.isolation.proofs.Layers.{Layer, up-active, is-high, view-active}

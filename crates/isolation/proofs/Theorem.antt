@@ -1,7 +1,7 @@
 -- The theorem: what the tasks above p do is the same in the runs of two rosters that agree above p, unseen events aside.
 use mathlib.Core.Path.{◌≡◌, refl, ap, subst}
 use mathlib.Core.List.{List, [], ◌∷◌, map}
-use Prim.Native.Nat.{ℕ, ◌-◌}
+use Prim.Native.Nat.{ℕ}
 use Rattle.format.specs.Roster.{Roster, roster_of}
 use Rattle.format.specs.Check.{check_of}
 use Rattle.format.proofs.TestLaws.{passed_is}

@@ -4,12 +4,11 @@ use mathlib.Core.Bool.{Bool}
 use mathlib.Core.List.{List, [], ◌∷◌}
 use Prim.Native.Nat.{ℕ, zero, suc, ◌+◌, ◌-◌, ◌^◌, ◌≤◌, ◌<◌}
 use native.Mathlib.Nat.{not-suc-le-zero, le_of_suc-le-suc}
-use native.Mathlib.Numerals.{add-one}
 use native.Mathlib.Omega.{arith}
-use lib.ListN.{length, take, drop, get_or, set, length-set, length-take, get_or-replicate, get_or-eq_default}
+use lib.ListN.{length, get_or, set, length-set, length-take, get_or-replicate, get_or-eq_default}
 use lib.Seq.{take-set-lt, drop-set-lt, get_or-take, get_or-drop, get_or-set_same, get_or-set_other, set-get_or, set_out, length-take-le}
-use Rattle.rules.specs.Limits.{task_limit, object_limit}
-use Rattle.rules.specs.Model.{Model, TaskRecord, NextBase, blank, with_place, with_base, with_waiting, with_permit, with_held}
+use Rattle.rules.specs.Limits.{task_limit}
+use Rattle.rules.specs.Model.{Model, TaskRecord, blank, with_place, with_base, with_waiting, with_permit, with_held}
 use Rattle.rules.specs.Model.{with_now, with_running, task_at, with_task, with_queue}
 use Rattle.rules.specs.declared.Priority.{Priority}
 use Rattle.rules.specs.declared.Place.{Place}

@@ -8,7 +8,7 @@ use native.Mathlib.Omega.{arith}
 use borrow.Author.Tests.{eq-eqb, ne_eqb, lt-ltb}
 use lib.Dec.{eqb, ltb, leb-suc-suc}
 use lib.ListN.{length, take, drop, get_or, set, replicate, length-append, length-take, length-drop, length-replicate}
-use lib.ListN.{drop_of_length-le, get_or-append, take-append-drop}
+use lib.ListN.{drop_of_length-le, get_or-append}
 use lib.Seq.{set-append_seam, append_snoc, take-append_seam, drop-append_seam, take-append-le, drop-append-le, take_all, drop-drop}
 use lib.Seq.{drop-cons}
 use Rattle.rules.specs.Lists.{without, times_in}

@@ -1,19 +1,17 @@
 -- What the standing of a Model gives the moves: tasks that are there, priorities in range, room for the task on its way.
 use mathlib.Core.Path.{◌≡◌, refl, ap, ◌∙◌, sym, subst}
 use mathlib.Core.Bool.{Bool, true, false}
-use mathlib.Core.List.{List}
-use Prim.Native.Nat.{ℕ, zero, suc, ◌+◌, ◌-◌, ◌≤◌, ◌<◌}
+use Prim.Native.Nat.{ℕ, zero, suc, ◌+◌, ◌-◌, ◌<◌}
 use native.Mathlib.Omega.{arith}
 use borrow.Author.Tests.{ltb-false}
-use lib.Dec.{ltb}
 use lib.ListN.{length, length-set}
 use Rattle.rules.specs.Limits.{task_limit, object_limit}
 use Rattle.rules.specs.Priorities.{in_range}
-use Rattle.rules.specs.Model.{Model, TaskRecord, none, waits, blank, with_base, with_waiting, with_held, with_now}
+use Rattle.rules.specs.Model.{Model, TaskRecord, none, waits, blank, with_base, with_waiting, with_now}
 use Rattle.rules.specs.Model.{task_at, with_task, queue, with_queue, active}
 use Rattle.rules.specs.Moves.{head_of, stopped}
-use Rattle.rules.specs.Events.{holds, inside, give_up, Due, nobody, task, first_due, wake, wake_up}
-use Rattle.rules.specs.Sound.{is_ready, is_running, runs, waiting_good}
+use Rattle.rules.specs.Events.{holds, inside, give_up, nobody, task, first_due, wake_up}
+use Rattle.rules.specs.Sound.{is_ready, is_running, waiting_good}
 use Rattle.rules.specs.declared.Place.{Place}
 use Rattle.rules.specs.declared.Place.TheVariants.{Running, Ready, Delayed, Suspended, Ended}
 use Rattle.rules.specs.declared.Runner.TheVariants.{Task}
@@ -27,7 +25,7 @@ use Rattle.rules.proofs.Core.{Core, act-low, act-high, runner-in, core-out, core
 use Rattle.rules.proofs.Room.{queue-room, runner-room}
 use Rattle.rules.proofs.HeldLaws.{held-room}
 use Rattle.rules.proofs.WakingLaws.{Finds, finds, woke, delayed-off, core-now}
-use Rattle.rules.proofs.Pending.{Good, Pending, hold-none, t-runs, t-in, t-fair}
+use Rattle.rules.proofs.Pending.{Good, hold-none, t-runs, t-in, t-fair}
 use Rattle.memory.specs.Memory.{Rises}
 use Rattle.moves.specs.Room.{Joins, Arrives, Dispatches, settled, Settles, is_suspended, Releases, Wakes, Requeues, Rebases}
 

@@ -3,7 +3,7 @@ use Rattle.std.specs.Prelude.{◌≡◌, Bool, true, false, ℕ, ◌<◌, length
 use Rattle.rules.specs.Limits.{task_limit}
 use Rattle.rules.specs.Model.{Model, none, waits, with_base, with_waiting, task_at, with_task, queue, with_queue, active}
 use Rattle.rules.specs.Moves.{stopped, preempt, head_of}
-use Rattle.rules.specs.Events.{Due, inside, nobody, task, first_due, wake_up}
+use Rattle.rules.specs.Events.{inside, nobody, task, first_due, wake_up}
 use Rattle.rules.specs.declared.Place.{Place}
 use Rattle.rules.specs.declared.Place.TheVariants.{Running, Ready, Delayed, Suspended, Ended}
 use Rattle.rules.specs.declared.Runner.{Runner}

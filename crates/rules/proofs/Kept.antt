@@ -2,7 +2,7 @@
 use mathlib.Core.Path.{◌≡◌, refl, ap, ◌∙◌, sym, subst}
 use mathlib.Core.Bool.{Bool, true, false}
 use mathlib.Core.List.{List}
-use Prim.Native.Nat.{ℕ, ◌-◌, ◌≤◌, ◌<◌}
+use Prim.Native.Nat.{ℕ, ◌≤◌, ◌<◌}
 use native.Mathlib.Omega.{arith}
 use borrow.Author.Tests.{leb-true, leb-false, not-false}
 use lib.ListN.{length}
@@ -22,7 +22,7 @@ use Rattle.rules.specs.Lists.{all_of, times_in}
 use Rattle.rules.specs.Refusals.{table, applies_at, no_such_task, no_such_object, bad_priority, bad_clock, inside_action, above_ceiling}
 use Rattle.rules.specs.Histories.{delay_fits, OneHolder}
 use Rattle.rules.proofs.Choices.{split, compare}
-use Rattle.rules.proofs.TaskLaws.{running, out_of}
+use Rattle.rules.proofs.TaskLaws.{out_of}
 use Rattle.rules.proofs.Standing.{exclusive}
 use Rattle.rules.proofs.Core.{dispatched}
 use Rattle.rules.proofs.DispatchLaws.{unplaced, Alike, alike-dispatch}

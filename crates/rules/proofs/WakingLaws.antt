@@ -16,7 +16,7 @@ use Rattle.rules.specs.Sound.{is_ready, is_running}
 use Rattle.rules.specs.declared.Place.{Place}
 use Rattle.rules.specs.declared.Place.TheVariants.{Running, Ready, Delayed, Suspended, Ended}
 use Rattle.rules.proofs.Choices.{compare, both_ways}
-use Rattle.rules.proofs.TaskLaws.{entry, running, at-keeps}
+use Rattle.rules.proofs.TaskLaws.{entry, at-keeps}
 use Rattle.rules.proofs.Core.{Core, core-wake, core-ready}
 
 -- the place of a task once the tasks due at r are awake, and the task with it

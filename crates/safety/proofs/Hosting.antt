@@ -7,7 +7,6 @@ use lib.ListN.{length, replicate}
 use Rattle.rules.specs.Answers.{number_of}
 use Rattle.rules.specs.Events.{apply}
 use Rattle.rules.specs.Sound.{sound}
-use Rattle.rules.specs.declared.Event.{Event}
 use Rattle.rules.specs.declared.Event.TheVariants as event
 use Rattle.rules.specs.declared.Runner.{Runner}
 use Rattle.rules.specs.declared.Runner.TheVariants.{Nobody, Task}

@@ -13,7 +13,6 @@ use Rattle.rules.specs.declared.Answer.TheVariants.{Done}
 use Rattle.memory.specs.Rulings.{Ruling}
 use Rattle.memory.specs.Rulings as Ruling
 use Rattle.rules.specs.declared.Event.{Event}
-use Rattle.rules.specs.declared.Event.TheVariants as Event
 use Rattle.rules.specs.declared.Priority.{Priority}
 use Rattle.rules.specs.declared.Checked.{Checked}
 use Rattle.rules.specs.declared.Checked.TheVariants.{Good, OutOfRange}

@@ -15,14 +15,13 @@ use Rattle.rules.specs.Moved.{Moved}
 use Rattle.rules.specs.declared.Answer.{Answer}
 use Rattle.memory.specs.Rulings.{Ruling}
 use Rattle.memory.specs.Rulings as Ruling
-use Rattle.rules.specs.declared.Runner.{Runner}
-use Rattle.rules.specs.declared.Runner.TheVariants.{Nobody, Task}
+use Rattle.rules.specs.declared.Runner.TheVariants.{Task}
 use Rattle.rules.proofs.SoundLaws.{sound-is}
 use Rattle.rules.proofs.Unchanged.{count_kept}
 use Rattle.rules.specs.Limits.{smallest_roster, largest_roster}
 use Rattle.format.specs.Format.{task_count, start_at, length_at, part_at}
 use Rattle.format.specs.Steps.{step_count, steps_of, step_in}
-use Rattle.format.specs.Roster.{roster_of, script_of}
+use Rattle.format.specs.Roster.{roster_of}
 use Rattle.format.specs.Form.{length_good, form_of}
 use Rattle.format.specs.declared.Step.{Step}
 use Rattle.format.specs.declared.Step.TheVariants.{Enter, Leave, Delay, Work, Suspend, Release, Set, Again, Finish}

@@ -1,6 +1,6 @@
 -- `board::fill` meets its contract.
-use mathlib.Core.Path.{◌≡◌, ap, sym, ◌∙◌}
-use Prim.Native.Nat.{ℕ, ◌<◌}
+use mathlib.Core.Path.{◌≡◌, ap, ◌∙◌}
+use Prim.Native.Nat.{ℕ}
 use native.Mathlib.Omega.{arith}
 use lib.ListN.{length}
 use Rattle.rules.proofs.SoundLaws.{sound-is}
@@ -42,5 +42,5 @@ returns c =
     let all : c.loop-i.i ≡ rows_written s (fill_answer_of s (length ys)) = omega (arith, e) in
     let told = fill_answer_of s (length ys) in
     let board : c.loop-i.board ≡ board_after s told ys =
-        c.loop-i.invariant.1 ∙ (ap (λ (k : ℕ). filled_to (row_of (view s)) k ys) all ∙ board-is s ys) in
+    c.loop-i.invariant.1 ∙ (ap (λ (k : ℕ). filled_to (row_of (view s)) k ys) all ∙ board-is s ys) in
     rw c.fill_answer-answer.ensures (ap (filling_of told) board)

@@ -1,9 +1,6 @@
 -- `loading::sizes_fit` meets its contract.
-use mathlib.Core.Path.{◌≡◌, ◌∙◌, sym}
-use mathlib.Core.Bool.{true}
+use mathlib.Core.Path.{◌∙◌, sym}
 use native.Mathlib.Omega.{arith}
-use borrow.Author.Tests.{not-false}
-use Rattle.rules.specs.Limits.{counts_good}
 use Rattle.rules.proofs.LimitLaws.{counted-by}
 use Rattle.loading.proofs.TestLaws.{fits-counts, fits-held, fits-queues}
 use Rattle.loading.proofs.sizes_fit.Goals as goal

@@ -45,28 +45,28 @@ pub offset_bounds-counts-t : goal.offset_bounds-counts-t
 offset_bounds-counts-t c =
     let d = c.requires.laid_out in
     let listed : get_or c.args.queues.now ((c.args.p.0 - 1) * queue_width + (c.loop-i.i + 1)) 0 < task_limit =
-        omega (arith, d.count, active-in d _ _ (omega arith) (sym c.active_of-a.ensures ∙ c.if-a-p.false)) in
+    omega (arith, d.count, active-in d _ _ (omega arith) (sym c.active_of-a.ensures ∙ c.if-a-p.false)) in
     omega (arith, listed)
 
 pub bounds-counts-t : goal.bounds-counts-t
 bounds-counts-t c =
     let d = c.requires.laid_out in
     let listed : get_or c.args.queues.now ((c.args.p.0 - 1) * queue_width + (c.loop-i.i + 1)) 0 < task_limit =
-        omega (arith, d.count, active-in d _ _ (omega arith) (sym c.active_of-a.ensures ∙ c.if-a-p.false)) in
+    omega (arith, d.count, active-in d _ _ (omega arith) (sym c.active_of-a.ensures ∙ c.if-a-p.false)) in
     omega (arith, listed, c.loop-i.invariant.4.size)
 
 pub overflow_add-counts : goal.overflow_add-counts
 overflow_add-counts c =
     let d = c.requires.laid_out in
     let listed : get_or c.args.queues.now ((c.args.p.0 - 1) * queue_width + (c.loop-i.i + 1)) 0 < task_limit =
-        omega (arith, d.count, active-in d _ _ (omega arith) (sym c.active_of-a.ensures ∙ c.if-a-p.false)) in
+    omega (arith, d.count, active-in d _ _ (omega arith) (sym c.active_of-a.ensures ∙ c.if-a-p.false)) in
     omega (arith, counted-few _ listed c.requires.laid_out.queues c.loop-i.invariant.4)
 
 pub bounds-counts-t-in-loop-i : goal.bounds-counts-t-in-loop-i
 bounds-counts-t-in-loop-i c =
     let d = c.requires.laid_out in
     let listed : get_or c.args.queues.now ((c.args.p.0 - 1) * queue_width + (c.loop-i.i + 1)) 0 < task_limit =
-        omega (arith, d.count, active-in d _ _ (omega arith) (sym c.active_of-a.ensures ∙ c.if-a-p.false)) in
+    omega (arith, d.count, active-in d _ _ (omega arith) (sym c.active_of-a.ensures ∙ c.if-a-p.false)) in
     omega (arith, listed, c.loop-i.invariant.4.size)
 
 pub loop-i-preserved : goal.loop-i-preserved
@@ -74,7 +74,7 @@ loop-i-preserved c =
     let l = c.loop-i in
     let d = c.requires.laid_out in
     let listed : get_or c.args.queues.now ((c.args.p.0 - 1) * queue_width + (c.loop-i.i + 1)) 0 < task_limit =
-        omega (arith, d.count, active-in d _ _ (omega arith) (sym c.active_of-a.ensures ∙ c.if-a-p.false)) in
+    omega (arith, d.count, active-in d _ _ (omega arith) (sym c.active_of-a.ensures ∙ c.if-a-p.false)) in
     let item = queue-item c.requires.has_queue d.queues l.i (omega arith) in
     let own = rw item at c.active_of-a.ensures in
     let same = eq-eqb _ _ (sym own ∙ c.if-a-p.false) in

@@ -1,6 +1,5 @@
 -- `step_form::steps_form` meets its contract.
 use native.Mathlib.Omega.{arith}
-use borrow.Author.Tests.{not-false}
 use mathlib.Core.Path.{refl, ap, sym, ◌∙◌}
 use mathlib.Core.Bool.{true}
 use Prim.Native.Nat.{suc, ◌≤◌, ◌<◌}
@@ -60,19 +59,19 @@ loop-k-preserved c =
     let here = sym (steps-at part k (omega arith)) in (
       omega arith,
       elim c.if-not-within.branch [
-        then-not-within+else-not-good_step_at w ↦
-          turn _ _ before (good _ _ _ _ _ refl refl refl refl w.good_step_at.ensures w.if-not-good_step_at.false) refl refl
-      | else-not-within w ↦
-          let g = sym (plain w.if-not-within.false).good in
-          turn _ _ before (good _ _ _ _ true refl refl refl refl g refl) refl refl
+        | then-not-within+else-not-good_step_at w ↦
+            turn _ _ before (good _ _ _ _ _ refl refl refl refl w.good_step_at.ensures w.if-not-good_step_at.false) refl refl
+        | else-not-within w ↦
+            let g = sym (plain w.if-not-within.false).good in
+            turn _ _ before (good _ _ _ _ true refl refl refl refl g refl) refl refl
       ],
       elim c.if-not-within.branch [
-        then-not-within+else-not-good_step_at w ↦
-          top-on _ _ steps _ _ _ _ _ low c.loop-k.invariant.2 here w.own_set-value.ensures
-          (ap (λ (p : Priority). p.0) w.top-is ∙ w.higher-top.ensures)
-      | else-not-within w ↦
-          top-stays _ _ steps _ _ _ _ low c.loop-k.invariant.2 here ((plain w.if-not-within.false).unset a.t)
-          (ap (λ (p : Priority). p.0) w.top-is)
+        | then-not-within+else-not-good_step_at w ↦
+            top-on _ _ steps _ _ _ _ _ low c.loop-k.invariant.2 here w.own_set-value.ensures
+            (ap (λ (p : Priority). p.0) w.top-is ∙ w.higher-top.ensures)
+        | else-not-within w ↦
+            top-stays _ _ steps _ _ _ _ low c.loop-k.invariant.2 here ((plain w.if-not-within.false).unset a.t)
+            (ap (λ (p : Priority). p.0) w.top-is)
       ],
     )
 

@@ -1,6 +1,5 @@
 -- `cells::ranges::rows_in_range` meets its contract.
 use mathlib.Core.Path.{refl}
-use mathlib.Core.Bool.{true}
 use native.Mathlib.Omega.{arith}
 use Rattle.rules.specs.Lists.{below}
 use Rattle.cells.proofs.RangeLaws.{rows-many, rows-fail, rows_all, rows_more}

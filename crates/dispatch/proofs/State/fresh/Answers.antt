@@ -16,45 +16,45 @@ returns-then-not-counts_good c =
 pub returns-then-not-all_in_range : goal.returns-then-not-all_in_range
 returns-then-not-all_in_range c =
     let given : Setup =
-        let a = c.args in
+    let a = c.args in
     record { bases = a.bases.now; ceilings = a.ceilings.now } in
     let counted : setup_counted given ≡ true =
-        sym c.counts_good.ensures ∙ c.if-not-counts_good.false in
+    sym c.counts_good.ensures ∙ c.if-not-counts_good.false in
     let bad = sym c.all_in_range.ensures ∙ c.if-not-all_in_range.true in
     c.refused-then-not-all_in_range.ensures ∙ bases-15 given counted bad
 
 pub returns-then-not-all_in_range-2 : goal.returns-then-not-all_in_range-2
 returns-then-not-all_in_range-2 c =
     let given : Setup =
-        let a = c.args in
+    let a = c.args in
     record { bases = a.bases.now; ceilings = a.ceilings.now } in
     let counted : setup_counted given ≡ true =
-        sym c.counts_good.ensures ∙ c.if-not-counts_good.false in
+    sym c.counts_good.ensures ∙ c.if-not-counts_good.false in
     let bad = sym c.all_in_range-2.ensures ∙ c.if-not-all_in_range-2.true in
     c.refused-then-not-all_in_range-2.ensures ∙ ceilings-15 given counted bad
 
 pub started-state-requires : goal.started-state-requires
 started-state-requires c =
     let given : Setup =
-        let a = c.args in
+    let a = c.args in
     record { bases = a.bases.now; ceilings = a.ceilings.now } in
     let counted : setup_counted given ≡ true =
-        sym c.counts_good.ensures ∙ c.if-not-counts_good.false in
+    sym c.counts_good.ensures ∙ c.if-not-counts_good.false in
     let bases_good : all_of in_range given.bases ≡ true =
-        sym c.all_in_range.ensures ∙ c.if-not-all_in_range.false in
+    sym c.all_in_range.ensures ∙ c.if-not-all_in_range.false in
     let ceilings_good : all_of in_range given.ceilings ≡ true =
-        sym c.all_in_range-2.ensures ∙ c.if-not-all_in_range-2.false in
+    sym c.all_in_range-2.ensures ∙ c.if-not-all_in_range-2.false in
     startable given counted bases_good ceilings_good
 
 pub returns : goal.returns
 returns c =
     let given : Setup =
-        let a = c.args in
+    let a = c.args in
     record { bases = a.bases.now; ceilings = a.ceilings.now } in
     let counted : setup_counted given ≡ true =
-        sym c.counts_good.ensures ∙ c.if-not-counts_good.false in
+    sym c.counts_good.ensures ∙ c.if-not-counts_good.false in
     let bases_good : all_of in_range given.bases ≡ true =
-        sym c.all_in_range.ensures ∙ c.if-not-all_in_range.false in
+    sym c.all_in_range.ensures ∙ c.if-not-all_in_range.false in
     let ceilings_good : all_of in_range given.ceilings ≡ true =
-        sym c.all_in_range-2.ensures ∙ c.if-not-all_in_range-2.false in
+    sym c.all_in_range-2.ensures ∙ c.if-not-all_in_range-2.false in
     rw c.started-state.ensures (done-0 given counted bases_good ceilings_good)

@@ -1,6 +1,5 @@
 -- `dispatch::State::held_length` meets its contract.
 use mathlib.Core.Path.{◌∙◌, ap}
-use mathlib.Core.List.{[]}
 use lib.ListN.{length}
 use native.Mathlib.Omega.{arith}
 use Rattle.dispatch.proofs.Known.{known}

@@ -1,6 +1,5 @@
 -- `dispatch::State::queue_length` meets its contract.
 use mathlib.Core.Path.{◌∙◌, sym, ap}
-use mathlib.Core.List.{[]}
 use lib.ListN.{length}
 use native.Mathlib.Omega.{arith}
 use Rattle.rules.proofs.PriorityLaws.{in_bounds}

@@ -19,7 +19,7 @@ pub slice_bounds-scripts_fault-end : goal.slice_bounds-scripts_fault-end
 slice_bounds-scripts_fault-end c =
     let read = c.read_ceilings in
     let are_ceilings : take c.object_count-n.result read.new.ceilings ≡ (roster_of c.args.roster.now).ceilings =
-        ap (λ (n : ℕ). take n read.new.ceilings) c.object_count-n.ensures ∙ read.ensures in
+    ap (λ (n : ℕ). take n read.new.ceilings) c.object_count-n.ensures ∙ read.ensures in
     let s = c.args.roster.now in
     c.object_count-n.ensures ∙ (sym (ceiling-count s) ∙ sym (ap length are_ceilings))
 
@@ -27,7 +27,7 @@ pub scripts_fault-requires : goal.scripts_fault-requires
 scripts_fault-requires c =
     let read = c.read_ceilings in
     let are_ceilings : take c.object_count-n.result read.new.ceilings ≡ (roster_of c.args.roster.now).ceilings =
-        ap (λ (n : ℕ). take n read.new.ceilings) c.object_count-n.ensures ∙ read.ensures in
+    ap (λ (n : ℕ). take n read.new.ceilings) c.object_count-n.ensures ∙ read.ensures in
     record {
       roster_value = c.requires.roster_value;
       ceilings_value = are_ceilings;

@@ -37,12 +37,11 @@ returns-then-not-passed c =
     c.loop-t.invariant.1 c.script_fault-v.ensures c.passed.ensures (c.if-not-passed.true)
 
 pub loop-t-preserved : goal.loop-t-preserved
-loop-t-preserved c =
-     (
-      omega arith,
-      turn-passes (script_fault (roster_of c.args.roster.now)) _ _ _ c.loop-t.invariant.1 c.script_fault-v.ensures
-          c.passed.ensures (c.if-not-passed.false),
-    )
+loop-t-preserved c = (
+  omega arith,
+  turn-passes (script_fault (roster_of c.args.roster.now)) _ _ _ c.loop-t.invariant.1 c.script_fault-v.ensures
+      c.passed.ensures (c.if-not-passed.false),
+)
 
 pub returns : goal.returns
 unfolding roster_fault

@@ -1,6 +1,5 @@
 -- `roster::checks::steps_fault` meets its contract.
 use native.Mathlib.Omega.{arith}
-use borrow.Author.Tests.{not-false}
 use mathlib.Core.Path.{◌≡◌, refl, sym}
 use Prim.Native.Nat.{suc, ◌<◌}
 use lib.ListN.{length}
@@ -83,16 +82,16 @@ loop-k-preserved c =
     let passes = work-passes part k (omega arith) in (
       omega arith,
       elim c.if-part-k-ne-WORK.branch [
-        then-part-k-ne-WORK+else-not-passed w ↦
-          stacked-as _ _ _ _ _ w.held-is w.depth-is
-          (held_after_lem steps _ _ _ _ _ own.same w.step_at-x.ensures w.after-depth.ensures)
-      | else-part-k-ne-WORK w ↦ stacked-as _ _ _ _ _ w.held-is w.depth-is (keeps w.if-part-k-ne-WORK.false _ _ own)
+        | then-part-k-ne-WORK+else-not-passed w ↦
+            stacked-as _ _ _ _ _ w.held-is w.depth-is
+            (held_after_lem steps _ _ _ _ _ own.same w.step_at-x.ensures w.after-depth.ensures)
+        | else-part-k-ne-WORK w ↦ stacked-as _ _ _ _ _ w.held-is w.depth-is (keeps w.if-part-k-ne-WORK.false _ _ own)
       ],
       elim c.if-part-k-ne-WORK.branch [
-        then-part-k-ne-WORK+else-not-passed w ↦
-          let v = fault-here cs a.top.0 a.t steps _ _ _ _ own.same w.step_at-x.ensures w.step_fault-v.ensures in
-          turn _ _ before v w.passed.ensures w.if-not-passed.false
-      | else-part-k-ne-WORK w ↦ turn _ _ before (passes w.if-part-k-ne-WORK.false cs a.top.0 a.t) refl refl
+        | then-part-k-ne-WORK+else-not-passed w ↦
+            let v = fault-here cs a.top.0 a.t steps _ _ _ _ own.same w.step_at-x.ensures w.step_fault-v.ensures in
+            turn _ _ before v w.passed.ensures w.if-not-passed.false
+        | else-part-k-ne-WORK w ↦ turn _ _ before (passes w.if-part-k-ne-WORK.false cs a.top.0 a.t) refl refl
       ],
     )
 

@@ -1,12 +1,11 @@
 -- `roster::forms::form_and_tops` meets its contract.
 use native.Mathlib.Omega.{arith}
-use borrow.Author.Tests.{not-false}
 use mathlib.Core.Path.{◌≡◌, refl, sym, ◌∙◌}
 use mathlib.Core.Bool.{true}
 use Prim.Native.Nat.{◌≤◌}
 use Rattle.rules.specs.Limits.{task_limit}
 use Rattle.format.specs.Format.{task_count}
-use Rattle.format.specs.Form.{length_good, mark_good, counts_kept, layout_good, values_good}
+use Rattle.format.specs.Form.{values_good}
 use Rattle.format.specs.declared.Verdict.TheVariants.{BadLength, BadMark, BadCounts, BadLayout, BadValues}
 use Rattle.format.proofs.FormLaws.{form-1, form-2, form-3, form-4, form-5, form-6}
 use Rattle.step_form.proofs.OwnLaws.{unpassed}

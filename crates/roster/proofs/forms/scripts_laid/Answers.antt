@@ -1,7 +1,6 @@
 -- `roster::forms::scripts_laid` meets its contract.
 use native.Mathlib.Omega.{arith}
 use mathlib.Core.Path.{refl}
-use mathlib.Core.Bool.{true}
 use Rattle.rules.specs.Lists.{below}
 use Rattle.format.specs.Form.{scripts_end, script_laid}
 use Rattle.format.proofs.TestLaws.{turn-fails, turn_on}

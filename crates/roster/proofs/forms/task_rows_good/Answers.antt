@@ -1,7 +1,6 @@
 -- `roster::forms::task_rows_good` meets its contract.
 use native.Mathlib.Omega.{arith}
 use mathlib.Core.Path.{refl}
-use mathlib.Core.Bool.{true}
 use Rattle.rules.specs.Lists.{below}
 use Rattle.format.specs.Form.{task_row_good}
 use Rattle.format.proofs.TestLaws.{turn-fails, turn_on, turns-end}

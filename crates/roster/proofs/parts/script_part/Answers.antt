@@ -12,9 +12,9 @@ unfolding start_at length_at
 slice_bounds-result-end c =
     let s = c.args.s.now in
     let start_is : c.word_in-start.result ≡ start_at s c.args.t =
-        c.word_in-start.ensures ∙ ap (λ (row : ℕ). word_at s (row + 2)) c.task_row-row.ensures in
+    c.word_in-start.ensures ∙ ap (λ (row : ℕ). word_at s (row + 2)) c.task_row-row.ensures in
     let size_is : c.word_in-size.result ≡ length_at s c.args.t =
-        c.word_in-size.ensures ∙ ap (λ (row : ℕ). word_at s (row + 4)) c.task_row-row.ensures in
+    c.word_in-size.ensures ∙ ap (λ (row : ℕ). word_at s (row + 4)) c.task_row-row.ensures in
     omega (arith, c.requires.t_in_bounds, start_is, size_is)
 
 pub returns : goal.returns
@@ -22,7 +22,7 @@ unfolding start_at length_at
 returns c =
     let s = c.args.s.now in
     let start_is : c.word_in-start.result ≡ start_at s c.args.t =
-        c.word_in-start.ensures ∙ ap (λ (row : ℕ). word_at s (row + 2)) c.task_row-row.ensures in
+    c.word_in-start.ensures ∙ ap (λ (row : ℕ). word_at s (row + 2)) c.task_row-row.ensures in
     let size_is : c.word_in-size.result ≡ length_at s c.args.t =
-        c.word_in-size.ensures ∙ ap (λ (row : ℕ). word_at s (row + 4)) c.task_row-row.ensures in
+    c.word_in-size.ensures ∙ ap (λ (row : ℕ). word_at s (row + 4)) c.task_row-row.ensures in
     part-between s c.args.t c.word_in-start.result c.word_in-size.result start_is size_is

@@ -2,7 +2,6 @@
 use mathlib.Core.Path.{refl}
 use native.Mathlib.Omega.{arith}
 use lib.ListN.{length-set}
-use Rattle.format.specs.Format.{start_at, length_at}
 use Rattle.turns.proofs.ScriptLaws.{table_more, table-all}
 use Rattle.turns.proofs.scripts.read_scripts.Goals as goal
 

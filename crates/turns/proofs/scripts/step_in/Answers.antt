@@ -9,10 +9,10 @@ use Rattle.turns.proofs.ScriptLaws.{table-read}
 use Rattle.turns.proofs.scripts.step_in.Goals as goal
 
 pub bounds-starts-t : goal.bounds-starts-t
-bounds-starts-t c =  omega (arith, c.requires.scripts_read.room.0)
+bounds-starts-t c = omega (arith, c.requires.scripts_read.room.0)
 
 pub bounds-lengths-t : goal.bounds-lengths-t
-bounds-lengths-t c =  omega (arith, c.requires.scripts_read.room.1)
+bounds-lengths-t c = omega (arith, c.requires.scripts_read.room.1)
 
 pub overflow_add-end : goal.overflow_add-end
 overflow_add-end c =

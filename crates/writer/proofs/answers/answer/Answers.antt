@@ -17,10 +17,10 @@ returns-then-not-passed c =
 pub size-n-requires : goal.size-n-requires
 size-n-requires c =
     let given : Parts =
-        let a = c.args in
+    let a = c.args in
     parts a.bases.now a.ceilings.now a.lengths.now a.steps.now in
     let passes : file_form given ≡ Passed =
-        passed-file given _ _ c.file_form-v.ensures c.passed.ensures (c.if-not-passed.false) in
+    passed-file given _ _ c.file_form-v.ensures c.passed.ensures (c.if-not-passed.false) in
     let p = given in
     let k = sizes p passes in
     record {
@@ -32,19 +32,19 @@ size-n-requires c =
 pub returns-then-room-n : goal.returns-then-room-n
 returns-then-room-n c =
     let given : Parts =
-        let a = c.args in
+    let a = c.args in
     parts a.bases.now a.ceilings.now a.lengths.now a.steps.now in
     let passes : file_form given ≡ Passed =
-        passed-file given _ _ c.file_form-v.ensures c.passed.ensures (c.if-not-passed.false) in
+    passed-file given _ _ c.file_form-v.ensures c.passed.ensures (c.if-not-passed.false) in
     let p = given in
     answer-short p c.args.room passes (omega (arith, file-length p))
 
 pub returns : goal.returns
 returns c =
     let given : Parts =
-        let a = c.args in
+    let a = c.args in
     parts a.bases.now a.ceilings.now a.lengths.now a.steps.now in
     let passes : file_form given ≡ Passed =
-        passed-file given _ _ c.file_form-v.ensures c.passed.ensures (c.if-not-passed.false) in
+    passed-file given _ _ c.file_form-v.ensures c.passed.ensures (c.if-not-passed.false) in
     let p = given in
     answer-done p c.args.room passes (omega (arith, file-length p))

@@ -18,21 +18,21 @@ returns-then-not-passed c =
 pub returns-then-steps-gt-LARGEST : goal.returns-then-steps-gt-LARGEST
 returns-then-steps-gt-LARGEST c =
     let given : Parts =
-        let a = c.args in
+    let a = c.args in
     parts a.bases.now a.ceilings.now a.lengths.now a.steps.now in
     let passes : parts_form given ≡ Passed =
-        passed-parts given _ _ c.parts_form-v.ensures c.passed.ensures (c.if-not-passed.false) in
+    passed-parts given _ _ c.parts_form-v.ensures c.passed.ensures (c.if-not-passed.false) in
     let p = given in file-long p passes (omega (arith, file-length p))
 
 pub size-n-requires : goal.size-n-requires
 size-n-requires c =
     let given : Parts =
-        let a = c.args in
+    let a = c.args in
     parts a.bases.now a.ceilings.now a.lengths.now a.steps.now in
     let passes : parts_form given ≡ Passed =
-        passed-parts given _ _ c.parts_form-v.ensures c.passed.ensures (c.if-not-passed.false) in
+    passed-parts given _ _ c.parts_form-v.ensures c.passed.ensures (c.if-not-passed.false) in
     let counts : Counted (tasks_of given) (objects_of given) =
-        counted-by _ _ (kept given passes).counts in
+    counted-by _ _ (kept given passes).counts in
     let k = counts in
     record {
       tasks_le_task_limit = k.tasks;
@@ -43,19 +43,19 @@ size-n-requires c =
 pub returns-then-n-gt-LARGEST : goal.returns-then-n-gt-LARGEST
 returns-then-n-gt-LARGEST c =
     let given : Parts =
-        let a = c.args in
+    let a = c.args in
     parts a.bases.now a.ceilings.now a.lengths.now a.steps.now in
     let passes : parts_form given ≡ Passed =
-        passed-parts given _ _ c.parts_form-v.ensures c.passed.ensures (c.if-not-passed.false) in
+    passed-parts given _ _ c.parts_form-v.ensures c.passed.ensures (c.if-not-passed.false) in
     let p = given in
     file-long p passes (omega (arith, file-length p))
 
 pub returns : goal.returns
 returns c =
     let given : Parts =
-        let a = c.args in
+    let a = c.args in
     parts a.bases.now a.ceilings.now a.lengths.now a.steps.now in
     let passes : parts_form given ≡ Passed =
-        passed-parts given _ _ c.parts_form-v.ensures c.passed.ensures (c.if-not-passed.false) in
+    passed-parts given _ _ c.parts_form-v.ensures c.passed.ensures (c.if-not-passed.false) in
     let p = given in
     file-passes p passes (omega (arith, file-length p))

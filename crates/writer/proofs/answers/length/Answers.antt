@@ -18,10 +18,10 @@ returns-then-not-wrote c =
 pub size-requires : goal.size-requires
 size-requires c =
     let given : Parts =
-        let a = c.args in
+    let a = c.args in
     parts a.bases.now a.ceilings.now a.lengths.now a.steps.now in
     let goes : write_answer_of given c.args.room ≡ Done =
-        done-answer given _ _ _ c.answer-a.ensures c.wrote.ensures (c.if-not-wrote.false) in
+    done-answer given _ _ _ c.answer-a.ensures c.wrote.ensures (c.if-not-wrote.false) in
     let p = given in
     let k = sizes p (done-file p c.args.room goes) in
     record {
@@ -33,10 +33,10 @@ size-requires c =
 pub returns : goal.returns
 returns c =
     let given : Parts =
-        let a = c.args in
+    let a = c.args in
     parts a.bases.now a.ceilings.now a.lengths.now a.steps.now in
     let goes : write_answer_of given c.args.room ≡ Done =
-        done-answer given _ _ _ c.answer-a.ensures c.wrote.ensures (c.if-not-wrote.false) in
+    done-answer given _ _ _ c.answer-a.ensures c.wrote.ensures (c.if-not-wrote.false) in
     let p = given in
     let whole = part-whole p c.args.room (file_of p) goes refl in
     c.size.ensures ∙ (sym (file-length p) ∙ ap length whole)

@@ -22,23 +22,23 @@ returns-then-not-wrote c =
 pub write_file-requires : goal.write_file-requires
 write_file-requires c =
     let given : Parts =
-        let a = c.args in
+    let a = c.args in
     parts a.bases.now a.ceilings.now a.lengths.now a.steps.now in
     let lent : List ℕ =
-        c.args.out.now in
+    c.args.out.now in
     let goes : write_answer_of given (length lent) ≡ Done =
-        done-answer given _ _ _ c.answer-a.ensures c.wrote.ensures (c.if-not-wrote.false) in
+    done-answer given _ _ _ c.answer-a.ensures c.wrote.ensures (c.if-not-wrote.false) in
     goes
 
 pub returns : goal.returns
 returns c =
     let given : Parts =
-        let a = c.args in
+    let a = c.args in
     parts a.bases.now a.ceilings.now a.lengths.now a.steps.now in
     let lent : List ℕ =
-        c.args.out.now in
+    c.args.out.now in
     let goes : write_answer_of given (length lent) ≡ Done =
-        done-answer given _ _ _ c.answer-a.ensures c.wrote.ensures (c.if-not-wrote.false) in
+    done-answer given _ _ _ c.answer-a.ensures c.wrote.ensures (c.if-not-wrote.false) in
     record {
       value = c.answer-a.ensures;
       out_after = buffer-written given _ _ goes c.write_file.ensures;

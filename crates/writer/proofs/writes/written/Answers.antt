@@ -22,12 +22,12 @@ returns-then-not-wrote c =
 pub size-n-requires : goal.size-n-requires
 size-n-requires c =
     let given : Parts =
-        let a = c.args in
+    let a = c.args in
     parts a.bases.now a.ceilings.now a.lengths.now a.steps.now in
     let lent : List ℕ =
-        c.args.out.now in
+    c.args.out.now in
     let goes : write_answer_of given (length lent) ≡ Done =
-        done-answer given _ _ _ c.answer-a.ensures c.wrote.ensures (c.if-not-wrote.false) in
+    done-answer given _ _ _ c.answer-a.ensures c.wrote.ensures (c.if-not-wrote.false) in
     let p = given in
     let k = known p lent goes in
     record {
@@ -39,21 +39,21 @@ size-n-requires c =
 pub write_file-requires : goal.write_file-requires
 write_file-requires c =
     let given : Parts =
-        let a = c.args in
+    let a = c.args in
     parts a.bases.now a.ceilings.now a.lengths.now a.steps.now in
     let lent : List ℕ =
-        c.args.out.now in
+    c.args.out.now in
     let goes : write_answer_of given (length lent) ≡ Done =
-        done-answer given _ _ _ c.answer-a.ensures c.wrote.ensures (c.if-not-wrote.false) in
+    done-answer given _ _ _ c.answer-a.ensures c.wrote.ensures (c.if-not-wrote.false) in
     goes
 
 pub slice_bounds-result-end-2 : goal.slice_bounds-result-end-2
 slice_bounds-result-end-2 c =
     let given : Parts =
-        let a = c.args in
+    let a = c.args in
     parts a.bases.now a.ceilings.now a.lengths.now a.steps.now in
     let lent : List ℕ =
-        c.args.out.now in
+    c.args.out.now in
     let p = given in
     let out = lent in
     let n = c.size-n.ensures ∙ sym (file-length p) in
@@ -62,12 +62,12 @@ slice_bounds-result-end-2 c =
 pub returns : goal.returns
 returns c =
     let given : Parts =
-        let a = c.args in
+    let a = c.args in
     parts a.bases.now a.ceilings.now a.lengths.now a.steps.now in
     let lent : List ℕ =
-        c.args.out.now in
+    c.args.out.now in
     let goes : write_answer_of given (length lent) ≡ Done =
-        done-answer given _ _ _ c.answer-a.ensures c.wrote.ensures (c.if-not-wrote.false) in
+    done-answer given _ _ _ c.answer-a.ensures c.wrote.ensures (c.if-not-wrote.false) in
     let p = given in
     let n = c.size-n.ensures ∙ sym (file-length p) in
     let out = lent in
