@@ -9,7 +9,7 @@ ghost use Rattle.board_bytes.specs.Boards.{row_size, kind_from, kind_number, row
 ghost use Rattle.board_bytes.specs.Boards.{lent_of, row_byte, next_number};
 
 use board::{NextAnswer, PlaceKind, ROW_LIMIT, Row};
-use cells::ranges::readable;
+use cells::row_ranges::readable;
 use cells::sizes::{DELAYED, ENDED, NOBODY, READY, RUNNING, SUSPENDED};
 use rules::{Answer, Priority};
 use state_bytes::read;

@@ -4,6 +4,6 @@
 
 pub mod decode;
 pub mod encode;
-pub mod ranges;
+pub mod row_ranges;
 pub mod sizes;
 pub mod slices;

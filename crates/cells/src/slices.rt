@@ -16,7 +16,7 @@ ghost use Rattle.cells.specs.Encode.{runner_code, task_bytes, with_state};
 
 use crate::decode::{runner_from, task_in};
 use crate::encode::{put_head, put_task};
-use crate::ranges::readable;
+use crate::row_ranges::readable;
 use crate::sizes::{
     CEILINGS_START, HELD_START, NOBODY, OBJECT_COUNT_AT, QUEUES_START, RUNNING_AT, STATE_SIZE,
     TASK_COUNT_AT, TASK_SIZE, TASKS_START,

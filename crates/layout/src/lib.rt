@@ -2,10 +2,10 @@
 // cells has, and moved there by a fresh start and by events; and a board as bytes.
 #![tactic(auto)]
 
-mod events;
+mod byte_events;
 mod sizes;
 
 pub use board_bytes::{fill, next};
-pub use events::{apply, fresh, running, sound};
+pub use byte_events::{apply, fresh, running, sound};
 pub use sizes::STATE_SIZE;
 pub use state_bytes::{read, write};

@@ -1,8 +1,8 @@
--- `layout::events::listed_code` meets its contract.
+-- `layout::byte_events::listed_code` meets its contract.
 use mathlib.Core.Path.{ap, sym}
 use Rattle.layout.specs.Events.{listed_code}
 use Rattle.layout.proofs.EventLaws.{listed-task, listed-none}
-use Rattle.layout.proofs.events.listed_code.Goals as goal
+use Rattle.layout.proofs.byte_events.listed_code.Goals as goal
 
 pub returns-in-Nobody : goal.returns-in-Nobody
 unfolding listed_code

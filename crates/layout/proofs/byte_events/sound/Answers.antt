@@ -1,7 +1,7 @@
--- `layout::events::sound` meets its contract.
+-- `layout::byte_events::sound` meets its contract.
 use mathlib.Core.Path.{refl, sym, ◌∙◌}
 use Rattle.layout.proofs.EventLaws.{unloadable, untested, loaded-readable, loaded-tested, sound-no, sound-yes}
-use Rattle.layout.proofs.events.sound.Goals as goal
+use Rattle.layout.proofs.byte_events.sound.Goals as goal
 
 pub returns-then-not-loadable : goal.returns-then-not-loadable
 returns-then-not-loadable c =

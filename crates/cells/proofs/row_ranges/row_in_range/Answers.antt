@@ -1,7 +1,7 @@
--- `cells::ranges::row_in_range` meets its contract.
+-- `cells::row_ranges::row_in_range` meets its contract.
 use mathlib.Core.Path.{refl}
 use Rattle.cells.proofs.RangeLaws.{row-kind, row-waits, row-permit}
-use Rattle.cells.proofs.ranges.row_in_range.Goals as goal
+use Rattle.cells.proofs.row_ranges.row_in_range.Goals as goal
 
 pub returns-then-s-i-gt-ENDED : goal.returns-then-s-i-gt-ENDED
 returns-then-s-i-gt-ENDED c =

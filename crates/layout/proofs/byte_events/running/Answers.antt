@@ -1,9 +1,9 @@
--- `layout::events::running` meets its contract.
+-- `layout::byte_events::running` meets its contract.
 use mathlib.Core.Path.{◌∙◌, sym}
 use native.Mathlib.Omega.{arith}
 use Rattle.cells.proofs.RangeLaws.{read-long}
 use Rattle.layout.proofs.EventLaws.{running-unread, running-told}
-use Rattle.layout.proofs.events.running.Goals as goal
+use Rattle.layout.proofs.byte_events.running.Goals as goal
 
 pub returns-then-not-readable : goal.returns-then-not-readable
 returns-then-not-readable c =

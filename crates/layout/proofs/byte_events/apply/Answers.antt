@@ -1,9 +1,9 @@
--- `layout::events::apply` meets its contract.
+-- `layout::byte_events::apply` meets its contract.
 use mathlib.Core.Path.{refl, sym, ◌∙◌}
 use native.Mathlib.Omega.{arith}
 use Rattle.layout.proofs.EventLaws.{unloadable, untested, event-unsound, loaded-tested, loaded-valid, moved-refused, moved-done}
 use Rattle.cells.proofs.CellLaws.{loadable-long}
-use Rattle.layout.proofs.events.apply.Goals as goal
+use Rattle.layout.proofs.byte_events.apply.Goals as goal
 
 pub returns-then-not-loadable : goal.returns-then-not-loadable
 returns-then-not-loadable c =

@@ -1,7 +1,7 @@
--- `layout::events::fresh` meets its contract.
+-- `layout::byte_events::fresh` meets its contract.
 use native.Mathlib.Omega.{arith}
 use Rattle.layout.proofs.EventLaws.{fresh-short, fresh-made}
-use Rattle.layout.proofs.events.fresh.Goals as goal
+use Rattle.layout.proofs.byte_events.fresh.Goals as goal
 
 pub returns-then-bytes-lt-STATE_SIZE : goal.returns-then-bytes-lt-STATE_SIZE
 returns-then-bytes-lt-STATE_SIZE c =

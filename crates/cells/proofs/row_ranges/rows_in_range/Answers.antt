@@ -1,9 +1,9 @@
--- `cells::ranges::rows_in_range` meets its contract.
+-- `cells::row_ranges::rows_in_range` meets its contract.
 use mathlib.Core.Path.{refl}
 use native.Mathlib.Omega.{arith}
 use Rattle.rules.specs.Lists.{below}
 use Rattle.cells.proofs.RangeLaws.{rows-many, rows-fail, rows_all, rows_more}
-use Rattle.cells.proofs.ranges.rows_in_range.Goals as goal
+use Rattle.cells.proofs.row_ranges.rows_in_range.Goals as goal
 
 pub returns-then-n-gt-TASKS : goal.returns-then-n-gt-TASKS
 returns-then-n-gt-TASKS c = rows-many c.args.s.now _ refl c.if-n-gt-TASKS.true

@@ -4,7 +4,7 @@ ghost use Rattle.layout.specs.Events.{event_number, event_bytes, event_report, f
 ghost use Rattle.layout.specs.Events.{running_number};
 
 use cells::decode::runner_from;
-use cells::ranges::readable;
+use cells::row_ranges::readable;
 use cells::sizes::{MARKS_AT, NOBODY, RUNNING_AT, STATE_SIZE, TASK_COUNT_AT};
 use cells::slices::{load, loadable, store};
 use dispatch::State;
