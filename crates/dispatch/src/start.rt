@@ -13,7 +13,7 @@ use rules::{Answer, Roster};
 // The fresh state of these bases and ceilings.
 fn started(bases: &[u8], given: &[u8]) -> State
     requires { Startable (record { bases = bases.now; ceilings = given.now }) }
-    ensures { result ≡ encode (fresh_model (record { bases = bases.entry.now; ceilings = given.now })) }
+    ensures { result ≡ encode (fresh_model (record { bases = bases.now; ceilings = given.now })) }
 {
     let mut head = [0u64; HEAD_WIDTH];
     let mut tasks = [0u64; TASK_CELLS];
@@ -43,7 +43,7 @@ fn single() -> State
 
 impl State {
     pub fn fresh(bases: &[u8], ceilings: &[u8]) -> Started
-        ensures { result ≡ fresh_of (record { bases = bases.entry.now; ceilings = ceilings.now }) }
+        ensures { result ≡ fresh_of (record { bases = bases.now; ceilings = ceilings.now }) }
     {
         if !Roster::counts_good(bases.len(), ceilings.len()) {
             return refused(Answer::BadCounts);

@@ -19,9 +19,9 @@ fn said_priority(value: u64) -> Priority
 // The fresh state of bases and ceilings: 0, 13 or 15, the state being written each time; 10, and nothing, into too few bytes.
 #[unsafe(no_mangle)]
 pub extern "C" fn dispatch_fresh(bases: &[u8], ceilings: &[u8], state: &mut [u8]) -> u8
-    ensures value { result ≡ fresh_number (record { bases = bases.entry.now; ceilings = ceilings.now }) state.old }
+    ensures value { result ≡ fresh_number (record { bases = bases.now; ceilings = ceilings.now }) state.old }
     ensures state_after { state.new ≡
-        fresh_bytes (record { bases = bases.entry.now; ceilings = ceilings.now }) state.old }
+        fresh_bytes (record { bases = bases.now; ceilings = ceilings.now }) state.old }
 {
     layout::fresh(bases, ceilings, state)
 }

@@ -105,7 +105,7 @@ fn lay_out(
     requires startable { Startable (record { bases = bases.now; ceilings = given.now }) }
     requires sized { Sized head.old tasks.old held.old ceilings.old queues.old }
     ensures { Means head.new tasks.new held.new ceilings.new queues.new
-        (unstarted (record { bases = bases.entry.now; ceilings = given.now })) }
+        (unstarted (record { bases = bases.now; ceilings = given.now })) }
 {
     clear_words(tasks);
     clear_bytes(held);
@@ -134,7 +134,7 @@ pub fn fresh(
     requires startable { Startable (record { bases = bases.now; ceilings = given.now }) }
     requires sized { Sized head.old tasks.old held.old ceilings.old queues.old }
     ensures { Means head.new tasks.new held.new ceilings.new queues.new
-        (fresh_model (record { bases = bases.entry.now; ceilings = given.now })) }
+        (fresh_model (record { bases = bases.now; ceilings = given.now })) }
 {
     lay_out(bases, given, head, tasks, held, ceilings, queues);
     join_all(head, tasks, held, ceilings, queues);

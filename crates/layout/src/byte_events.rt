@@ -52,9 +52,9 @@ pub fn apply(bytes: &mut [u8], event: Event, report: &mut u8) -> u8
 
 // The fresh state of these bases and ceilings, or the one beside a refusal.
 pub fn fresh(bases: &[u8], ceilings: &[u8], bytes: &mut [u8]) -> u8
-    ensures value { result ≡ fresh_number (record { bases = bases.entry.now; ceilings = ceilings.now }) bytes.old }
+    ensures value { result ≡ fresh_number (record { bases = bases.now; ceilings = ceilings.now }) bytes.old }
     ensures bytes_after { bytes.new ≡
-        fresh_bytes (record { bases = bases.entry.now; ceilings = ceilings.now }) bytes.old }
+        fresh_bytes (record { bases = bases.now; ceilings = ceilings.now }) bytes.old }
 {
     if bytes.len() < STATE_SIZE {
         return Answer::Unsound.number();

@@ -41,7 +41,7 @@ fn lengths_good(bases: &[u8], ceilings: &[u8], lengths: &[u16], steps: &[u8]) ->
 
 // 15
 fn values_good(bases: &[u8], ceilings: &[u8]) -> bool
-    ensures { result ≡ setup_in_range (record { bases = bases.entry.now; ceilings = ceilings.now }) }
+    ensures { result ≡ setup_in_range (record { bases = bases.now; ceilings = ceilings.now }) }
 {
     if !all_in_range(bases) {
         return false;
