@@ -56,6 +56,11 @@ module _ (s : State) (n : ℕ) where
       go true false e f h = (e, (h, ltb-false n count f))
       go false b e f h = absurd (not-suc-le-zero h)
 
+  -- the same of the answer and the count that were told
+  pub written-row : (a : FillAnswer) (m i : ℕ) → a ≡ fill_answer_of s n → m ≡ rows_written s a → i < m →
+      (sound_of s ≡ true) × ((i < count) × (count ≤ n))
+  written-row a m i e f h = written-room i (omega (arith, h, f ∙ ap (rows_written s) e))
+
 -- ---- the board after it
 module _ (s : State) (ys : List Row) where
   abbrev told : FillAnswer

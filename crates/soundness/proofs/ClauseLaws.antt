@@ -82,6 +82,10 @@ module _ {h ts hd cs qs : List ℕ} (d : LaidOut h ts hd cs qs) where
   pub active-in : (t p : ℕ) → 0 < p → active (model_of h ts hd cs qs) t ≡ p → t < task_count_in h
   active-in t p g e = compare (task_count_in h) t (λ f. absurd (omega (arith, g, e, active-out t f))) (λ f. f)
 
+  -- a number with a priority is below the limit
+  pub active-few : (t a p : ℕ) → 0 < p → a ≡ active (model_of h ts hd cs qs) t → a ≡ p → t < task_limit
+  active-few t a p g e f = omega (arith, d.count, active-in t p g (sym e ∙ f))
+
   -- a task's record
   pub record_is : (t : ℕ) → t < task_count_in h → record_good (model_of h ts hd cs qs) (task_at (model_of h ts hd cs qs) t) ≡
       (in_range (task_in ts t).base.0 && waiting_good (waiting_in (task_in ts t).waiting) &&

@@ -1,18 +1,17 @@
 -- `soundness::queue_good` meets its contract.
 use mathlib.Core.Path.{refl, ◌∙◌, sym}
-use Prim.Native.Nat.{◌+◌, ◌-◌, ◌*◌, ◌<◌}
 use native.Mathlib.Omega.{arith}
 use borrow.Author.Rules.{rules}
 use borrow.Author.Tests.{eq-eqb, ne_eqb}
-use lib.ListN.{get_or, length-set}
-use Rattle.rules.specs.Limits.{task_limit, last_priority}
+use lib.ListN.{length-set}
+use Rattle.rules.specs.Limits.{last_priority}
 use Rattle.rules.proofs.Choices.{clash}
 use Rattle.memory.specs.Rows.{queue_width}
 use Rattle.memory.proofs.GridLaws.{queue-length, queue-size, queue-item, list_count}
 use Rattle.rules.proofs.AllLaws.{all_more, all-fails, all_end}
 use Rattle.soundness.specs.Tested.{queue_sound}
 use Rattle.soundness.proofs.CountLaws.{counted-begun, counted-more, counted-done, counted-few}
-use Rattle.soundness.proofs.ClauseLaws.{active-in}
+use Rattle.soundness.proofs.ClauseLaws.{active-few}
 use Rattle.soundness.proofs.queue_good.Goals as goal
 
 pub loop-i-init : goal.loop-i-init
@@ -43,38 +42,29 @@ returns-then-a-p c =
 
 pub offset_bounds-counts-t : goal.offset_bounds-counts-t
 offset_bounds-counts-t c =
-    let d = c.requires.laid_out in
-    let listed : get_or c.args.queues.now ((c.args.p.0 - 1) * queue_width + (c.loop-i.i + 1)) 0 < task_limit =
-    omega (arith, d.count, active-in d _ _ (omega arith) (sym c.active_of-a.ensures ∙ c.if-a-p.false)) in
+    let listed = active-few c.requires.laid_out _ _ _ (omega arith) c.active_of-a.ensures c.if-a-p.false in
     omega (arith, listed)
 
 pub bounds-counts-t : goal.bounds-counts-t
 bounds-counts-t c =
-    let d = c.requires.laid_out in
-    let listed : get_or c.args.queues.now ((c.args.p.0 - 1) * queue_width + (c.loop-i.i + 1)) 0 < task_limit =
-    omega (arith, d.count, active-in d _ _ (omega arith) (sym c.active_of-a.ensures ∙ c.if-a-p.false)) in
+    let listed = active-few c.requires.laid_out _ _ _ (omega arith) c.active_of-a.ensures c.if-a-p.false in
     omega (arith, listed, c.loop-i.invariant.4.size)
 
 pub overflow_add-counts : goal.overflow_add-counts
 overflow_add-counts c =
-    let d = c.requires.laid_out in
-    let listed : get_or c.args.queues.now ((c.args.p.0 - 1) * queue_width + (c.loop-i.i + 1)) 0 < task_limit =
-    omega (arith, d.count, active-in d _ _ (omega arith) (sym c.active_of-a.ensures ∙ c.if-a-p.false)) in
+    let listed = active-few c.requires.laid_out _ _ _ (omega arith) c.active_of-a.ensures c.if-a-p.false in
     omega (arith, counted-few _ listed c.requires.laid_out.queues c.loop-i.invariant.4)
 
 pub bounds-counts-t-in-loop-i : goal.bounds-counts-t-in-loop-i
 bounds-counts-t-in-loop-i c =
-    let d = c.requires.laid_out in
-    let listed : get_or c.args.queues.now ((c.args.p.0 - 1) * queue_width + (c.loop-i.i + 1)) 0 < task_limit =
-    omega (arith, d.count, active-in d _ _ (omega arith) (sym c.active_of-a.ensures ∙ c.if-a-p.false)) in
+    let listed = active-few c.requires.laid_out _ _ _ (omega arith) c.active_of-a.ensures c.if-a-p.false in
     omega (arith, listed, c.loop-i.invariant.4.size)
 
 pub loop-i-preserved : goal.loop-i-preserved
 loop-i-preserved c =
     let l = c.loop-i in
     let d = c.requires.laid_out in
-    let listed : get_or c.args.queues.now ((c.args.p.0 - 1) * queue_width + (c.loop-i.i + 1)) 0 < task_limit =
-    omega (arith, d.count, active-in d _ _ (omega arith) (sym c.active_of-a.ensures ∙ c.if-a-p.false)) in
+    let listed = active-few c.requires.laid_out _ _ _ (omega arith) c.active_of-a.ensures c.if-a-p.false in
     let item = queue-item c.requires.has_queue d.queues l.i (omega arith) in
     let own = rw item at c.active_of-a.ensures in
     let same = eq-eqb _ _ (sym own ∙ c.if-a-p.false) in

@@ -1,9 +1,7 @@
 -- `dispatch::State::fresh` meets its contract.
-use mathlib.Core.Path.{◌≡◌, ◌∙◌, sym}
+use mathlib.Core.Path.{◌∙◌, sym}
 use mathlib.Core.Bool.{true}
-use Rattle.rules.specs.Priorities.{in_range}
-use Rattle.rules.specs.Lists.{all_of}
-use Rattle.rules.specs.Fresh.{Setup, setup_counted}
+use Rattle.rules.specs.Fresh.{Setup}
 use Rattle.dispatch.proofs.FreshLaws.{counts-13, bases-15, ceilings-15, startable, done-0}
 use Rattle.dispatch.proofs.State.fresh.Goals as goal
 
@@ -15,46 +13,32 @@ returns-then-not-counts_good c =
 
 pub returns-then-not-all_in_range : goal.returns-then-not-all_in_range
 returns-then-not-all_in_range c =
-    let given : Setup =
     let a = c.args in
-    record { bases = a.bases.now; ceilings = a.ceilings.now } in
-    let counted : setup_counted given ≡ true =
-    sym c.counts_good.ensures ∙ c.if-not-counts_good.false in
+    let s : Setup = record { bases = a.bases.now; ceilings = a.ceilings.now } in
     let bad = sym c.all_in_range.ensures ∙ c.if-not-all_in_range.true in
-    c.refused-then-not-all_in_range.ensures ∙ bases-15 given counted bad
+    c.refused-then-not-all_in_range.ensures ∙ bases-15 s (sym c.counts_good.ensures ∙ c.if-not-counts_good.false) bad
 
 pub returns-then-not-all_in_range-2 : goal.returns-then-not-all_in_range-2
 returns-then-not-all_in_range-2 c =
-    let given : Setup =
     let a = c.args in
-    record { bases = a.bases.now; ceilings = a.ceilings.now } in
-    let counted : setup_counted given ≡ true =
-    sym c.counts_good.ensures ∙ c.if-not-counts_good.false in
+    let s : Setup = record { bases = a.bases.now; ceilings = a.ceilings.now } in
     let bad = sym c.all_in_range-2.ensures ∙ c.if-not-all_in_range-2.true in
-    c.refused-then-not-all_in_range-2.ensures ∙ ceilings-15 given counted bad
+    c.refused-then-not-all_in_range-2.ensures ∙ ceilings-15 s (sym c.counts_good.ensures ∙ c.if-not-counts_good.false) bad
 
 pub started-state-requires : goal.started-state-requires
 started-state-requires c =
-    let given : Setup =
     let a = c.args in
-    record { bases = a.bases.now; ceilings = a.ceilings.now } in
-    let counted : setup_counted given ≡ true =
-    sym c.counts_good.ensures ∙ c.if-not-counts_good.false in
-    let bases_good : all_of in_range given.bases ≡ true =
-    sym c.all_in_range.ensures ∙ c.if-not-all_in_range.false in
-    let ceilings_good : all_of in_range given.ceilings ≡ true =
-    sym c.all_in_range-2.ensures ∙ c.if-not-all_in_range-2.false in
-    startable given counted bases_good ceilings_good
+    let s : Setup = record { bases = a.bases.now; ceilings = a.ceilings.now } in
+    startable s (sym c.counts_good.ensures ∙ c.if-not-counts_good.false)
+    (sym c.all_in_range.ensures ∙ c.if-not-all_in_range.false)
+    (sym c.all_in_range-2.ensures ∙ c.if-not-all_in_range-2.false)
 
 pub returns : goal.returns
 returns c =
-    let given : Setup =
     let a = c.args in
-    record { bases = a.bases.now; ceilings = a.ceilings.now } in
-    let counted : setup_counted given ≡ true =
-    sym c.counts_good.ensures ∙ c.if-not-counts_good.false in
-    let bases_good : all_of in_range given.bases ≡ true =
-    sym c.all_in_range.ensures ∙ c.if-not-all_in_range.false in
-    let ceilings_good : all_of in_range given.ceilings ≡ true =
-    sym c.all_in_range-2.ensures ∙ c.if-not-all_in_range-2.false in
-    rw c.started-state.ensures (done-0 given counted bases_good ceilings_good)
+    let s : Setup = record { bases = a.bases.now; ceilings = a.ceilings.now } in
+    rw c.started-state.ensures (
+    done-0 s (sym c.counts_good.ensures ∙ c.if-not-counts_good.false)
+    (sym c.all_in_range.ensures ∙ c.if-not-all_in_range.false)
+    (sym c.all_in_range-2.ensures ∙ c.if-not-all_in_range-2.false)
+    )

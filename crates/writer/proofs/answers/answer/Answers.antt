@@ -1,9 +1,6 @@
 -- `writer::answers::answer` meets its contract.
-use mathlib.Core.Path.{◌≡◌}
 use native.Mathlib.Omega.{arith}
-use Rattle.format.specs.declared.Verdict.TheVariants.{Passed}
-use Rattle.encoding.specs.File.{Parts, parts}
-use Rattle.encoding.specs.Answers.{file_form}
+use Rattle.encoding.specs.File.{parts}
 use Rattle.encoding.proofs.FileLaws.{file-length}
 use Rattle.encoding.proofs.AnswerLaws.{passed-file, sizes, answer-refused, answer-short, answer-done}
 use Rattle.writer.proofs.answers.answer.Goals as goal
@@ -12,16 +9,13 @@ pub returns-then-not-passed : goal.returns-then-not-passed
 returns-then-not-passed c =
     let a = c.args in
     answer-refused (parts a.bases.now a.ceilings.now a.lengths.now a.steps.now) a.room _ _
-    c.file_form-v.ensures c.passed.ensures (c.if-not-passed.true)
+    c.file_form-v.ensures c.passed.ensures c.if-not-passed.true
 
 pub size-n-requires : goal.size-n-requires
 size-n-requires c =
-    let given : Parts =
     let a = c.args in
-    parts a.bases.now a.ceilings.now a.lengths.now a.steps.now in
-    let passes : file_form given ≡ Passed =
-    passed-file given _ _ c.file_form-v.ensures c.passed.ensures (c.if-not-passed.false) in
-    let p = given in
+    let p = parts a.bases.now a.ceilings.now a.lengths.now a.steps.now in
+    let passes = passed-file p _ _ c.file_form-v.ensures c.passed.ensures c.if-not-passed.false in
     let k = sizes p passes in
     record {
       tasks_le_task_limit = k.counts.tasks;
@@ -31,20 +25,14 @@ size-n-requires c =
 
 pub returns-then-room-n : goal.returns-then-room-n
 returns-then-room-n c =
-    let given : Parts =
     let a = c.args in
-    parts a.bases.now a.ceilings.now a.lengths.now a.steps.now in
-    let passes : file_form given ≡ Passed =
-    passed-file given _ _ c.file_form-v.ensures c.passed.ensures (c.if-not-passed.false) in
-    let p = given in
-    answer-short p c.args.room passes (omega (arith, file-length p))
+    let p = parts a.bases.now a.ceilings.now a.lengths.now a.steps.now in
+    let passes = passed-file p _ _ c.file_form-v.ensures c.passed.ensures c.if-not-passed.false in
+    answer-short p a.room passes (omega (arith, file-length p))
 
 pub returns : goal.returns
 returns c =
-    let given : Parts =
     let a = c.args in
-    parts a.bases.now a.ceilings.now a.lengths.now a.steps.now in
-    let passes : file_form given ≡ Passed =
-    passed-file given _ _ c.file_form-v.ensures c.passed.ensures (c.if-not-passed.false) in
-    let p = given in
-    answer-done p c.args.room passes (omega (arith, file-length p))
+    let p = parts a.bases.now a.ceilings.now a.lengths.now a.steps.now in
+    let passes = passed-file p _ _ c.file_form-v.ensures c.passed.ensures c.if-not-passed.false in
+    answer-done p a.room passes (omega (arith, file-length p))

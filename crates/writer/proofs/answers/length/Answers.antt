@@ -1,10 +1,8 @@
 -- `writer::answers::length` meets its contract.
-use mathlib.Core.Path.{◌≡◌, refl, ap, sym, ◌∙◌}
+use mathlib.Core.Path.{refl, ap, sym, ◌∙◌}
 use native.Mathlib.Omega.{arith}
 use lib.ListN.{length}
-use Rattle.encoding.specs.File.{Parts, parts, file_of}
-use Rattle.encoding.specs.Answers.{write_answer_of}
-use Rattle.encoding.specs.declared.WriteAnswer.TheVariants.{Done}
+use Rattle.encoding.specs.File.{parts, file_of}
 use Rattle.encoding.proofs.FileLaws.{file-length}
 use Rattle.encoding.proofs.AnswerLaws.{sizes, done-file, done-answer, part_none, part-whole}
 use Rattle.writer.proofs.answers.length.Goals as goal
@@ -13,17 +11,14 @@ pub returns-then-not-wrote : goal.returns-then-not-wrote
 returns-then-not-wrote c =
     let a = c.args in
     let p = parts a.bases.now a.ceilings.now a.lengths.now a.steps.now in
-    ap length (part_none p a.room _ _ c.answer-a.ensures c.wrote.ensures (c.if-not-wrote.true))
+    ap length (part_none p a.room _ _ c.answer-a.ensures c.wrote.ensures c.if-not-wrote.true)
 
 pub size-requires : goal.size-requires
 size-requires c =
-    let given : Parts =
     let a = c.args in
-    parts a.bases.now a.ceilings.now a.lengths.now a.steps.now in
-    let goes : write_answer_of given c.args.room ≡ Done =
-    done-answer given _ _ _ c.answer-a.ensures c.wrote.ensures (c.if-not-wrote.false) in
-    let p = given in
-    let k = sizes p (done-file p c.args.room goes) in
+    let p = parts a.bases.now a.ceilings.now a.lengths.now a.steps.now in
+    let goes = done-answer p _ _ _ c.answer-a.ensures c.wrote.ensures c.if-not-wrote.false in
+    let k = sizes p (done-file p a.room goes) in
     record {
       tasks_le_task_limit = k.counts.tasks;
       objects_le_object_limit = k.counts.objects;
@@ -32,11 +27,8 @@ size-requires c =
 
 pub returns : goal.returns
 returns c =
-    let given : Parts =
     let a = c.args in
-    parts a.bases.now a.ceilings.now a.lengths.now a.steps.now in
-    let goes : write_answer_of given c.args.room ≡ Done =
-    done-answer given _ _ _ c.answer-a.ensures c.wrote.ensures (c.if-not-wrote.false) in
-    let p = given in
-    let whole = part-whole p c.args.room (file_of p) goes refl in
+    let p = parts a.bases.now a.ceilings.now a.lengths.now a.steps.now in
+    let goes = done-answer p _ _ _ c.answer-a.ensures c.wrote.ensures c.if-not-wrote.false in
+    let whole = part-whole p a.room (file_of p) goes refl in
     c.size.ensures ∙ (sym (file-length p) ∙ ap length whole)

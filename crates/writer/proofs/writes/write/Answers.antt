@@ -1,11 +1,5 @@
 -- `writer::writes::write` meets its contract.
-use mathlib.Core.Path.{◌≡◌}
-use mathlib.Core.List.{List}
-use Prim.Native.Nat.{ℕ}
-use lib.ListN.{length}
-use Rattle.encoding.specs.File.{Parts, parts}
-use Rattle.encoding.specs.Answers.{write_answer_of}
-use Rattle.encoding.specs.declared.WriteAnswer.TheVariants.{Done}
+use Rattle.encoding.specs.File.{parts}
 use Rattle.encoding.proofs.AnswerLaws.{done-answer, buffer-stays, buffer-written}
 use Rattle.writer.proofs.writes.write.Goals as goal
 
@@ -16,30 +10,21 @@ returns-then-not-wrote c =
     let answer = c.answer-a.ensures in
     record {
       value = answer;
-      out_after = buffer-stays p a.out.now _ _ answer c.wrote.ensures (c.if-not-wrote.true);
+      out_after = buffer-stays p a.out.now _ _ answer c.wrote.ensures c.if-not-wrote.true;
     }
 
 pub write_file-requires : goal.write_file-requires
 write_file-requires c =
-    let given : Parts =
     let a = c.args in
-    parts a.bases.now a.ceilings.now a.lengths.now a.steps.now in
-    let lent : List ℕ =
-    c.args.out.now in
-    let goes : write_answer_of given (length lent) ≡ Done =
-    done-answer given _ _ _ c.answer-a.ensures c.wrote.ensures (c.if-not-wrote.false) in
-    goes
+    let p = parts a.bases.now a.ceilings.now a.lengths.now a.steps.now in
+    done-answer p _ _ _ c.answer-a.ensures c.wrote.ensures c.if-not-wrote.false
 
 pub returns : goal.returns
 returns c =
-    let given : Parts =
     let a = c.args in
-    parts a.bases.now a.ceilings.now a.lengths.now a.steps.now in
-    let lent : List ℕ =
-    c.args.out.now in
-    let goes : write_answer_of given (length lent) ≡ Done =
-    done-answer given _ _ _ c.answer-a.ensures c.wrote.ensures (c.if-not-wrote.false) in
+    let p = parts a.bases.now a.ceilings.now a.lengths.now a.steps.now in
+    let goes = done-answer p _ _ _ c.answer-a.ensures c.wrote.ensures c.if-not-wrote.false in
     record {
       value = c.answer-a.ensures;
-      out_after = buffer-written given _ _ goes c.write_file.ensures;
+      out_after = buffer-written p _ _ goes c.write_file.ensures;
     }
