@@ -14,7 +14,8 @@ row_in_range s i =
 
 -- no more tasks than there may be, and such a row for each of those that the count lists
 unfoldable pub rows_in_range : List ℕ → Bool
-rows_in_range s = leb (byte_at s task_count_at) task_limit && below (byte_at s task_count_at) (λ t. row_in_range s (tasks_start + task_size * t))
+rows_in_range s = leb (byte_at s task_count_at) task_limit &&
+    below (byte_at s task_count_at) (λ t. row_in_range s (tasks_start + task_size * t))
 
 -- enough bytes for a state, and none of these numbers
 unfoldable pub readable : List ℕ → Bool

@@ -19,7 +19,8 @@ use Rattle.rules.proofs.SoundLaws.{sound-is}
 use Rattle.rules.proofs.Soundness.{ready-room, held-room-of}
 use Rattle.memory.specs.Rows.{row_for, held_width, held_in, queue_width}
 use Rattle.memory.specs.Tasks.{blank_task, tasks_in}
-use Rattle.memory.specs.Memory.{now_cell, running_cell, task_count_in, object_count_in, marks_in, runner_of, waiting_in, record_of, together}
+use Rattle.memory.specs.Memory.{now_cell, running_cell, task_count_in, object_count_in, marks_in, runner_of, waiting_in, record_of}
+use Rattle.memory.specs.Memory.{together}
 use Rattle.memory.specs.Memory.{all_records, model_of, LaidOut}
 use Rattle.memory.proofs.GridLaws.{list_count}
 use Rattle.memory.proofs.TaskLaws.{tasks-count}
@@ -157,7 +158,8 @@ module _ {h ts hd cs qs : List ℕ} (d : LaidOut h ts hd cs qs) where
   -- the whole
   pub encode-back : (now tasks objects marks : ℕ) → now ≡ get_or h now_cell 0 → tasks ≡ task_count_in h → objects ≡ object_count_in h →
       marks ≡ marks_in h →
-      (w : _) → w ≡ runner_of (get_or h running_cell 0) → (ks : List Task) → ks ≡ tasks_in ts → (ps : List Priority) → ps ≡ map priority cs →
+      (w : _) → w ≡ runner_of (get_or h running_cell 0) → (ks : List Task) → ks ≡ tasks_in ts → (ps : List Priority) →
+      ps ≡ map priority cs →
       record {
         now = now;
         running = w;

@@ -17,7 +17,8 @@ use Rattle.format.specs.declared.Verdict.{Verdict}
 use Rattle.format.specs.declared.Verdict.TheVariants.{Passed, BadLength, BadCounts, BadLayout, BadValues}
 use Rattle.format.proofs.TestLaws.{by-test, past, and_no, and_yes, passed_is}
 use Rattle.encoding.specs.File.{Parts, tasks_of, steps_before, file_of}
-use Rattle.encoding.specs.Answers.{wrote, lengths_add_up, lent_scripts_form, parts_form, file_form, write_answer_of, write_buffer_of, written_of}
+use Rattle.encoding.specs.Answers.{wrote, lengths_add_up, lent_scripts_form, parts_form, file_form, write_answer_of, write_buffer_of}
+use Rattle.encoding.specs.Answers.{written_of}
 use Rattle.encoding.specs.declared.WriteAnswer.{WriteAnswer}
 use Rattle.encoding.specs.declared.WriteAnswer.TheVariants.{Done, Refused, ShortBuffer}
 use Rattle.encoding.proofs.FileLaws.{Sizes}
@@ -177,7 +178,8 @@ module _ (p : Parts) where
 
   -- the buffer
   module _ (out : List ℕ) where
-    pub buffer-stays : (a : WriteAnswer) (b : Bool) → a ≡ write_answer_of p (length out) → b ≡ wrote a → b ≡ false → out ≡ write_buffer_of p out
+    pub buffer-stays : (a : WriteAnswer) (b : Bool) → a ≡ write_answer_of p (length out) → b ≡ wrote a → b ≡ false →
+        out ≡ write_buffer_of p out
     unfolding write_buffer_of
     buffer-stays a b e f g = sym (cond-false (wrote (write_answer_of p (length out))) _ out (ap wrote (sym e) ∙ (sym f ∙ g)))
 

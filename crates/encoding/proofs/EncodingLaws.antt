@@ -131,7 +131,8 @@ module _ (s : List ℕ) (bytes : Bytes s) (ok : form_of s ≡ Passed) where
       let u1 = get_or s (at + 2) 0 ∷ get_or s (at + 3) 0 ∷ [] in
       let u2 = get_or s (at + 4) 0 ∷ get_or s (at + 5) 0 ∷ [] in
       window s at 6 (row_inside s ok t h) ∙
-      (ap (λ (k : ℕ). get_or s k 0 ∷ get_or s (at + 1) 0 ∷ get_or s (at + 2) 0 ∷ get_or s (at + 3) 0 ∷ get_or s (at + 4) 0 ∷ get_or s (at + 5) 0 ∷ [])
+      (ap (λ (k : ℕ). get_or s k 0 ∷ get_or s (at + 1) 0 ∷ get_or s (at + 2) 0 ∷ get_or s (at + 3) 0 ∷ get_or s (at + 4) 0 ∷ get_or s
+      (at + 5) 0 ∷ [])
       (add-zero at) ∙
       (ap (λ (x : ℕ). x ∷ get_or s (at + 1) 0 ∷ (u1 ++ u2)) b0 ∙
       (ap (λ (x : ℕ). get_or r.bases t 0 ∷ x ∷ (u1 ++ u2)) b1 ∙

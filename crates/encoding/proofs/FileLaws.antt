@@ -9,7 +9,8 @@ use Rattle.rules.specs.Limits.{largest_roster}
 use Rattle.rules.proofs.Choices.{split}
 use Rattle.rules.proofs.LimitLaws.{Counted}
 use Rattle.format.specs.Limits.{trailer_size, task_row_size, object_row_size}
-use Rattle.encoding.specs.File.{Parts, tasks_of, objects_of, pieces, steps_before, bytes_before, script_size, task_row_bytes, object_row_bytes}
+use Rattle.encoding.specs.File.{Parts, tasks_of, objects_of, pieces, steps_before, bytes_before, script_size, task_row_bytes}
+use Rattle.encoding.specs.File.{object_row_bytes}
 use Rattle.encoding.specs.File.{trailer_bytes, task_rows, object_rows, object_start, trailer_of, file_of}
 use Rattle.encoding.proofs.PieceLaws.{pieces-length}
 

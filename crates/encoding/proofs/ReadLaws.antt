@@ -23,12 +23,14 @@ use Rattle.format.specs.Format.{task_count, object_count, task_row, object_row, 
 use Rattle.format.specs.Steps.{steps_of}
 use Rattle.format.specs.Roster.{Roster, roster_of}
 use Rattle.format.specs.Form as F
-use Rattle.format.specs.Form.{length_good, mark_good, counts_kept, tables_good, scripts_end, laid_from, script_laid, scripts_laid, layout_good}
+use Rattle.format.specs.Form.{length_good, mark_good, counts_kept, tables_good, scripts_end, laid_from, script_laid, scripts_laid}
+use Rattle.format.specs.Form.{layout_good}
 use Rattle.format.specs.Form.{task_row_good, object_row_good, values_good, steps_form, form_of}
 use Rattle.format.specs.declared.Step.{Step}
 use Rattle.format.proofs.TestLaws.{below_all, below-same, below-list, first-same}
 use Rattle.encoding.specs.File.{Parts, tasks_of, objects_of, pieces, steps_before, bytes_before, script_size, script_at, task_row_bytes}
-use Rattle.encoding.specs.File.{object_row_bytes, trailer_bytes, task_rows, object_rows, task_start, object_start, trailer_of, file_of, given}
+use Rattle.encoding.specs.File.{object_row_bytes, trailer_bytes, task_rows, object_rows, task_start, object_start, trailer_of, file_of}
+use Rattle.encoding.specs.File.{given}
 use Rattle.encoding.specs.Answers.{lengths_add_up, lent_script_form, lent_scripts_form, parts_form}
 use Rattle.encoding.proofs.PieceLaws.{pieces-at}
 use Rattle.encoding.proofs.FileLaws.{before-none, before-suc, trailer_start, task-rows, object-rows}
@@ -229,7 +231,8 @@ module _ (p : Parts) where
     tasks-same =
         ap (λ (n : ℕ). below n (task_row_good file)) tasks-read ∙
         (below-same (task_row_good file) (λ i. in_range (get_or p.setup.bases i 0)) (tasks_of p) (λ t h.
-        and-true (in_range (base_at file t)) _ (eq-eqb (byte_at file (task_row file t + 1)) 0 (zero-read t h)) ∙ ap in_range (base_read t h)) ∙
+        and-true (in_range (base_at file t)) _ (eq-eqb (byte_at file (task_row file t + 1)) 0 (zero-read t h)) ∙
+        ap in_range (base_read t h)) ∙
         below-list in_range p.setup.bases)
 
     objects-same : below (object_count file) (object_row_good file) ≡ all_of in_range p.setup.ceilings

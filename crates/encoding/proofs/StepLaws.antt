@@ -37,7 +37,8 @@ word_back s i h =
 module _ (a b : ℕ) where
   -- a code, read as a step that leaves nothing unused, is what the step is written with
   Back : ℕ → Type 0
-  Back code = is_step (step_of code a b) ≡ true → unused_zero a b (step_of code a b) ≡ true → bytes_of_step (step_of code a b) ≡ code ∷ a ∷ word b
+  Back code = is_step (step_of code a b) ≡ true → unused_zero a b (step_of code a b) ≡ true →
+      bytes_of_step (step_of code a b) ≡ code ∷ a ∷ word b
 
   b-none : (code : ℕ) → eqb b 0 ≡ true → code ∷ a ∷ word 0 ≡ code ∷ a ∷ word b
   b-none code e = ap (λ (x : ℕ). code ∷ a ∷ word x) (sym (eqb-true b 0 e))

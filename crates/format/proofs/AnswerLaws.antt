@@ -25,7 +25,8 @@ module _ (s : List ℕ) where
       let steps : steps_of part ≡ script_of (roster_of s) t = ap steps_of e ∙ sym (script-listed s t h) in
       g ∙ (ap (λ (b : ℕ). top_of t b (steps_of part)) (f ∙ sym (base-listed s t h)) ∙ ap (top_of t (base_of (roster_of s) t)) steps)
 
-  pub script-fault : (t : ℕ) (part : List ℕ) (top : ℕ) (v : Verdict) → t < task_count s → part ≡ part_at s t → top ≡ top_at (roster_of s) t →
+  pub script-fault : (t : ℕ) (part : List ℕ) (top : ℕ) (v : Verdict) → t < task_count s → part ≡ part_at s t →
+      top ≡ top_at (roster_of s) t →
       v ≡ steps_fault (roster_of s).ceilings top t (steps_of part) → v ≡ script_fault (roster_of s) t
   unfolding script_fault
   script-fault t part top v h e f g =

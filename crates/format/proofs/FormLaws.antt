@@ -32,7 +32,8 @@ module _ (s : List ℕ) where
   mark-no at a e f h =
       and_no _ _ (ap (λ (x : ℕ). eqb (byte_at s x) first_mark) (sym e) ∙ (ap (λ (x : ℕ). eqb x first_mark) (sym f) ∙ ne_eqb a first_mark h))
 
-  pub mark-yes : (at a b : ℕ) → at ≡ trailer s → a ≡ byte_at s at → b ≡ byte_at s (at + 1) → a ≡ first_mark → eqb b second_mark ≡ mark_good s
+  pub mark-yes : (at a b : ℕ) → at ≡ trailer s → a ≡ byte_at s at → b ≡ byte_at s (at + 1) → a ≡ first_mark →
+      eqb b second_mark ≡ mark_good s
   unfolding mark_good
   mark-yes at a b e f g h =
       let x : byte_at s (trailer s) ≡ first_mark = cc in
@@ -155,7 +156,8 @@ module _ (s : List ℕ) where
   unfolding values_good
   values-tasks b e f = and_no _ _ (sym e ∙ f)
 
-  pub values-objects : (b d : Bool) → b ≡ below (task_count s) (task_row_good s) → b ≡ true → d ≡ below (object_count s) (object_row_good s) →
+  pub values-objects : (b d : Bool) → b ≡ below (task_count s) (task_row_good s) → b ≡ true →
+      d ≡ below (object_count s) (object_row_good s) →
       d ≡ values_good s
   unfolding values_good
   values-objects b d e f g = and_yes _ _ _ (sym e ∙ f) g

@@ -73,7 +73,8 @@ module _ (s : List ℕ) (ok : Passes s) where
 
     -- the rules at each position, the script's end too
     passes-clean : k ≤ length (script_of (roster_of s) t) →
-        Clean (roster_of s).ceilings (top_at (roster_of s) t) (held_before (script_of (roster_of s) t) k) t (step_in (script_of (roster_of s) t) k)
+        Clean (roster_of s).ceilings (top_at (roster_of s) t) (held_before (script_of (roster_of s) t) k) t
+        (step_in (script_of (roster_of s) t) k)
     unfolding roster_fault script_fault steps_fault fault_in
     passes-clean l =
         let r = roster_of s in

@@ -67,7 +67,8 @@ part_bytes s y t = record { below = λ i. compare (length_at s t) i (past i) (wi
 
     within : (i : ℕ) → i < length_at s t → byte_at (take (length_at s t) rest) i < 256
     within i h =
-        subst (λ (v : ℕ). v < 256) (sym (get_or-take (length_at s t) rest i 0 h ∙ get_or-drop (start_at s t) s i 0)) (y.below (start_at s t + i))
+        subst (λ (v : ℕ). v < 256) (sym (get_or-take (length_at s t) rest i 0 h ∙ get_or-drop (start_at s t) s i 0))
+        (y.below (start_at s t + i))
 
 word_small : (s : List ℕ) → Bytes s → (i : ℕ) → word_at s i ≤ last_delay
 unfolding word_at

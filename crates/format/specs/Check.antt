@@ -1,5 +1,6 @@
 -- The check of a roster: answers 17 to 20, each rule a definition that says where it is broken.
-use Rattle.std.specs.Prelude.{◌≡◌, Bool, false, cond, not, ◌&&◌, List, [], ◌∷◌, ◌++◌, ℕ, zero, suc, ◌-◌, max, eqb, ltb, length, get_or, take}
+use Rattle.std.specs.Prelude.{◌≡◌, Bool, false, cond, not, ◌&&◌, List, [], ◌∷◌, ◌++◌, ℕ, zero, suc, ◌-◌, max, eqb, ltb, length, get_or}
+use Rattle.std.specs.Prelude.{take}
 use Rattle.rules.specs.Model.{ceiling_of, highest_of}
 use Rattle.rules.specs.Lists.{times_in}
 use Rattle.format.specs.Answers.{passed, first}

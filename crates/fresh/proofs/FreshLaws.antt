@@ -16,7 +16,8 @@ use Rattle.rules.proofs.FreshLaws.{Joined, join-core, join_one, joined-none}
 use Rattle.marks.proofs.MarkLaws.{no-marks}
 use Rattle.memory.specs.Rows.{queue_width, held_width}
 use Rattle.memory.specs.Tasks.{task_width, ended_kind, delayed_kind, suspended_kind, kind_code, no_due, blank_task, tasks_in}
-use Rattle.memory.specs.Memory.{now_cell, running_cell, tasks_cell, objects_cell, marks_cell, next_cell, delayed_cell, head_width, runner_of}
+use Rattle.memory.specs.Memory.{now_cell, running_cell, tasks_cell, objects_cell, marks_cell, next_cell, delayed_cell, head_width}
+use Rattle.memory.specs.Memory.{runner_of}
 use Rattle.memory.specs.Memory.{waiting_in, together, task_count_in, all_records, model_of, Means}
 use Rattle.fresh.specs.Slices.{newcomer, Enrolled, JoinAll}
 use Rattle.moves.specs.Room.{Dispatches}
@@ -52,7 +53,8 @@ new-awake (b ∷ bs) (suc t) d p = new-awake bs t d p
 
 -- the head of a fresh start
 pub fresh-head : (h : List ℕ) (n k : ℕ) → length h ≡ head_width →
-    set (set (set (set (set (set (set h now_cell 0) running_cell 0) tasks_cell n) objects_cell k) marks_cell 0) next_cell no_due) delayed_cell 0 ≡
+    set (set (set (set (set (set (set h now_cell 0) running_cell 0) tasks_cell n) objects_cell k) marks_cell 0) next_cell no_due)
+    delayed_cell 0 ≡
     0 ∷ (0 ∷ (n ∷ (k ∷ (0 ∷ (no_due ∷ (0 ∷ []))))))
 fresh-head [] n k e = absurd (omega arith)
 fresh-head (a ∷ []) n k e = absurd (omega arith)

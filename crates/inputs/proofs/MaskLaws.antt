@@ -59,7 +59,8 @@ module _ (all j m x : ℕ) (e : all % 256 ≡ j) (h : j < 8) (f : get_or unused_
       and-true true = refl
       and-true false = refl
 
-known : (all j m : ℕ) (b : Bool) → all % 256 ≡ j → j < 8 → get_or unused_bits j 0 ≡ m → get_or unknown_kinds j 0 ≡ 0 → eqb (bit_and all m) 0 ≡ b →
+known : (all j m : ℕ) (b : Bool) → all % 256 ≡ j → j < 8 → get_or unused_bits j 0 ≡ m → get_or unknown_kinds j 0 ≡ 0 →
+    eqb (bit_and all m) 0 ≡ b →
     (eqb (fault_in all) 0 && eqb (high all) 0) ≡ b
 known all j m b e h f g i = low all j m 0 e h f g b (ap (λ (n : ℕ). eqb n 0) (or_zero_r (bit_and all m)) ∙ i)
 

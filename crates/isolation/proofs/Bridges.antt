@@ -72,13 +72,16 @@ carried p r s c d x y f g u v i j k l h =
 
 -- two callers after any events, from the claim of those
 hosts-after : (p : ℕ) (a b : List ℕ) → Agreeing p a b → (es fs : List Event) →
-    Isolated p (roster_of a) (roster_of b) (after (roster_of a) es) (after (roster_of b) fs) (answer (roster_of a) es) (answer (roster_of b) fs) →
-    Isolated p (roster_of a) (roster_of b) (held_by (host (roster_of a) es)) (held_by (host (roster_of b) fs)) (host_answer (roster_of a) es)
+    Isolated p (roster_of a) (roster_of b) (after (roster_of a) es) (after (roster_of b) fs) (answer (roster_of a) es)
+    (answer (roster_of b) fs) →
+    Isolated p (roster_of a) (roster_of b) (held_by (host (roster_of a) es)) (held_by (host (roster_of b) fs))
+    (host_answer (roster_of a) es)
     (host_answer (roster_of b) fs)
 hosts-after p a b g es fs h =
     let one = bridge a g.bytes.0 g.pass.0 es in
     let two = bridge b g.bytes.1 g.pass.1 fs in
-    carried p (roster_of a) (roster_of b) _ _ _ _ _ _ (host_answer (roster_of a) es) (host_answer (roster_of b) fs) (held-is (roster_of a) es one)
+    carried p (roster_of a) (roster_of b) _ _ _ _ _ _ (host_answer (roster_of a) es) (host_answer (roster_of b) fs)
+    (held-is (roster_of a) es one)
     (held-is (roster_of b) fs two) (λ e. sym (one.answer e)) (λ e. sym (two.answer e)) h
 
 pub hosts-isolated : HostsIsolated

@@ -295,7 +295,8 @@ module _ (p : ℕ) (high : ℕ → Bool) where
             view-is p high _ _ (put_off (stopped m) t b) (put_off (stopped n) t b) is (put-tail (stopped n) t b z)
             (both-join (stopped m) (stopped n) both-off t h (subst (Firm p high) is f))
         by false z =
-            view-is p high _ _ (put_off (stopped m) t b) (put_off (stopped n) t b) (put-until (stopped m) t b z) (put-until (stopped n) t b z)
+            view-is p high _ _ (put_off (stopped m) t b) (put_off (stopped n) t b) (put-until (stopped m) t b z)
+            (put-until (stopped n) t b z)
             (task-both p high (stopped m) (stopped n) both-off t h _ _
             (ap (λ (k : TaskRecord). with_place k (Delayed (m.now + b))) same ∙
             ap (λ (i : ℕ). with_place (task_at n t) (Delayed (i + b))) v.now))

@@ -28,7 +28,8 @@ use Rattle.format.specs.declared.Step.TheVariants.{Enter, Leave, Delay, Work, Su
 use Rattle.trace.specs.Config.{Config, is_done, happen}
 use Rattle.safety.specs.History.{Event, clock, release, step, input_of}
 use Rattle.safety.specs.Reckon.{Away, here, until, resting, gone, Status, Reckoning, unknown, status_at, with_status, inside_of}
-use Rattle.safety.specs.Reckon.{based_on, permitted, goes, away_after, read_at, released, released_in, becomes_base, at_leave, after_set, took_by}
+use Rattle.safety.specs.Reckon.{based_on, permitted, goes, away_after, read_at, released, released_in, becomes_base, at_leave, after_set}
+use Rattle.safety.specs.Reckon.{took_by}
 use Rattle.safety.specs.Reckon.{step_due, took, happened, noted}
 use Rattle.format.proofs.PassedLaws.{Orderly}
 use Rattle.safety.proofs.Discipline.{Fits, set_own}
@@ -117,7 +118,8 @@ held-under p cs steps f (suc k) o h = go (step_in steps k) refl (held-under p cs
     go Again e g i = g i
     go Finish e g i = g i
 
-highest-under : (p : ℕ) (cs : List ℕ) (b : ℕ) (l : List ℕ) → b ≤ p → ((o : ℕ) → 0 < times_in o l → ceiling_of cs o ≤ p) → highest_of cs b l ≤ p
+highest-under : (p : ℕ) (cs : List ℕ) (b : ℕ) (l : List ℕ) → b ≤ p → ((o : ℕ) → 0 < times_in o l → ceiling_of cs o ≤ p) →
+    highest_of cs b l ≤ p
 unfolding highest_of
 highest-under p cs b [] h f = h
 highest-under p cs b (o ∷ l) h f =

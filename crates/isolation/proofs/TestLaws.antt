@@ -85,7 +85,8 @@ module _ (p : ℕ) (r : Roster) where
   other-keeps f h t l e = or_right (is_above p r t) (f t) e (below_at (length r.bases) (λ u. is_above p r u || f u) h t l)
 
   -- under
-  under-by : values_low p r ≡ true → releases_low p r ≡ true → uses_low p r ≡ true → (t : ℕ) → Listed r t → is_above p r t ≡ false → Under p r t
+  under-by : values_low p r ≡ true → releases_low p r ≡ true → uses_low p r ≡ true → (t : ℕ) → Listed r t → is_above p r t ≡ false →
+      Under p r t
   unfolding released_task entered_object
   under-by v w u t l e = record {
     base = leb-true (base_of r t) p (base-is (λ x. leb x p) r t values);

@@ -42,7 +42,8 @@ host_answer r es e = (call r (host r es) e).answer
 abbrev pub HostsIsolated : Type 0
 HostsIsolated =
     (p : ℕ) (a b : List ℕ) → Agreeing p a b → (es : List Event) →
-    Isolated p (roster_of a) (roster_of b) (held_by (host (roster_of a) es)) (held_by (host (roster_of b) es)) (host_answer (roster_of a) es)
+    Isolated p (roster_of a) (roster_of b) (held_by (host (roster_of a) es)) (held_by (host (roster_of b) es))
+    (host_answer (roster_of a) es)
     (host_answer (roster_of b) es)
 
 abbrev pub HostsUnseen : Type 0

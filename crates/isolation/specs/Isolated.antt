@@ -54,4 +54,5 @@ answer r es e = (happen r (after r es) (input_of e)).answer
 abbrev pub IsolationClaim : Type 0
 IsolationClaim =
     (p : ℕ) (a b : List ℕ) → Agreeing p a b → (es : List Event) →
-    Isolated p (roster_of a) (roster_of b) (after (roster_of a) es) (after (roster_of b) es) (answer (roster_of a) es) (answer (roster_of b) es)
+    Isolated p (roster_of a) (roster_of b) (after (roster_of a) es) (after (roster_of b) es) (answer (roster_of a) es)
+    (answer (roster_of b) es)

@@ -99,7 +99,8 @@ module _ (b : List ℕ) (e : Event) where
       go false h = event-unread n i h w j
       go true h =
           let bad = sym (ap (λ (y : Bool). y && sound_of (state_of_bytes b)) h) ∙ f in
-          event-refused (unsound (state_of_bytes b)) (unsound-by (state_of_bytes b) e bad) n i w j h (λ z. let clash = sym i ∙ z in omega arith)
+          event-refused (unsound (state_of_bytes b)) (unsound-by (state_of_bytes b) e bad) n i w j h
+          (λ z. let clash = sym i ∙ z in omega arith)
 
 -- bytes that are no sound state: they cannot be loaded, or the test fails
 module _ (b : List ℕ) where
@@ -153,7 +154,8 @@ module _ (b : List ℕ) (ok : (readable b && sizes_fit (state_of_bytes b)) ≡ t
         (0 ≡ event_number b e) × ((b' ≡ event_bytes b e) × (p ≡ event_report b e))
     moved-done z b' f =
         let s = encode (model_of h' ts' hd' cs' qs') in
-        let step = accepted-by (state_of_bytes b) fit m e (sym loaded-tested ∙ good) x d n i (answer_in x) refl (report_in x) refl z s refl in
+        let step = accepted-by (state_of_bytes b) fit m e (sym loaded-tested ∙ good) x d n i (answer_in x) refl (report_in x) refl z s
+        refl in
         event-done b e (stepped s) step n i p q (loaded-readable b ok) b' z f
 
 -- a fresh start

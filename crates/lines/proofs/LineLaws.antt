@@ -284,7 +284,8 @@ module _ (a : RunAnswer) (replies out : List ℕ) where
       (put_as _ (ap (λ (b : Bool). cond b (passed_lines replies) (refused_line (number_of a) (task_of a) (position_of a)))
       (eq-eqb (number_of a) 0 z)) p)
 
-  pub lines-refused : {out' : List ℕ} {e : ℕ} (number task position : ℕ) → leb (room_for replies) (length out) ≡ true → number ≡ number_of a →
+  pub lines-refused : {out' : List ℕ} {e : ℕ} (number task position : ℕ) → leb (room_for replies) (length out) ≡ true →
+      number ≡ number_of a →
       task ≡ task_of a → position ≡ position_of a → (number ≡ 0 → ⊥) → Copied out 0 (refused_line number task position) out' e →
       (e ≡ lines_size a replies out) × (out' ≡ lines_buffer a replies out)
   unfolding lines_of

@@ -49,5 +49,6 @@ module _ (n m : ℕ) (hd qs : List ℕ) where
   pub fits-held : lengths_good held_width n hd ≡ false → false ≡ parts_fit n m hd qs
   fits-held e = rw (and-false (counts_good n m) (lengths_good held_width n hd) e)
 
-  pub fits-queues : counts_good n m ≡ true → lengths_good held_width n hd ≡ true → lengths_good queue_width last_priority qs ≡ parts_fit n m hd qs
+  pub fits-queues : counts_good n m ≡ true → lengths_good held_width n hd ≡ true →
+      lengths_good queue_width last_priority qs ≡ parts_fit n m hd qs
   fits-queues e f = rw (e, f)

@@ -54,7 +54,8 @@ marks-bit (q ∷ qs) (suc i) =
     bit-next (marks_of (q ∷ qs)) i ∙ (ap (λ (w : ℕ). bit_at w i) half ∙ marks-bit qs i)
 
 -- .. and no other word of that many bits has these
-marks-only : (qs : List (List ℕ)) (w : ℕ) → w < 2 ^ length qs → ((i : ℕ) → i < length qs → bit_at w i ≡ mark_for (length (get_or qs i []))) →
+marks-only : (qs : List (List ℕ)) (w : ℕ) → w < 2 ^ length qs →
+    ((i : ℕ) → i < length qs → bit_at w i ≡ mark_for (length (get_or qs i []))) →
     w ≡ marks_of qs
 unfolding marks_of
 marks-only [] w h f = omega arith

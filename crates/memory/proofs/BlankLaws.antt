@@ -48,7 +48,8 @@ module _ (l : List ℕ) (e : l ≡ replicate (task_limit * task_width) 0) where
   unfolding tasks_in
   blank-tasks =
       let one : task_in_row (replicate task_width 0) ≡ blank_task = ap task_in_row zero-task ∙ task-back blank_task in
-      rw (e, zero-rows task_width task_limit) (map-replicate task_in_row task_limit (replicate task_width 0) ∙ ap (replicate task_limit) one)
+      rw (e, zero-rows task_width task_limit)
+      (map-replicate task_in_row task_limit (replicate task_width 0) ∙ ap (replicate task_limit) one)
 
   pub blank-rows : Tasks l
   blank-rows =

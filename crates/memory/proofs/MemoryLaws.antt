@@ -227,7 +227,8 @@ module _ {h ts hd cs qs : List ℕ} (d : LaidOut h ts hd cs qs) where
       record { same = rw (a, r, c, e); laid = laid-head (simp length-set d.head) c e d.queues (m ∙ d.marks) x y b }
 
   -- .. another word, another bound
-  pub word-law : (w : ℕ) → Expects (next_in h) w (model_of h ts hd cs qs) → Means (set h delayed_cell w) ts hd cs qs (model_of h ts hd cs qs)
+  pub word-law : (w : ℕ) → Expects (next_in h) w (model_of h ts hd cs qs) →
+      Means (set h delayed_cell w) ts hd cs qs (model_of h ts hd cs qs)
   word-law w b =
       let k : List ℕ = set h delayed_cell w in
       let x : next_in k ≡ next_in h = cell_other delayed_cell next_cell w (omega arith) in

@@ -32,7 +32,8 @@ pub ready-became : {h l h' l' : List ℕ} {p : ℕ} (x : List ℕ) → HasQueue 
     h' ≡ set h marks_cell (with_bit (marks_in h) (p - 1) (mark_for (length (queue_in l' p)))) → ReadyBecame h l h' l' p x
 ready-became {h} {l} {h'} {l'} {p} x q m b e =
     let there : p - 1 < length (queues_in l) = omega (arith, queues-count l, q.low, q.high) in
-    let is : queue_in l' p ≡ x = ap (λ (qs : List (List ℕ)). get_or qs (p - 1) []) b.same ∙ get_or-set_same (queues_in l) (p - 1) x [] there in
+    let is : queue_in l' p ≡ x = ap (λ (qs : List (List ℕ)). get_or qs (p - 1) []) b.same ∙
+    get_or-set_same (queues_in l) (p - 1) x [] there in
     let word : with_bit (marks_in h) (p - 1) (mark_for (length (queue_in l' p))) ≡ marks_of (queues_in l') =
     ap (λ (w : ℕ). with_bit w (p - 1) (mark_for (length (queue_in l' p)))) m.word ∙
     (ap (λ (y : List ℕ). with_bit (marks_of (queues_in l)) (p - 1) (mark_for (length y))) is ∙

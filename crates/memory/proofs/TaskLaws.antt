@@ -18,7 +18,8 @@ use Rattle.rules.specs.declared.Task.{Task}
 use Rattle.memory.specs.Rows.{byte_values, rows}
 use Rattle.memory.specs.Tasks.{task_width, kind_cell, due_cell, base_cell, waiting_cell, permit_cell}
 use Rattle.memory.specs.Tasks.{running_kind, ready_kind, delayed_kind, suspended_kind}
-use Rattle.memory.specs.Tasks.{kind_code, due_of, no_due, due_time, place_of, waiting_code, waiting_of, bit, task_in_row, task_cells, blank_task}
+use Rattle.memory.specs.Tasks.{kind_code, due_of, no_due, due_time, place_of, waiting_code, waiting_of, bit, task_in_row, task_cells}
+use Rattle.memory.specs.Tasks.{blank_task}
 use Rattle.memory.specs.Tasks.{tasks_in, task_in, Neat, Tasks, TaskBecame, placed, based, waited, granted}
 use Rattle.words.proofs.ListLaws.{get_d_any, map-set}
 use Rattle.memory.proofs.GridLaws.{row_count, set_all, cell_at, Stored, unstored, store}

@@ -1,5 +1,6 @@
 -- Lists in rows of one slice: a row is the length of its list, the elements, then zeros. Any width, any number of rows.
-use Rattle.std.specs.Prelude.{◌≡◌, Bool, cond, not, List, [], ◌∷◌, ◌++◌, map, ℕ, zero, suc, ◌-◌, ◌*◌, ◌<◌, ◌≤◌, eqb, ltb, length, take, drop, get_or, set, replicate}
+use Rattle.std.specs.Prelude.{◌≡◌, Bool, cond, not, List, [], ◌∷◌, ◌++◌, map, ℕ, zero, suc, ◌-◌, ◌*◌, ◌<◌, ◌≤◌, eqb, ltb, length, take}
+use Rattle.std.specs.Prelude.{drop, get_or, set, replicate}
 use Rattle.rules.specs.Limits.{task_limit, object_limit, first_priority, last_priority}
 use Rattle.rules.specs.Lists.{times_in}
 use Rattle.marks.specs.Marks.{word_bits, bit_at, with_bit}

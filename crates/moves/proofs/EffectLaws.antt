@@ -88,7 +88,11 @@ module _ {h ts hd cs qs : List ℕ} (d : LaidOut h ts hd cs qs) where
       let k : List ℕ = set h delayed_cell word in
       let size : length k ≡ length h = length-set h delayed_cell word in
       let there : t < task_count_in (set k next_cell low) =
-      omega (arith, get_or-set_other k next_cell tasks_cell low 0 (omega arith), get_or-set_other h delayed_cell tasks_cell word 0 (omega arith)) in
+      omega (
+        arith,
+        get_or-set_other k next_cell tasks_cell low 0 (omega arith),
+        get_or-set_other h delayed_cell tasks_cell word 0 (omega arith),
+      ) in
       let bits : delayed_in (set k next_cell low) ≡ word =
       get_or-set_other k next_cell delayed_cell low 0 (omega arith) ∙ get_or-set_same h delayed_cell word 0 (omega (arith, d.head)) in
       let next : Expected (next_in (set k next_cell low)) (delayed_in (set k next_cell low)) t v =

@@ -27,7 +27,8 @@ pub pack-verdict : (v w : Verdict) (n t p r : ℕ) → v ≡ w → n ≡ number_
     r ≡ packed_verdict w
 pack-verdict v w n t p r e f g h i = i ∙ rw (f, g, h, e)
 
-pub pack-run : (v w : RunAnswer) (n t p r : ℕ) → v ≡ w → n ≡ Run.number_of v → t ≡ Run.task_of v → p ≡ Run.position_of v → r ≡ packed n t p →
+pub pack-run : (v w : RunAnswer) (n t p r : ℕ) → v ≡ w → n ≡ Run.number_of v → t ≡ Run.task_of v → p ≡ Run.position_of v →
+    r ≡ packed n t p →
     r ≡ packed_run w
 pack-run v w n t p r e f g h i = i ∙ rw (f, g, h, e)
 

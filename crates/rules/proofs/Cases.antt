@@ -15,9 +15,11 @@ use Rattle.rules.specs.Reports.{ReportCasesClaim}
 -- both at once, so that what they unfold is named once
 computed : CasesClaim × ReportCasesClaim
 unfolding Reports.reports_from Reports.reports_in Reports.reported Reports.report_cases Cases.outcome_from Cases.outcome Cases.queues_of
-    Cases.expected Cases.case Cases.marked_cases Model.highest_of Moves.become_ready Moves.stopped Moves.preempt Moves.start Moves.highest_to
+    Cases.expected Cases.case Cases.marked_cases Model.highest_of Moves.become_ready Moves.stopped Moves.preempt Moves.start
+    Moves.highest_to
     Moves.highest Moves.dispatch_by Moves.dispatch Moved.is_nobody Moved.same_runner Moved.report_by Moved.accepted Moved.refuse_if_nobody
-    Lists.all_of Fresh.new_tasks Fresh.join_from Fresh.fresh_model Fresh.refused_fresh Fresh.fresh Lists.times_in Events.enter Events.settle_with
+    Lists.all_of Fresh.new_tasks Fresh.join_from Fresh.fresh_model Fresh.refused_fresh Fresh.fresh Lists.times_in Events.enter
+    Events.settle_with
     Events.settle Events.leave Events.put_off Events.delay Events.rest Events.suspend Events.release_from Events.release Events.due_at
     Events.earlier Events.first_due Events.wake Events.wake_up Events.bad_reading Events.clock Lists.without Events.requeue Events.rebase
     Events.is_ended Events.set_base Events.work Events.finish Events.apply

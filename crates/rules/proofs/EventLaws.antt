@@ -79,7 +79,8 @@ module _ (m : Model) (o : ℕ) where
   pub leave-5 : no_object m o ≡ false → m.running ≡ Nobody → leave m o ≡ refused m NobodyRuns
   leave-5 e w = on-leave e ∙ by-nobody m leaving w
 
-  pub leave-9 : (t : ℕ) → no_object m o ≡ false → m.running ≡ Task t → innermost (task_at m t) o ≡ false → leave m o ≡ refused m NotInnermost
+  pub leave-9 : (t : ℕ) → no_object m o ≡ false → m.running ≡ Task t → innermost (task_at m t) o ≡ false →
+      leave m o ≡ refused m NotInnermost
   unfolding leaving
   leave-9 t e w h =
       on-leave e ∙ by-task m leaving t w ∙ cond-true (not (innermost (task_at m t) o)) (refused m NotInnermost) _ (ap not h)

@@ -180,7 +180,8 @@ module _ {ord : Bool} (m : Model) (t : ℕ) (h : Good ord m) (e : m.running ≡ 
   others u n g = h.pending.fair u g
 
   -- gets another record with its place and base
-  pub pending-held : (k : TaskRecord) → ready k ≡ ready (task_at m t) → running k ≡ running (task_at m t) → base_of k ≡ base_of (task_at m t) →
+  pub pending-held : (k : TaskRecord) → ready k ≡ ready (task_at m t) → running k ≡ running (task_at m t) →
+      base_of k ≡ base_of (task_at m t) →
       Fair m.ceilings m.now k → Pending ord (with_task m t k)
   pending-held k a b c f =
       pending-set m t k m.ready m.running (core-held m h.pending.core t k t-runs a b c) h.pending.sizes others t-in f

@@ -20,7 +20,8 @@ use Rattle.rules.specs.declared.Answer.{Answer}
 use Rattle.rules.specs.declared.Answer.TheVariants.{Done, NoSuchTask, NoSuchObject, BadPriority, BadReading, NobodyRuns, EndedTask}
 use Rattle.rules.specs.declared.Answer.TheVariants.{InsideAction, AboveCeiling, NotInnermost, Unsound, BadCounts, BadBases}
 use Rattle.rules.specs.Effect.{effect}
-use Rattle.rules.specs.Refusals.{no_such_task, no_such_object, bad_priority, bad_clock, nobody_runs, ended_task, inside_action, above_ceiling}
+use Rattle.rules.specs.Refusals.{no_such_task, no_such_object, bad_priority, bad_clock, nobody_runs, ended_task, inside_action}
+use Rattle.rules.specs.Refusals.{above_ceiling}
 use Rattle.rules.specs.Refusals.{not_innermost, of_runner, table, lowest, applies_at, First, Row, RefusalsClaim}
 use Rattle.rules.proofs.Choices.{split, both_ways, cond-true, cond-false}
 use Rattle.rules.proofs.Ways.{each_way}

@@ -173,7 +173,8 @@ highest-has m h = first (get_or m.ready (highest_to m.ready last_priority - 1) [
 
 -- the test says each clause
 module _ (m : Model) (e : sound m ≡ true) where
-  clauses : (numbers_good m ≡ true) × (one_place m ≡ true) × (own_queue m ≡ true) × (due_ahead m ≡ true) × (highest_runs m m.running ≡ true) ×
+  clauses : (numbers_good m ≡ true) × (one_place m ≡ true) × (own_queue m ≡ true) × (due_ahead m ≡ true) ×
+      (highest_runs m m.running ≡ true) ×
       (held_good m ≡ true) × (holders_here m ≡ true) × (waiting_inside m ≡ true)
   unfolding sound
   clauses = eight (numbers_good m) (one_place m) (own_queue m) (due_ahead m) (highest_runs m m.running) (held_good m) (holders_here m)

@@ -38,7 +38,8 @@ pub record Sound (m : Model) : Type 0 where
   -- "an object twice in one task's held list, or ceilings in it falling inwards or starting below the base"
   pub once : (t o : ℕ) → t < length m.tasks → times_in o (task_at m t).held ≤ 1
   pub rises : (t i : ℕ) → t < length m.tasks → i < length (task_at m t).held →
-      get_or ((task_at m t).base ∷ map (ceiling_of m.ceilings) (task_at m t).held) i 0 ≤ ceiling_of m.ceilings (get_or (task_at m t).held i 0)
+      get_or ((task_at m t).base ∷ map (ceiling_of m.ceilings) (task_at m t).held) i 0 ≤ ceiling_of m.ceilings
+      (get_or (task_at m t).held i 0)
   -- "a holder neither ready nor running"
   pub present : (t : ℕ) → t < length m.tasks → 0 < length (task_at m t).held →
       is_ready (task_at m t).place + is_running (task_at m t).place ≡ 1

@@ -1,5 +1,6 @@
 -- The nine events: what each answers and reports, and the Model after it.
-use Rattle.std.specs.Prelude.{Bool, true, false, cond, not, ◌&&◌, ◌||◌, List, [], ◌∷◌, ◌++◌, ℕ, zero, suc, ◌+◌, ◌-◌, eqb, leb, ltb, length, get_or, take}
+use Rattle.std.specs.Prelude.{Bool, true, false, cond, not, ◌&&◌, ◌||◌, List, [], ◌∷◌, ◌++◌, ℕ, zero, suc, ◌+◌, ◌-◌, eqb, leb, ltb, length}
+use Rattle.std.specs.Prelude.{get_or, take}
 use Rattle.rules.specs.Limits.{last_reading, longest_advance}
 use Rattle.rules.specs.Priorities.{in_range}
 use Rattle.rules.specs.Model.{TaskRecord, Model, NextBase, none, waits, with_place, with_base, with_waiting, with_permit, with_held}

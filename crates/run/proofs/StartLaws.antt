@@ -37,7 +37,8 @@ take-zeros n m h =
 
 module _ (s : List ℕ) (ok : Passes s) where
   -- the bases and ceilings of a roster that passes can start
-  pub startable : {bs cs : List ℕ} → bs ≡ (roster_of s).bases → cs ≡ (roster_of s).ceilings → Startable (record { bases = bs; ceilings = cs })
+  pub startable : {bs cs : List ℕ} → bs ≡ (roster_of s).bases → cs ≡ (roster_of s).ceilings →
+      Startable (record { bases = bs; ceilings = cs })
   startable e f = rw (e, f) (passes-starts s ok)
 
   pub starts-as : {bs cs h ts hd ks qs : List ℕ} → bs ≡ (roster_of s).bases → cs ≡ (roster_of s).ceilings →

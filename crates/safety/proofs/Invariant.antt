@@ -369,7 +369,8 @@ module _ (r : Roster) (k : Orderly r) (m : Model) (ps : List ℕ) (b : Reckoning
   unfolding took advance low
   stepped c cm cp n i =
       subst (λ (v : ℕ). Inv r (advance c t (position_after v (next_step r t v)) (perform m (next_step r t v))).config
-      (cond (is_done (advance c t (position_after v (next_step r t v)) (perform m (next_step r t v))).answer) (took r b (Task t)) b)) (sym i)
+      (cond (is_done (advance c t (position_after v (next_step r t v)) (perform m (next_step r t v))).answer) (took r b (Task t)) b))
+      (sym i)
       (subst (Inv r _) (sym (cond-true (is_done (perform m x).answer) (behind x) b (done-is _ f.done)))
       (record {
         good = f.good;

@@ -68,7 +68,8 @@ module _ (s ev buffer : List ℕ) (es : List Event) (e : answer_of s ev (length 
   whole : buffer_of s ev buffer ≡ replies ++ drop (length replies) buffer
   unfolding buffer_of replies_of r replies
   whole =
-      cond-true (run.ran (answer_of s ev (length buffer))) (replies_of s ev ++ drop (length (replies_of s ev)) buffer) buffer (ap run.ran e) ∙
+      cond-true (run.ran (answer_of s ev (length buffer))) (replies_of s ev ++ drop (length (replies_of s ev)) buffer) buffer
+      (ap run.ran e) ∙
       ap (λ (is : List Input). replies_from r (start_of r) is ++ drop (length (replies_from r (start_of r) is)) buffer) f
 
   at : (i : ℕ) → i < reply_size * length es → get_or (buffer_of s ev buffer) i 0 ≡ get_or replies i 0

@@ -82,7 +82,8 @@ rejoins ps b m t p a e = joins ps b (stopped m) t a (ap away_of e)
 takes-effect : (ps : List ℕ) (b : Reckoning) (n : Model) (t : ℕ) (y : Status) (p : ℕ) →
     Agree (with_status b t y) n.now n.tasks ps →
     t < length n.tasks → t < length b.tasks → (task_at n t).place ≡ Running →
-    Agree (with_status b t (based_on y p none)) (become_ready (stopped (with_task n t (with_waiting (with_base (task_at n t) p) none))) t).now
+    Agree (with_status b t (based_on y p none))
+    (become_ready (stopped (with_task n t (with_waiting (with_base (task_at n t) p) none))) t).now
     (become_ready (stopped (with_task n t (with_waiting (with_base (task_at n t) p) none))) t).tasks ps
 unfolding stopped away_of
 takes-effect ps b n t y p a l g e =

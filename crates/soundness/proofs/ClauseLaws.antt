@@ -54,7 +54,8 @@ module _ {h ts hd cs qs : List ℕ} (d : LaidOut h ts hd cs qs) where
   pub no-tasks : (b : Bool) → task_count_in h ≡ 0 → (sizes_good (model_of h ts hd cs qs) && b) ≡ false
   no-tasks b e = rw (sizes-is, e)
 
-  pub too-late : (b : Bool) → (task_count_in h ≡ 0 → ⊥) → last_reading < get_or h now_cell 0 → (sizes_good (model_of h ts hd cs qs) && b) ≡ false
+  pub too-late : (b : Bool) → (task_count_in h ≡ 0 → ⊥) → last_reading < get_or h now_cell 0 →
+      (sizes_good (model_of h ts hd cs qs) && b) ≡ false
   too-late b n e = rw (sizes-is, le-leb 1 (task_count_in h) (omega (arith, n)), lt-leb (get_or h now_cell 0) last_reading e)
 
   module _ (n : task_count_in h ≡ 0 → ⊥) (e : get_or h now_cell 0 ≤ last_reading) (b : Bool)
@@ -92,7 +93,8 @@ module _ {h ts hd cs qs : List ℕ} (d : LaidOut h ts hd cs qs) where
       all_of (λ o. not (leb (object_count_in h) o)) (held_by hd t))
   record_is t g = rw (task-is d t g, objects-is d)
 
-  pub place-one : (t a b n c : ℕ) (x : Place) → t < task_count_in h → x ≡ (task_in ts t).place → a ≡ runs (runner_of (get_or h running_cell 0)) t →
+  pub place-one : (t a b n c : ℕ) (x : Place) → t < task_count_in h → x ≡ (task_in ts t).place →
+      a ≡ runs (runner_of (get_or h running_cell 0)) t →
       b ≡ is_running x → n ≡ queued (queues_in qs) t → c ≡ is_ready x → in_one_place (model_of h ts hd cs qs) t ≡ (eqb a b && eqb n c)
   place-one t a b n c x g e p q r s =
       let place : (task_at (model_of h ts hd cs qs) t).place ≡ x = place_is d t g ∙ sym e in

@@ -32,10 +32,13 @@ unfolding Lists.times_in Lists.without Lists.all_of Lists.below Model.highest_of
     Events.settle Events.leave Events.put_off Events.delay Events.rest Events.suspend Events.release_from Events.release Events.due_at
     Events.earlier Events.first_due Events.wake Events.wake_up Events.bad_reading Events.clock Events.requeue Events.rebase Events.is_ended
     Events.set_base Events.work Events.finish Events.apply Words.word_at Words.number_at Words.tabulate FormAnswers.first Format.trailer
-    Format.task_count Format.object_count Format.object_table Format.task_table Format.task_row Format.base_at Format.start_at Format.length_at
-    Format.object_row Format.ceiling_at Format.part_at Steps.set_step Steps.step_of Steps.code_at Steps.a_at Steps.b_at Steps.step_at Steps.steps_of
+    Format.task_count Format.object_count Format.object_table Format.task_table Format.task_row Format.base_at Format.start_at
+    Format.length_at
+    Format.object_row Format.ceiling_at Format.part_at Steps.set_step Steps.step_of Steps.code_at Steps.a_at Steps.b_at Steps.step_at
+    Steps.steps_of
     Roster.roster_of Form.length_good Form.mark_good Form.counts_kept Form.tables_good Form.scripts_end Form.laid_from Form.script_laid
-    Form.scripts_laid Form.layout_good Form.task_row_good Form.object_row_good Form.values_good Form.is_step Form.unused_zero Form.names_listed
+    Form.scripts_laid Form.layout_good Form.task_row_good Form.object_row_good Form.values_good Form.is_step Form.unused_zero
+    Form.names_listed
     Form.stands_right Form.step_good Form.step_form Form.steps_form Form.script_form Form.scripts_form Form.form_of Form.script_answer
     Form.script_part Check.held_after Check.held_before Check.own_set Check.top_of Check.while_held Check.low_ceiling Check.not_innermost
     Check.other_task Check.fault_of Check.fault_in Check.steps_fault Check.top_at Check.script_fault Check.roster_fault Check.check_of

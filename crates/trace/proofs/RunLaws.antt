@@ -94,7 +94,8 @@ module _ (roster events buffer : List ℕ) where
     pub run-events : (g : Bool) → g ≡ events_good events → g ≡ false → Ran BadEvents buffer
     run-events g e f = refuses BadEvents (answer-events roster events (length buffer) passed-check (sym e ∙ f)) refl
 
-    pub run_short : (g : Bool) → g ≡ events_good events → g ≡ true → length buffer < reply_size * event_count events → Ran ShortBuffer buffer
+    pub run_short : (g : Bool) → g ≡ events_good events → g ≡ true → length buffer < reply_size * event_count events →
+        Ran ShortBuffer buffer
     run_short g e f h =
         refuses ShortBuffer (answer-short roster events (length buffer) passed-check (sym e ∙ f) (lt-ltb _ _ h)) refl
 

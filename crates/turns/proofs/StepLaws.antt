@@ -149,7 +149,8 @@ module _ {s h ts hd cs qs ps : List ℕ} (g : Going s h ts hd cs qs ps) where
       -- the outcome, by names for its parts
       made : {h' ts' hd' qs' ps' : List ℕ} {y : Ruling} → Moves h' ts' hd' cs qs' y (perform (model_of h ts hd cs qs) x) →
           length ps' ≡ length ps →
-          take (task_count s) ps' ≡ cond (is_done (answer_in y)) (set (take (task_count s) ps) t (position_after k x)) (take (task_count s) ps) →
+          take (task_count s) ps' ≡ cond (is_done (answer_in y)) (set (take (task_count s) ps) t (position_after k x))
+          (take (task_count s) ps) →
           Happened s h' ts' hd' cs qs' ps' y (advance c t (position_after k x) (perform (model_of h ts hd cs qs) x))
       unfolding advance
       made {h'} {ts'} {hd'} {qs'} {ps'} {y} v n e =

@@ -15,7 +15,8 @@ returns-then-number-ne0 c =
     let a = c.args in
     let ok = sym c.readable.ensures ∙ c.if-not-readable.false in
     let refused = fill-refused a.bytes.now a.board.now ok _ c.read-state.ensures blank_rows refl _ c.lent.ensures in
-    let whole = refused c.fill_first-filled.result.answer c.fill_first-filled.result.rows c.fill_first-filled.ensures _ c.number-number.ensures c.if-number-ne0.true in
+    let whole = refused c.fill_first-filled.result.answer c.fill_first-filled.result.rows c.fill_first-filled.ensures _
+    c.number-number.ensures c.if-number-ne0.true in
     record { value = whole.0; board_after = whole.1 }
 
 pub put_rows-requires : goal.put_rows-requires
@@ -33,5 +34,6 @@ returns c =
     let ok = sym c.readable.ensures ∙ c.if-not-readable.false in
     let done = fill_done a.bytes.now a.board.now ok _ c.read-state.ensures blank_rows refl _ c.lent.ensures in
     let x = c.fill_first-filled in
-    let whole = done x.result.answer x.result.rows x.ensures _ c.number-number.ensures (omega (arith, c.if-number-ne0.false)) _ c.put_rows.ensures in
+    let whole = done x.result.answer x.result.rows x.ensures _ c.number-number.ensures (omega (arith, c.if-number-ne0.false)) _
+    c.put_rows.ensures in
     record { value = whole.0; board_after = whole.1 }

@@ -10,7 +10,8 @@ use Rattle.board_bytes.proofs.put_rows.Given as goal
 abbrev pub invariant-loop-i : goal.invariant-loop-i
 invariant-loop-i l =
     (l.i ≤ l.n) × (length l.board ≡ length l.initial.board) ×
-    (sets l.initial.board 0 (flat_map row_bytes (take l.n l.rows)) ≡ sets l.board (row_size * l.i) (flat_map row_bytes (drop l.i (take l.n l.rows))))
+    (sets l.initial.board 0 (flat_map row_bytes (take l.n l.rows)) ≡ sets l.board (row_size * l.i)
+    (flat_map row_bytes (drop l.i (take l.n l.rows))))
 
 abbrev pub decreases-loop-i : goal.decreases-loop-i
 decreases-loop-i l = l.n - l.i

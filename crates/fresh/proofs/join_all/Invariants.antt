@@ -9,7 +9,8 @@ use Rattle.fresh.proofs.join_all.Given as goal
 abbrev pub invariant-loop-t : goal.invariant-loop-t
 invariant-loop-t l =
     (l.t ≤ l.n) ×
-    Means l.head l.tasks l.held l.ceilings l.queues (join_from 0 l.t (model_of l.initial.head l.initial.tasks l.held l.ceilings l.initial.queues)) ×
+    Means l.head l.tasks l.held l.ceilings l.queues
+    (join_from 0 l.t (model_of l.initial.head l.initial.tasks l.held l.ceilings l.initial.queues)) ×
     (length l.tasks ≡ length l.initial.tasks) ×
     (length l.queues ≡ length l.initial.queues)
 

@@ -21,4 +21,5 @@ returns-in-4 c = input-set _ _ _ _ c.in-4.is c.value_at-in-4.ensures.value
 
 pub returns-in_default : goal.returns-in_default
 unfolding input_at decoded_at
-returns-in_default c = input-step _ _ _ c.in_default.in_default-own.rest.0.0.1 c.in_default.in_default-own.rest.0.1 c.in_default.in_default-own.rest.1
+returns-in_default c =
+    input-step _ _ _ c.in_default.in_default-own.rest.0.0.1 c.in_default.in_default-own.rest.0.1 c.in_default.in_default-own.rest.1

@@ -64,7 +64,8 @@ load_row-requires c =
     let i = l.i in
     record {
       from_in_bounds = from-room w n from c.requires.width_in_bounds c.requires.from_value i (omega arith);
-      to_value = to-zeros w n from c.requires.width_in_bounds c.requires.from_value i (omega arith) l.to _ c.requires.width_in_bounds_2 l.invariant.1;
+      to_value = to-zeros w n from c.requires.width_in_bounds c.requires.from_value i (omega arith) l.to _ c.requires.width_in_bounds_2
+          l.invariant.1;
     }
 
 pub loop-i-preserved : goal.loop-i-preserved
@@ -73,7 +74,8 @@ loop-i-preserved c =
     let from = c.args.from.now in
     let row = c.load_row.ensures in (
       search rules,
-      lists-more c.args.width c.args.n from c.requires.width_in_bounds c.requires.from_value l.i (omega arith) l.to _ c.requires.width_in_bounds_2
+      lists-more c.args.width c.args.n from c.requires.width_in_bounds c.requires.from_value l.i (omega arith) l.to _
+          c.requires.width_in_bounds_2
           l.invariant.1 _ row,
       search rules,
     )

@@ -20,7 +20,8 @@ pub returns-then-lengths_good : goal.returns-then-lengths_good
 returns-then-lengths_good c =
     let a = c.args in
     let held = sym c.lengths_good.ensures ∙ c.if-lengths_good.true in
-    c.lengths_good-then-lengths_good.ensures ∙ fits-queues a.tasks a.objects a.held.now a.queues.now (sym c.counts_good.ensures ∙ c.if-not-counts_good.false) held
+    c.lengths_good-then-lengths_good.ensures ∙
+    fits-queues a.tasks a.objects a.held.now a.queues.now (sym c.counts_good.ensures ∙ c.if-not-counts_good.false) held
 
 pub returns : goal.returns
 returns c =

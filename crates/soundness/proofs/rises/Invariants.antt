@@ -10,7 +10,8 @@ use Rattle.soundness.proofs.rises.Given as goal
 abbrev pub invariant-loop-i : goal.invariant-loop-i
 invariant-loop-i l =
     (l.i ≤ l.size) ×
-    (rising (take l.n l.ceilings) l.initial.low.0 (held_by l.held l.t) ≡ rising (take l.n l.ceilings) l.low.0 (drop l.i (held_by l.held l.t))) ×
+    (rising (take l.n l.ceilings) l.initial.low.0 (held_by l.held l.t) ≡ rising (take l.n l.ceilings) l.low.0
+    (drop l.i (held_by l.held l.t))) ×
     (l.size ≡ length (held_by l.held l.t)) ×
     (l.size ≤ object_limit)
 

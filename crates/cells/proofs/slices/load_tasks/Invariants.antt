@@ -10,7 +10,8 @@ use Rattle.cells.proofs.slices.load_tasks.Given as goal
 
 abbrev pub invariant-loop-i : goal.invariant-loop-i
 invariant-loop-i l =
-    (l.i ≤ l.n) × (tasks_in l.to ≡ over (replicate task_limit blank_task) (tasks_from l.bytes) l.i) × Tasks l.to × (length l.to ≡ length l.initial.to)
+    (l.i ≤ l.n) × (tasks_in l.to ≡ over (replicate task_limit blank_task) (tasks_from l.bytes) l.i) × Tasks l.to ×
+    (length l.to ≡ length l.initial.to)
 
 abbrev pub decreases-loop-i : goal.decreases-loop-i
 decreases-loop-i l = l.n - l.i

@@ -19,7 +19,8 @@ bounds-cells-row c =
 pub returns-then-i-n : goal.returns-then-i-n
 returns-then-i-n c =
     let size = c.list_length-n.ensures in
-    let item = list-entry c.args.width c.args.row c.args.cells.now c.requires.width_nonzero c.requires.width_in_bounds c.args.i (omega arith) in
+    let item = list-entry c.args.width c.args.row c.args.cells.now c.requires.width_nonzero c.requires.width_in_bounds c.args.i
+    (omega arith) in
     ap (λ (x : ℕ). Number x) item ∙ entry-there _ c.args.i (omega arith)
 
 pub returns : goal.returns

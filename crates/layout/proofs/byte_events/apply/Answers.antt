@@ -31,7 +31,8 @@ returns-then-not-sound c =
     let ok = sym c.loadable.ensures ∙ c.if-not-loadable.false in
     let b = c.args.bytes.now in
     let test = loaded-tested b ok c.load-head.ensures _ c.long_at-marks.ensures _ c.sound.ensures in
-    let whole = event-unsound b c.args.event _ c.number-then-not-sound.ensures _ c.number.ensures (untested b (sym test ∙ c.if-not-sound.true)) in
+    let whole = event-unsound b c.args.event _ c.number-then-not-sound.ensures _ c.number.ensures
+    (untested b (sym test ∙ c.if-not-sound.true)) in
     record { value = whole.0; bytes_after = whole.1.0; report_after = whole.1.1 }
 
 pub apply-ruling-requires : goal.apply-ruling-requires

@@ -46,5 +46,6 @@ put_number-requires c =
 
 pub returns : goal.returns
 returns c =
-    put-place _ _ _ c.if-number-lt-FIRST_PLACED.false c.if-number-gt-LAST_PLACED.false c.put_byte-first.ensures c.put_number-gap.ensures c.put_byte-second.ensures
+    put-place _ _ _ c.if-number-lt-FIRST_PLACED.false c.if-number-gt-LAST_PLACED.false c.put_byte-first.ensures c.put_number-gap.ensures
+    c.put_byte-second.ensures
     c.put_number.ensures

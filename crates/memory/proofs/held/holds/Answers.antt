@@ -8,4 +8,5 @@ find-requires c = held-tidy _ c.requires.t_lt_task_limit c.requires.held
 
 pub returns : goal.returns
 returns c =
-    rw (c.find.ensures, held-list _ c.requires.t_lt_task_limit c.requires.held, held-size _ c.requires.t_lt_task_limit c.requires.held) (found _ _)
+    rw (c.find.ensures, held-list _ c.requires.t_lt_task_limit c.requires.held, held-size _ c.requires.t_lt_task_limit c.requires.held)
+    (found _ _)

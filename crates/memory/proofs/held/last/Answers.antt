@@ -13,7 +13,12 @@ overflow_add-result c =
 
 pub bounds-held-b-2 : goal.bounds-held-b-2
 bounds-held-b-2 c =
-    omega (arith, held-size _ c.requires.t_lt_task_limit c.requires.held, held-room _ c.requires.t_lt_task_limit c.requires.held, c.requires.held.size)
+    omega (
+      arith,
+      held-size _ c.requires.t_lt_task_limit c.requires.held,
+      held-room _ c.requires.t_lt_task_limit c.requires.held,
+      c.requires.held.size,
+    )
 
 pub returns : goal.returns
 returns c =

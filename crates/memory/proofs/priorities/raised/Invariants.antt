@@ -10,7 +10,8 @@ use Rattle.memory.proofs.priorities.raised.Given as goal
 abbrev pub invariant-loop-i : goal.invariant-loop-i
 invariant-loop-i l =
     (l.i ≤ l.size) ×
-    (highest_of (take l.n l.ceilings) l.initial.a.0 (held_by l.held l.t) ≡ highest_of (take l.n l.ceilings) l.a.0 (drop l.i (held_by l.held l.t))) ×
+    (highest_of (take l.n l.ceilings) l.initial.a.0 (held_by l.held l.t) ≡ highest_of (take l.n l.ceilings) l.a.0
+    (drop l.i (held_by l.held l.t))) ×
     (l.size ≡ length (held_by l.held l.t)) ×
     (l.size ≤ object_limit)
 

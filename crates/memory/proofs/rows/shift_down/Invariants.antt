@@ -7,7 +7,8 @@ use Rattle.memory.proofs.ShiftLaws.{down}
 use Rattle.memory.proofs.rows.shift_down.Given as goal
 
 abbrev pub invariant-loop-i : goal.invariant-loop-i
-invariant-loop-i l = (l.i ≤ l.last) × (l.cells ≡ over l.initial.cells (down l.initial.cells l.n) l.i) × (length l.cells ≡ length l.initial.cells)
+invariant-loop-i l = (l.i ≤ l.last) × (l.cells ≡ over l.initial.cells (down l.initial.cells l.n) l.i) ×
+    (length l.cells ≡ length l.initial.cells)
 
 abbrev pub decreases-loop-i : goal.decreases-loop-i
 decreases-loop-i l = l.last - l.i

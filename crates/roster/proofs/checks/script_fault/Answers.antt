@@ -19,7 +19,8 @@ script_part-part-requires c =
 
 pub steps_fault-requires : goal.steps_fault-requires
 steps_fault-requires c =
-    let whole = walk-given c.args.roster.now c.requires.roster_value _ _ _ c.requires.t_bound c.script_part-part.ensures c.requires.ceilings_value in
+    let whole = walk-given c.args.roster.now c.requires.roster_value _ _ _ c.requires.t_bound c.script_part-part.ensures
+    c.requires.ceilings_value in
     record { ceilings_len_bound = whole.0; all_listed = whole.1 }
 
 pub returns : goal.returns

@@ -64,7 +64,8 @@ after-depth-requires c =
     (c.if-not-passed.false) in
     record {
       stacked = record { same = refl; fits = own.fits; room = own.room };
-      x_len_bound = after-room cs a.top.0 a.t steps _ _ _ c.requires.all_listed c.requires.ceilings_len_bound own.same c.step_at-x.ensures p;
+      x_len_bound =
+          after-room cs a.top.0 a.t steps _ _ _ c.requires.all_listed c.requires.ceilings_len_bound own.same c.step_at-x.ensures p;
     }
 
 pub loop-k-preserved : goal.loop-k-preserved

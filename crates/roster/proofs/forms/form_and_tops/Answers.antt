@@ -32,7 +32,8 @@ pub returns-then-not-counts_good : goal.returns-then-not-counts_good
 returns-then-not-counts_good c =
     let s = c.args.s.now in
     record {
-      value = form-3 s (sym c.length_good.ensures ∙ c.if-not-length_good.false) (sym c.mark_good.ensures ∙ c.if-not-mark_good.false) (sym c.counts_good.ensures ∙ c.if-not-counts_good.true);
+      value = form-3 s (sym c.length_good.ensures ∙ c.if-not-length_good.false) (sym c.mark_good.ensures ∙ c.if-not-mark_good.false)
+          (sym c.counts_good.ensures ∙ c.if-not-counts_good.true);
       topped = unpassed BadCounts refl;
     }
 
@@ -40,7 +41,8 @@ pub returns-then-not-layout_good : goal.returns-then-not-layout_good
 returns-then-not-layout_good c =
     let s = c.args.s.now in
     record {
-      value = form-4 s (sym c.length_good.ensures ∙ c.if-not-length_good.false) (sym c.mark_good.ensures ∙ c.if-not-mark_good.false) (sym c.counts_good.ensures ∙ c.if-not-counts_good.false) (sym c.layout_good.ensures ∙ c.if-not-layout_good.true);
+      value = form-4 s (sym c.length_good.ensures ∙ c.if-not-length_good.false) (sym c.mark_good.ensures ∙ c.if-not-mark_good.false)
+          (sym c.counts_good.ensures ∙ c.if-not-counts_good.false) (sym c.layout_good.ensures ∙ c.if-not-layout_good.true);
       topped = unpassed BadLayout refl;
     }
 
@@ -48,7 +50,8 @@ pub returns-then-not-values_good : goal.returns-then-not-values_good
 returns-then-not-values_good c =
     let s = c.args.s.now in
     record {
-      value = form-5 s (sym c.length_good.ensures ∙ c.if-not-length_good.false) (sym c.mark_good.ensures ∙ c.if-not-mark_good.false) (sym c.counts_good.ensures ∙ c.if-not-counts_good.false) (sym c.layout_good.ensures ∙ c.if-not-layout_good.false)
+      value = form-5 s (sym c.length_good.ensures ∙ c.if-not-length_good.false) (sym c.mark_good.ensures ∙ c.if-not-mark_good.false)
+          (sym c.counts_good.ensures ∙ c.if-not-counts_good.false) (sym c.layout_good.ensures ∙ c.if-not-layout_good.false)
           (sym c.values_good.ensures ∙ c.if-not-values_good.true);
       topped = unpassed BadValues refl;
     }
@@ -66,6 +69,8 @@ returns c =
     let s = c.args.s.now in
     let values : values_good s ≡ true = sym c.values_good.ensures ∙ c.if-not-values_good.false in
     record {
-      value = c.scripts_form.ensures.value ∙ form-6 s (sym c.length_good.ensures ∙ c.if-not-length_good.false) (sym c.mark_good.ensures ∙ c.if-not-mark_good.false) (sym c.counts_good.ensures ∙ c.if-not-counts_good.false) (sym c.layout_good.ensures ∙ c.if-not-layout_good.false) values;
+      value = c.scripts_form.ensures.value ∙
+          form-6 s (sym c.length_good.ensures ∙ c.if-not-length_good.false) (sym c.mark_good.ensures ∙ c.if-not-mark_good.false)
+          (sym c.counts_good.ensures ∙ c.if-not-counts_good.false) (sym c.layout_good.ensures ∙ c.if-not-layout_good.false) values;
       topped = c.scripts_form.ensures.topped;
     }

@@ -10,4 +10,5 @@ returns-then-tasks_end-table c =
 pub returns : goal.returns
 returns c =
     tables-yes c.args.s.now _ _ _ _ _ _ c.task_count-tasks.ensures c.object_count-objects.ensures
-    c.task_row-tasks_end.ensures c.object_row-objects_end.ensures c.object_table-table.ensures c.trailer_of-trailer.ensures c.if-tasks_end-table.false
+    c.task_row-tasks_end.ensures c.object_row-objects_end.ensures c.object_table-table.ensures c.trailer_of-trailer.ensures
+    c.if-tasks_end-table.false

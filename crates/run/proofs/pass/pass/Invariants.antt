@@ -13,9 +13,13 @@ use Rattle.run.proofs.pass.pass.Given as goal
 abbrev pub invariant-loop-i : goal.invariant-loop-i
 invariant-loop-i l =
     (l.i ≤ l.n) × (length l.buffer ≡ length l.initial.buffer) × Going l.roster l.head l.tasks l.held l.ceilings l.queues l.positions ×
-    (sets l.initial.buffer 0 (replies_from (roster_of l.roster) (config_of l.roster l.initial.head l.initial.tasks l.initial.held l.ceilings l.initial.queues l.initial.positions) (inputs_of l.events)) ≡
+    (sets l.initial.buffer 0
+    (replies_from (roster_of l.roster)
+    (config_of l.roster l.initial.head l.initial.tasks l.initial.held l.ceilings l.initial.queues l.initial.positions)
+    (inputs_of l.events)) ≡
     sets l.buffer (reply_size * l.i)
-    (replies_from (roster_of l.roster) (config_of l.roster l.head l.tasks l.held l.ceilings l.queues l.positions) (drop l.i (inputs_of l.events))))
+    (replies_from (roster_of l.roster) (config_of l.roster l.head l.tasks l.held l.ceilings l.queues l.positions)
+    (drop l.i (inputs_of l.events))))
 
 abbrev pub decreases-loop-i : goal.decreases-loop-i
 decreases-loop-i l = l.n - l.i

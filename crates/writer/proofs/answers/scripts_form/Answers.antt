@@ -80,4 +80,5 @@ pub returns : goal.returns
 unfolding lent_scripts_form
 returns c =
     let p = parts c.args.bases.now c.args.ceilings.now c.args.lengths.now c.args.steps.now in
-    turns-pass (lent_script_form p) _ _ _ (lengths-known p c.requires.steps_value).0 c.loop-t.invariant.0 c.loop-t-test.false c.loop-t.invariant.2
+    turns-pass (lent_script_form p) _ _ _ (lengths-known p c.requires.steps_value).0 c.loop-t.invariant.0 c.loop-t-test.false
+    c.loop-t.invariant.2

@@ -10,7 +10,8 @@ use Rattle.writer.proofs.answers.scripts_form.Given as goal
 
 abbrev pub invariant-loop-t : goal.invariant-loop-t
 invariant-loop-t l =
-    (l.t ≤ length l.lengths) × (l.start ≡ bytes_before l.lengths l.t) × (first l.t (lent_script_form (parts l.bases l.ceilings l.lengths l.steps)) ≡ Passed)
+    (l.t ≤ length l.lengths) × (l.start ≡ bytes_before l.lengths l.t) ×
+    (first l.t (lent_script_form (parts l.bases l.ceilings l.lengths l.steps)) ≡ Passed)
 
 abbrev pub decreases-loop-t : goal.decreases-loop-t
 decreases-loop-t l = length l.lengths - l.t

@@ -8,7 +8,8 @@ use Rattle.writer.proofs.tables.write_tasks.Given as goal
 
 abbrev pub invariant-loop-t : goal.invariant-loop-t
 invariant-loop-t l =
-    (l.t ≤ l.n) × (l.start ≡ bytes_before l.lengths l.t) × (l.table ≡ over_front (pieces l.t (task_row_bytes l.bases l.lengths)) l.initial.table) ×
+    (l.t ≤ l.n) × (l.start ≡ bytes_before l.lengths l.t) ×
+    (l.table ≡ over_front (pieces l.t (task_row_bytes l.bases l.lengths)) l.initial.table) ×
     (length l.table ≡ length l.initial.table)
 
 abbrev pub decreases-loop-t : goal.decreases-loop-t

@@ -49,7 +49,8 @@ write_tasks-requires c =
       bases_len_bound = k.counts.tasks;
       lengths_len = k.each;
       bases_bound = omega (arith, k.whole, small _ c.args.out.now c.requires);
-      bases_in_bounds = simp (length-take, length-drop) (omega (arith, fits _ c.args.out.now c.requires, scripts-count _ _ c.requires _ [] one));
+      bases_in_bounds =
+          simp (length-take, length-drop) (omega (arith, fits _ c.args.out.now c.requires, scripts-count _ _ c.requires _ [] one));
     }
 
 pub slice_bounds-write_objects-count : goal.slice_bounds-write_objects-count
@@ -73,7 +74,8 @@ write_objects-requires c =
     let two = tasks-written _ _ c.requires _ _ c.write_scripts.ensures c.write_tasks.ensures in
     record {
       ceilings_len_bound = k.counts.objects;
-      ceilings_in_bounds = simp (length-take, length-drop) (omega (arith, fits _ c.args.out.now c.requires, tasks-count _ _ c.requires _ [] two));
+      ceilings_in_bounds =
+          simp (length-take, length-drop) (omega (arith, fits _ c.args.out.now c.requires, tasks-count _ _ c.requires _ [] two));
     }
 
 pub overflow_cast-n : goal.overflow_cast-n
