@@ -10,6 +10,8 @@ use lib.Dec.{eqb}
 use lib.ListN.{length, get_or, length-append, get_or-append}
 use lib.Seq.{get_or_at}
 use Rattle.rules.specs.Limits.{task_limit, first_priority, last_priority}
+use Rattle.std.specs.Prelude.{None, Some, Ok}
+use Rattle.rules.specs.Kinds.{kind_of}
 use Rattle.rules.specs.Priorities.{in_range}
 use Rattle.rules.specs.Model.{Model, task_at, queue, active}
 use Rattle.rules.specs.Moves.{highest, head_of}
@@ -26,14 +28,13 @@ use Rattle.rules.proofs.PriorityLaws.{bounds-in}
 use Rattle.rules.proofs.SoundLaws.{sound-is, one_less, under-highest}
 use Rattle.rules.proofs.Soundness.{sound-good}
 use Rattle.board.specs.declared.Row.{Row}
-use Rattle.board.specs.declared.NextAnswer.{NextAnswer}
 use Rattle.board.specs.Rows.{row_limit, is_ready_kind, no_row, row_at, told_of}
 use Rattle.board.specs.Next.{priority_at, position_at, ReadyRow, Before}
 use Rattle.board.specs.Next.Before.{higher, earlier, lower}
 use Rattle.board.specs.Next.Answers.{named, none}
 use Rattle.board.specs.Scan.{next_of}
 use Rattle.memory.specs.Rows.{place_in}
-use Rattle.board.specs.Fill.{kind_of, queue_position, row_of, rows_to, rows_of}
+use Rattle.board.specs.Fill.{queue_position, row_of, rows_to, rows_of}
 use Rattle.board.proofs.NextLaws.{next-only}
 
 -- ---- how many stand before a task in a queue
@@ -268,7 +269,7 @@ module _ (m : Model) (good : sound m ≡ true) where
         ap (λ (i : ℕ). get_or (queue m (active m j)) i 0) first ∙ ap (λ (q : ℕ). get_or (queue m q) 0 0) level in
         omega arith
 
-    pub filled_next : next_of rows ≡ told_of (NextAnswer.Row head)
+    pub filled_next : next_of rows ≡ told_of (Ok (Some head))
     filled_next = next-only rows _ (named few row-in-range head (record { ready = head-row; first = head-best }))
 
   -- a task that is ready makes some queue the highest
@@ -278,11 +279,11 @@ module _ (m : Model) (good : sound m ≡ true) where
       omega (arith, under t (ready-row t g (ap (λ (x : Place). is_ready_kind (kind_of x)) e)))
 
   -- a board just filled, with a ready task: it names the head of the highest queue
-  pub filled-ready : (t : ℕ) → t < count → (task_at m t).place ≡ Ready → next_of rows ≡ told_of (NextAnswer.Row (head_of m (highest m)))
+  pub filled-ready : (t : ℕ) → t < count → (task_at m t).place ≡ Ready → next_of rows ≡ told_of (Ok (Some (head_of m (highest m))))
   filled-ready t g e = filled_next (some-queue t g e)
 
   -- without one, nobody
-  pub filled-nobody : highest m ≡ 0 → next_of rows ≡ told_of NextAnswer.Nobody
+  pub filled-nobody : highest m ≡ 0 → next_of rows ≡ told_of (Ok None)
   filled-nobody e = next-only rows _ (none few row-in-range (λ t r.
       let low : first_priority ≤ active m t = act-low m task_limit (sound-good m good).pending.core t (at_row t r.there).0 in
       omega (arith, under t r)))

@@ -1,25 +1,23 @@
 -- The scan finds what Next says: its answer is one that the words of document 01 give, and they give no other.
 use mathlib.Core.Path.{◌≡◌, refl, sym, ap, ◌∙◌, subst}
-use mathlib.Core.Bool.{Bool, true, false, not, ◌||◌}
+use mathlib.Core.Bool.{Bool, true, false, ◌&&◌}
 use mathlib.Core.List.{List}
 use Prim.Native.Nat.{ℕ, zero, suc, ◌≤◌, ◌<◌}
 use native.Mathlib.Nat.{not-suc-le-zero}
 use native.Mathlib.Omega.{arith}
-use borrow.Author.Tests.{lt-ltb, ltb-true, not-true, not-false}
-use lib.Dec.{ltb}
 use lib.ListN.{length}
+use Rattle.std.specs.Prelude.{None, Option, Some, Ok, option_map}
+use Rattle.rules.specs.Lists.{below}
 use Rattle.rules.specs.Priorities.{in_range}
-use Rattle.rules.proofs.Choices.{split, compare, clash, or_right, or-none-left, or-none-right}
+use Rattle.rules.proofs.Choices.{split, compare, clash, both_ways, and_left, and_right, and-make}
+use Rattle.rules.proofs.SoundLaws.{below_at}
 use Rattle.board.specs.declared.Row.{Row}
-use Rattle.board.specs.declared.scan.Best.{Best}
-use Rattle.board.specs.declared.NextAnswer.{NextAnswer}
 use Rattle.board.specs.Rows.{row_limit, is_ready_kind, row_at, Told, told_of}
-use Rattle.board.specs.Next.{priority_at, position_at, Before, NextRow, Answers}
+use Rattle.board.specs.Next.{priority_at, position_at, BadRow, Before, NextRow, Answers}
 use Rattle.board.specs.Next.Before.{higher, earlier, lower}
 use Rattle.board.specs.Next.Answers.{too_many, bad, named, none}
-use Rattle.board.specs.Scan.{ahead_of, better_of, best_of, concluded, next_of}
-use Rattle.board.proofs.ScanLaws.{ahead-unready, ahead-alone, ahead-equal, ahead-other, better-new, better-old}
-use Rattle.board.proofs.ScanLaws.{looked-all, finish-many, finish-bad, finish-row, finish-nobody}
+use Rattle.board.specs.Scan.{precedes_of, leads_of, best_of, ranged, next_of}
+use Rattle.board.proofs.ScanLaws.{scan_many, scan_bad, scan_good, ranged_none, precedes_before, before_precedes}
 
 -- ---- the order of rows: strict and total
 module _ (rows : List Row) where
@@ -56,188 +54,106 @@ module _ (rows : List Row) where
   next_one i j x y =
       split i j (λ e. e) (λ n. absurd (before-total i j n (y.first i x.ready) (x.first j y.ready)))
 
--- ---- what a row that goes ahead of the best so far is to it
-module _ (rows : List Row) (b : Best) (n k : ℕ) (at-k : b.row ≡ row_at rows k) where
-  ready-k : is_ready_kind (row_at rows k).kind ≡ is_ready_kind b.row.kind
-  ready-k = ap (λ (r : Row). is_ready_kind r.kind) (sym at-k)
+-- ---- the best of the first n rows: of none that is ready, or the first of them
+pub record Leads (rows : List Row) (n i : ℕ) : Type 0 where
+  pub low : i < n
+  pub ready : is_ready_kind (row_at rows i).kind ≡ true
+  pub first : (j : ℕ) → j < n → is_ready_kind (row_at rows j).kind ≡ true → Before rows j i → ⊥
 
-  priority-k : b.row.priority.0 ≡ priority_at rows k
-  priority-k = ap (λ (r : Row). r.priority.0) at-k
+abbrev pub Best : List Row → ℕ → Option (ℕ × Row) → Type 0
+Best rows n None = (j : ℕ) → j < n → is_ready_kind (row_at rows j).kind ≡ true → ⊥
+Best rows n (Some b) = Leads rows n b.0 × (b.1 ≡ row_at rows b.0)
 
-  position-k : b.row.position ≡ position_at rows k
-  position-k = ap (λ (r : Row). r.position) at-k
-
-  module _ (rn : is_ready_kind (row_at rows n).kind ≡ true) (rb : is_ready_kind b.row.kind ≡ true) where
-    ahead_before : ahead_of (row_at rows n) b.row ≡ true → Before rows n k
-    ahead_before e = split (priority_at rows n) b.row.priority.0 level other
-      where
-        level : priority_at rows n ≡ b.row.priority.0 → Before rows n k
-        level s =
-            let h : ltb (position_at rows n) b.row.position ≡ true = sym (ahead-equal (row_at rows n) b.row rn rb s) ∙ e in
-            earlier (s ∙ priority-k) (omega (arith, position-k, ltb-true (position_at rows n) b.row.position h))
-
-        other : (priority_at rows n ≡ b.row.priority.0 → ⊥) → Before rows n k
-        other o =
-            let h : ltb b.row.priority.0 (priority_at rows n) ≡ true = sym (ahead-other (row_at rows n) b.row rn rb o) ∙ e in
-            higher (omega (arith, priority-k, ltb-true b.row.priority.0 (priority_at rows n) h))
-
-    before-ahead : k < n → ahead_of (row_at rows n) b.row ≡ false → Before rows n k → ⊥
-    before-ahead g e (higher h) =
-        let above : b.row.priority.0 < priority_at rows n = omega (arith, priority-k) in
-        let o : priority_at rows n ≡ b.row.priority.0 → ⊥ = λ s. omega arith in
-        clash (sym (ahead-other (row_at rows n) b.row rn rb o ∙ lt-ltb _ _ above) ∙ e)
-    before-ahead g e (earlier s h) =
-        let lower : position_at rows n < b.row.position = omega (arith, position-k) in
-        clash (sym (ahead-equal (row_at rows n) b.row rn rb (s ∙ sym priority-k) ∙ lt-ltb _ _ lower) ∙ e)
-    before-ahead g e (lower s p h) = omega arith
-
--- ---- the best of the first n rows
-pub record Leads (rows : List Row) (n : ℕ) (b : Best) : Type 0 where
-  pub low : is_ready_kind b.row.kind ≡ true → b.number < n
-  pub at : is_ready_kind b.row.kind ≡ true → b.row ≡ row_at rows b.number
-  pub some : (j : ℕ) → j < n → is_ready_kind (row_at rows j).kind ≡ true → is_ready_kind b.row.kind ≡ true
-  pub first : (j : ℕ) → j < n → is_ready_kind (row_at rows j).kind ≡ true → Before rows j b.number → ⊥
-
-module _ (rows : List Row) (n : ℕ) (b : Best) (l : Leads rows n b) where
+module _ (rows : List Row) (n : ℕ) where
   abbrev r : Row
   r = row_at rows n
 
-  -- row n goes ahead
-  leads-new : ahead_of r b.row ≡ true → (x : Bool) → Leads rows (suc n) (record { bad = x; number = n; row = r })
-  leads-new e x = record {
-    low = λ f. omega arith;
-    at = λ f. refl;
-    some = λ j h f. is-ready;
-    first = λ j h f g. split j n (λ s. before-not-self rows n (subst (λ (i : ℕ). Before rows i n) s g))
-        (λ o. behind j (omega (arith, o)) f g);
-  }
-    where
-      is-ready : is_ready_kind r.kind ≡ true
-      is-ready = go (is_ready_kind r.kind) refl
-        where
-          go : (y : Bool) → is_ready_kind r.kind ≡ y → is_ready_kind r.kind ≡ true
-          go true f = f
-          go false f = clash (sym e ∙ ahead-unready r b.row f)
-
-      behind : (j : ℕ) → j < n → is_ready_kind (row_at rows j).kind ≡ true → Before rows j n → ⊥
-      behind j h f g =
-          let rb : is_ready_kind b.row.kind ≡ true = l.some j h f in
-          l.first j h f (before-trans rows j n b.number g (ahead_before rows b n b.number (l.at rb) is-ready rb e))
+  -- row n leads
+  best_new : (o : Option (ℕ × Row)) → Best rows n o → leads_of r o ≡ true → Best rows (suc n) (Some (n, r))
+  best_new None h e = (
+    record {
+      low = omega arith;
+      ready = e;
+      first = λ j k f g. split j n (λ s. before-not-self rows n (subst (λ (i : ℕ). Before rows i n) s g)) (λ o. h j (omega (arith, o)) f);
+    },
+    refl,
+  )
+  best_new (Some b) h e =
+      let ahead : precedes_of r (row_at rows b.0) ≡ true = ap (precedes_of r) (sym h.1) ∙
+      and_right (is_ready_kind r.kind) (precedes_of r b.1) e in (
+        record {
+          low = omega arith;
+          ready = and_left (is_ready_kind r.kind) (precedes_of r b.1) e;
+          first = λ j k f g. split j n (λ s. before-not-self rows n (subst (λ (i : ℕ). Before rows i n) s g))
+              (λ o. h.0.first j (omega (arith, o)) f (before-trans rows j n b.0 g (precedes_before rows n b.0 ahead)));
+        },
+        refl,
+      )
 
   -- or it does not
-  leads-old : ahead_of r b.row ≡ false → (x : Bool) → Leads rows (suc n) (record { bad = x; number = b.number; row = b.row })
-  leads-old e x = record {
-    low = λ f. omega (arith, l.low f);
-    at = l.at;
-    some = λ j h f. split j n (λ s. other (ready-n j s f)) (λ o. l.some j (omega (arith, o)) f);
-    first = λ j h f g. split j n (λ s. worse (ready-n j s f) (subst (λ (i : ℕ). Before rows i b.number) s g))
-        (λ o. l.first j (omega (arith, o)) f g);
-  }
-    where
-      ready-n : (j : ℕ) → j ≡ n → is_ready_kind (row_at rows j).kind ≡ true → is_ready_kind r.kind ≡ true
-      ready-n j s f = ap (λ (i : ℕ). is_ready_kind (row_at rows i).kind) (sym s) ∙ f
+  best_old : (o : Option (ℕ × Row)) → Best rows n o → leads_of r o ≡ false → Best rows (suc n) o
+  best_old None h e =
+      λ j k f. split j n (λ s. clash (sym (ap (λ (i : ℕ). is_ready_kind (row_at rows i).kind) (sym s) ∙ f) ∙ e))
+      (λ o. h j (omega (arith, o)) f)
+  best_old (Some b) h e = (
+    record {
+      low = omega (arith, h.0.low);
+      ready = h.0.ready;
+      first = λ j k f g. split j n
+          (λ s.
+          let ready : is_ready_kind r.kind ≡ true = ap (λ (i : ℕ). is_ready_kind (row_at rows i).kind) (sym s) ∙ f in
+          let before : Before rows n b.0 = subst (λ (i : ℕ). Before rows i b.0) s g in
+          let ahead : precedes_of r b.1 ≡ true = ap (precedes_of r) h.1 ∙ before_precedes rows n b.0 h.0.low before in
+          clash (sym (and-make _ _ ready ahead) ∙ e))
+          (λ o. h.0.first j (omega (arith, o)) f g);
+    },
+    h.1,
+  )
 
-      other : is_ready_kind r.kind ≡ true → is_ready_kind b.row.kind ≡ true
-      other f = go (is_ready_kind b.row.kind) refl
-        where
-          go : (y : Bool) → is_ready_kind b.row.kind ≡ y → is_ready_kind b.row.kind ≡ true
-          go true g = g
-          go false g = clash (sym (ahead-alone r b.row f g) ∙ e)
-
-      worse : is_ready_kind r.kind ≡ true → Before rows n b.number → ⊥
-      worse f g = let rb = other f in before-ahead rows b n b.number (l.at rb) f rb (l.low rb) e g
-
-  leads-step : Leads rows (suc n) (better_of b n r)
-  leads-step = go (ahead_of r b.row) refl
-    where
-      go : (y : Bool) → ahead_of r b.row ≡ y → Leads rows (suc n) (better_of b n r)
-      go true e = subst (Leads rows (suc n)) (sym (better-new b n r e)) (leads-new e _)
-      go false e = subst (Leads rows (suc n)) (sym (better-old b n r e)) (leads-old e _)
-
-pub best-leads : (rows : List Row) (n : ℕ) → Leads rows n (best_of rows n)
-best-leads rows zero = record {
-  low = λ f. clash (sym f);
-  at = λ f. clash (sym f);
-  some = λ j h f. absurd (not-suc-le-zero h);
-  first = λ j h f g. not-suc-le-zero h;
-}
-best-leads rows (suc n) = leads-step rows n (best_of rows n) (best-leads rows n)
+pub best_is : (rows : List Row) (n : ℕ) → Best rows n (best_of rows n)
+best_is rows zero = λ j h f. absurd (not-suc-le-zero h)
+best_is rows (suc n) =
+    let h : Best rows n (best_of rows n) = best_is rows n in
+    both_ways (Best rows (suc n)) (leads_of (row_at rows n) (best_of rows n)) _ _
+    (best_new rows n (best_of rows n) h) (best_old rows n (best_of rows n) h)
 
 -- ---- a priority out of range
-better-bad : (b : Best) (i : ℕ) (r : Row) → (better_of b i r).bad ≡ (b.bad || not (in_range r.priority.0))
-better-bad b i r = go (ahead_of r b.row) refl
+pub bad_some : (rows : List Row) (n : ℕ) → n ≤ length rows → ranged rows n ≡ false → BadRow rows
+unfolding below
+bad_some rows zero h e = clash (sym (ranged_none rows) ∙ e)
+bad_some rows (suc n) h e = go (ranged rows n) (in_range (priority_at rows n)) refl refl e (bad_some rows n (omega arith))
   where
-    go : (y : Bool) → ahead_of r b.row ≡ y → (better_of b i r).bad ≡ (b.bad || not (in_range r.priority.0))
-    go true e = ap (λ (x : Best). x.bad) (better-new b i r e)
-    go false e = ap (λ (x : Best). x.bad) (better-old b i r e)
-
-pub bad-none : (rows : List Row) (n : ℕ) → (best_of rows n).bad ≡ false → (i : ℕ) → i < n → in_range (priority_at rows i) ≡ true
-bad-none rows zero e i h = absurd (not-suc-le-zero h)
-bad-none rows (suc n) e i h =
-    split i n (λ s. ap (λ (j : ℕ). in_range (priority_at rows j)) s ∙ not-false _ (or-none-right (best_of rows n).bad _ f))
-    (λ o. bad-none rows n (or-none-left (best_of rows n).bad _ f) i (omega (arith, o)))
-  where
-    f : ((best_of rows n).bad || not (in_range (priority_at rows n))) ≡ false
-    f = sym (better-bad (best_of rows n) n (row_at rows n)) ∙ e
-
-pub record BadBelow (rows : List Row) (n : ℕ) : Type 0 where
-  pub at : ℕ
-  pub low : at < n
-  pub bad : in_range (priority_at rows at) ≡ false
-
-pub bad-some : (rows : List Row) (n : ℕ) → (best_of rows n).bad ≡ true → BadBelow rows n
-bad-some rows zero e = clash (sym e)
-bad-some rows (suc n) e = go (best_of rows n).bad refl (bad-some rows n)
-  where
-    go : (y : Bool) → (best_of rows n).bad ≡ y → ((best_of rows n).bad ≡ true → BadBelow rows n) → BadBelow rows (suc n)
-    go true f k = let x = k f in record { at = x.at; low = omega (arith, x.low); bad = x.bad }
-    go false f k = record {
-      at = n;
-      low = omega arith;
-      bad = not-true _ (or_right (best_of rows n).bad _ f (sym (better-bad (best_of rows n) n (row_at rows n)) ∙ e));
-    }
+    go : (a b : Bool) → ranged rows n ≡ a → in_range (priority_at rows n) ≡ b → (a && b) ≡ false → (ranged rows n ≡ false → BadRow rows) →
+        BadRow rows
+    go false b f g k more = more f
+    go true false f g k more = record { at = n; there = omega arith; bad = g }
+    go true true f g k more = clash k
 
 -- ---- the answer
 module _ (rows : List Row) where
-  abbrev best : Best
-  best = best_of rows (length rows)
-
-  few : length rows ≤ row_limit → next_of rows ≡ told_of (concluded (length rows) best)
-  few h = ap (λ (k : ℕ). told_of (concluded (length rows) (best_of rows k))) (looked-all (length rows) h)
-
   -- the answer of the scan is one that Next gives
   pub next-is : Answers rows (next_of rows)
-  next-is = compare (length rows) row_limit fewer many
+  next-is = compare (length rows) row_limit fewer (λ h. subst (Answers rows) (sym (ap told_of (scan_many rows h))) (too_many h))
     where
-      many : row_limit < length rows → Answers rows (next_of rows)
-      many h = subst (Answers rows) (sym (ap told_of (finish-many (length rows) _ h))) (too_many h)
-
-      ranked : length rows ≤ row_limit → best.bad ≡ false → Answers rows (next_of rows)
-      ranked h f = go (is_ready_kind best.row.kind) refl
-        where
-          l : Leads rows (length rows) best
-          l = best-leads rows (length rows)
-
-          go : (y : Bool) → is_ready_kind best.row.kind ≡ y → Answers rows (next_of rows)
-          go true g =
-              subst (Answers rows) (sym (few h ∙ ap told_of (finish-row (length rows) best h f g)))
-              (named h (bad-none rows (length rows) f) best.number (record {
-                ready = record { there = l.low g; ready = ap (λ (r : Row). is_ready_kind r.kind) (sym (l.at g)) ∙ g };
-                first = λ j r. l.first j r.there r.ready;
-              }))
-          go false g =
-              subst (Answers rows) (sym (few h ∙ ap told_of (finish-nobody (length rows) best h f g)))
-              (none h (bad-none rows (length rows) f) (λ j r. clash (sym (l.some j r.there r.ready) ∙ g)))
+      ranked : length rows ≤ row_limit → ranged rows (length rows) ≡ true → (o : Option (ℕ × Row)) → Best rows (length rows) o →
+          Answers rows (told_of (Ok (option_map (λ b. b.0) o)))
+      ranked h f None best =
+          none h (below_at (length rows) (λ i. in_range (priority_at rows i)) f) (λ j r. best j r.there r.ready)
+      ranked h f (Some b) best =
+          named h (below_at (length rows) (λ i. in_range (priority_at rows i)) f) b.0 (record {
+            ready = record { there = best.0.low; ready = best.0.ready };
+            first = λ j r. best.0.first j r.there r.ready;
+          })
 
       fewer : length rows ≤ row_limit → Answers rows (next_of rows)
-      fewer h = go best.bad refl
+      fewer h = go (ranged rows (length rows)) refl
         where
-          go : (y : Bool) → best.bad ≡ y → Answers rows (next_of rows)
+          go : (y : Bool) → ranged rows (length rows) ≡ y → Answers rows (next_of rows)
           go true f =
-              let x = bad-some rows (length rows) f in
-              subst (Answers rows) (sym (few h ∙ ap told_of (finish-bad (length rows) best h f)))
-              (bad h (record { at = x.at; there = x.low; bad = x.bad }))
-          go false f = ranked h f
+              subst (Answers rows) (sym (ap told_of (scan_good rows h f)))
+              (ranked h f (best_of rows (length rows)) (best_is rows (length rows)))
+          go false f =
+              subst (Answers rows) (sym (ap told_of (scan_bad rows h f))) (bad h (bad_some rows (length rows) (omega arith) f))
 
   -- and Next gives no two
   one_answer : (a c : Told) → Answers rows a → Answers rows c → a ≡ c
@@ -251,7 +167,7 @@ module _ (rows : List Row) where
   one_answer a c (bad h x) (none g y z) = clash (sym (y x.at x.there) ∙ x.bad)
   one_answer a c (named h x i y) (too_many g) = absurd (omega arith)
   one_answer a c (named h x i y) (bad g z) = clash (sym (x z.at z.there) ∙ z.bad)
-  one_answer a c (named h x i y) (named g z j w) = ap (λ (k : ℕ). told_of (NextAnswer.Row k)) (next_one rows i j y w)
+  one_answer a c (named h x i y) (named g z j w) = ap (λ (k : ℕ). told_of (Ok (Some k))) (next_one rows i j y w)
   one_answer a c (named h x i y) (none g z w) = absurd (w i y.ready)
   one_answer a c (none h x y) (too_many g) = absurd (omega arith)
   one_answer a c (none h x y) (bad g z) = clash (sym (x z.at z.there) ∙ z.bad)

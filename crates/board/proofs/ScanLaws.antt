@@ -1,91 +1,78 @@
--- Laws of the scan's steps: which case of each definition holds, by the tests that led there.
-use mathlib.Core.Path.{◌≡◌, ap, ◌∙◌}
-use mathlib.Core.Bool.{true, false, cond, not, ◌||◌}
+-- Laws of the scan's steps: which answer is given, and what a row that leads is to the best so far.
+use mathlib.Core.Path.{◌≡◌, refl, sym, ◌∙◌}
+use mathlib.Core.Bool.{Bool, true, false, cond, ◌&&◌, ◌||◌}
 use mathlib.Core.List.{List}
-use Prim.Native.Nat.{ℕ, ◌≤◌, ◌<◌}
-use borrow.Author.Tests.{eq-eqb, ne_eqb, lt-ltb, le-ltb}
-use lib.Dec.{eqb, ltb}
-use lib.ListN.{take}
+use Prim.Native.Nat.{ℕ, ◌+◌, ◌≤◌, ◌<◌}
+use native.Mathlib.Omega.{arith}
+use borrow.Author.Tests.{lt-ltb, le-ltb, eq-eqb, ltb-true, eqb-true}
+use lib.Dec.{ltb, eqb}
+use lib.ListN.{length}
+use Rattle.std.proofs.Common.{add-one}
+use Rattle.std.specs.Prelude.{Some, Ok, Err, option_map}
+use Rattle.rules.specs.Lists.{below}
 use Rattle.rules.specs.Priorities.{in_range}
-use Rattle.rules.proofs.Choices.{cond-true, cond-false}
+use Rattle.rules.proofs.Choices.{clash, cond-true, cond-false, and-make, or-first, or-second}
+use Rattle.rules.proofs.SoundLaws.{below_at}
 use Rattle.board.specs.declared.Row.{Row}
-use Rattle.board.specs.declared.scan.Best.{Best}
-use Rattle.board.specs.declared.NextAnswer.{NextAnswer}
-use Rattle.board.specs.Rows.{row_limit, is_ready_kind, told_of}
-use Rattle.board.specs.Scan.{ahead_of, better_of, looked_of, concluded, next_of, next_first_of}
-
--- a later row against the best so far: not ready; against nobody; of the same priority; of another
-module _ (a b : Row) where
-  pub ahead-unready : is_ready_kind a.kind ≡ false → ahead_of a b ≡ false
-  unfolding ahead_of
-  ahead-unready e = cond-true (not (is_ready_kind a.kind)) false _ (ap not e)
-
-  pub ahead-alone : is_ready_kind a.kind ≡ true → is_ready_kind b.kind ≡ false → ahead_of a b ≡ true
-  unfolding ahead_of
-  ahead-alone e f =
-      cond-false (not (is_ready_kind a.kind)) false _ (ap not e) ∙ cond-true (not (is_ready_kind b.kind)) true _ (ap not f)
-
-  ahead-both : is_ready_kind a.kind ≡ true → is_ready_kind b.kind ≡ true →
-      ahead_of a b ≡
-      cond (eqb a.priority.0 b.priority.0) (ltb a.position b.position) (ltb b.priority.0 a.priority.0)
-  unfolding ahead_of
-  ahead-both e f =
-      cond-false (not (is_ready_kind a.kind)) false _ (ap not e) ∙ cond-false (not (is_ready_kind b.kind)) true _ (ap not f)
-
-  pub ahead-equal : is_ready_kind a.kind ≡ true → is_ready_kind b.kind ≡ true → a.priority.0 ≡ b.priority.0 →
-      ahead_of a b ≡ ltb a.position b.position
-  ahead-equal e f s = ahead-both e f ∙ cond-true (eqb a.priority.0 b.priority.0) _ _ (eq-eqb _ _ s)
-
-  pub ahead-other : is_ready_kind a.kind ≡ true → is_ready_kind b.kind ≡ true → (a.priority.0 ≡ b.priority.0 → ⊥) →
-      ahead_of a b ≡ ltb b.priority.0 a.priority.0
-  ahead-other e f n = ahead-both e f ∙ cond-false (eqb a.priority.0 b.priority.0) _ _ (ne_eqb _ _ n)
-
--- the best so far, with row i: replaced, or kept
-module _ (b : Best) (i : ℕ) (r : Row) where
-  pub better-new : ahead_of r b.row ≡ true →
-      better_of b i r ≡ record { bad = b.bad || not (in_range r.priority.0); number = i; row = r }
-  unfolding better_of
-  better-new e = cond-true (ahead_of r b.row) _ _ e
-
-  pub better-old : ahead_of r b.row ≡ false →
-      better_of b i r ≡ record { bad = b.bad || not (in_range r.priority.0); number = b.number; row = b.row }
-  unfolding better_of
-  better-old e = cond-false (ahead_of r b.row) _ _ e
-
--- how many rows are looked at
-pub looked-none : (n : ℕ) → row_limit < n → looked_of n ≡ 0
-looked-none n h = cond-true (ltb row_limit n) 0 n (lt-ltb row_limit n h)
-
-pub looked-all : (n : ℕ) → n ≤ row_limit → looked_of n ≡ n
-looked-all n h = cond-false (ltb row_limit n) 0 n (le-ltb row_limit n h)
+use Rattle.board.specs.declared.NextError.TheVariants.{TooManyRows, BadPriority}
+use Rattle.board.specs.Rows.{row_limit, row_at}
+use Rattle.board.specs.Next.{priority_at, position_at, Before}
+use Rattle.board.specs.Next.Before.{higher, earlier, lower}
+use Rattle.board.specs.Scan.{precedes_of, leads_of, best_of, ranged, scan_of}
 
 -- the answer, by the tests in their order
-module _ (n : ℕ) (b : Best) where
-  pub finish-many : row_limit < n → concluded n b ≡ NextAnswer.TooManyRows
-  unfolding concluded
-  finish-many h = cond-true (ltb row_limit n) NextAnswer.TooManyRows _ (lt-ltb row_limit n h)
+module _ (rows : List Row) where
+  pub scan_many : row_limit < length rows → scan_of rows ≡ Err TooManyRows
+  unfolding scan_of
+  scan_many h = cond-true (ltb row_limit (length rows)) _ _ (lt-ltb row_limit (length rows) h)
 
-  module _ (h : n ≤ row_limit) where
-    pub finish-bad : b.bad ≡ true → concluded n b ≡ NextAnswer.BadPriority
-    unfolding concluded
-    finish-bad e =
-        cond-false (ltb row_limit n) NextAnswer.TooManyRows _ (le-ltb row_limit n h) ∙ cond-true b.bad NextAnswer.BadPriority _ e
+  module _ (h : length rows ≤ row_limit) where
+    pub scan_bad : ranged rows (length rows) ≡ false → scan_of rows ≡ Err BadPriority
+    unfolding scan_of
+    scan_bad e =
+        cond-false (ltb row_limit (length rows)) _ _ (le-ltb row_limit (length rows) h) ∙ cond-false (ranged rows (length rows)) _ _ e
 
-    finish-good : b.bad ≡ false →
-        concluded n b ≡ cond (is_ready_kind b.row.kind) (NextAnswer.Row b.number) NextAnswer.Nobody
-    unfolding concluded
-    finish-good e =
-        cond-false (ltb row_limit n) NextAnswer.TooManyRows _ (le-ltb row_limit n h) ∙ cond-false b.bad NextAnswer.BadPriority _ e
+    pub scan_good : ranged rows (length rows) ≡ true → scan_of rows ≡ Ok (option_map (λ b. b.0) (best_of rows (length rows)))
+    unfolding scan_of
+    scan_good e =
+        cond-false (ltb row_limit (length rows)) _ _ (le-ltb row_limit (length rows) h) ∙ cond-true (ranged rows (length rows)) _ _ e
 
-    pub finish-row : b.bad ≡ false → is_ready_kind b.row.kind ≡ true → concluded n b ≡ NextAnswer.Row b.number
-    finish-row e f = finish-good e ∙ cond-true (is_ready_kind b.row.kind) (NextAnswer.Row b.number) NextAnswer.Nobody f
+  -- the rows so far are in range: none, and one more
+  pub ranged_none : ranged rows 0 ≡ true
+  unfolding below
+  ranged_none = refl
 
-    pub finish-nobody : b.bad ≡ false → is_ready_kind b.row.kind ≡ false → concluded n b ≡ NextAnswer.Nobody
-    finish-nobody e f = finish-good e ∙ cond-false (is_ready_kind b.row.kind) (NextAnswer.Row b.number) NextAnswer.Nobody f
+  pub ranged_more : (n : ℕ) → ranged rows n ≡ true → in_range (priority_at rows n) ≡ true → ranged rows (n + 1) ≡ true
+  unfolding below
+  ranged_more n e f = rw add-one (and-make _ _ e f)
 
--- the first rows of an array
-pub first-many : (rows : List Row) (count : ℕ) → row_limit < count → next_first_of rows count ≡ told_of NextAnswer.TooManyRows
-first-many rows count h = cond-true (ltb row_limit count) (told_of NextAnswer.TooManyRows) _ (lt-ltb row_limit count h)
+  pub best_more : (n : ℕ) →
+      best_of rows (n + 1) ≡ cond (leads_of (row_at rows n) (best_of rows n)) (Some (n, row_at rows n)) (best_of rows n)
+  best_more n = rw add-one refl
 
-pub first-few : (rows : List Row) (count : ℕ) → count ≤ row_limit → next_first_of rows count ≡ next_of (take count rows)
-first-few rows count h = cond-false (ltb row_limit count) (told_of NextAnswer.TooManyRows) _ (le-ltb row_limit count h)
+  -- one priority out of range is enough
+  pub ranged_not : (n i : ℕ) → i < n → in_range (priority_at rows i) ≡ false → ranged rows n ≡ false
+  ranged_not n i h e = go (ranged rows n) refl
+    where
+      go : (y : Bool) → ranged rows n ≡ y → ranged rows n ≡ false
+      go true f = clash (sym (below_at n (λ j. in_range (priority_at rows j)) f i h) ∙ e)
+      go false f = f
+
+-- a later row goes ahead of an earlier one just where it comes before it
+module _ (rows : List Row) (i j : ℕ) where
+  pub precedes_before : precedes_of (row_at rows i) (row_at rows j) ≡ true → Before rows i j
+  precedes_before e =
+      go (ltb (priority_at rows j) (priority_at rows i)) (eqb (priority_at rows i) (priority_at rows j))
+      (ltb (position_at rows i) (position_at rows j)) refl refl refl e
+    where
+      go : (a b c : Bool) → ltb (priority_at rows j) (priority_at rows i) ≡ a → eqb (priority_at rows i) (priority_at rows j) ≡ b →
+          ltb (position_at rows i) (position_at rows j) ≡ c → (a || (b && c)) ≡ true → Before rows i j
+      go true b c f g h k = higher (ltb-true _ _ f)
+      go false true true f g h k = earlier (eqb-true _ _ g) (ltb-true _ _ h)
+      go false true false f g h k = clash (sym k)
+      go false false c f g h k = clash (sym k)
+
+  pub before_precedes : j < i → Before rows i j → precedes_of (row_at rows i) (row_at rows j) ≡ true
+  before_precedes g (higher h) = or-first _ _ (lt-ltb _ _ h)
+  before_precedes g (earlier s h) = or-second (ltb (priority_at rows j) (priority_at rows i)) _ (and-make _ _ (eq-eqb _ _ s) (lt-ltb _ _ h))
+  before_precedes g (lower s p h) = absurd (omega arith)

@@ -1,62 +1,57 @@
--- Laws of reading a state for a board: how many tasks it has, positions in its queues, and the row of a task.
+-- Laws of reading a state for a board: positions in its queues, and the row of a task.
 use mathlib.Core.Path.{◌≡◌, refl, sym, ap, ◌∙◌}
 use mathlib.Core.Bool.{Bool, true, false, cond}
 use mathlib.Core.List.{List, [], ◌∷◌}
-use Prim.Native.Nat.{ℕ, suc, ◌+◌, ◌-◌, ◌*◌, ◌≤◌, ◌<◌}
+use Prim.Native.Nat.{ℕ, suc, ◌+◌, ◌-◌, ◌≤◌, ◌<◌}
+use native.Mathlib.Numerals.{add-one}
 use native.Mathlib.Omega.{arith}
-use borrow.Author.Tests.{le-ltb, ltb-false}
-use lib.Dec.{eqb}
-use lib.ListN.{length, get_or}
-use Rattle.rules.specs.Limits.{task_limit}
+use borrow.Author.Tests.{lt-ltb, eq-eqb, ne_eqb}
+use lib.Dec.{eqb, ltb}
+use lib.ListN.{length, drop, get_or, length-take, drop_of_length-le}
+use lib.Seq.{drop-cons}
+use Rattle.std.specs.Prelude.{None, Some}
+use Rattle.rules.specs.Limits.{task_limit, last_priority}
 use Rattle.rules.specs.Priorities.{in_range}
+use Rattle.rules.specs.Kinds.{kind_of}
 use Rattle.rules.specs.Model.{task_at, active}
+use Rattle.rules.specs.declared.PlaceKind.{PlaceKind}
 use Rattle.rules.specs.declared.Priority.{Priority}
 use Rattle.rules.specs.declared.Task.{Task}
-use Rattle.rules.proofs.Choices.{compare, cond-true}
+use Rattle.rules.proofs.Choices.{cond-true}
 use Rattle.rules.proofs.Core.{Core, act-low, act-high}
 use Rattle.rules.proofs.PriorityLaws.{in_bounds, bounds-in}
 use Rattle.rules.proofs.Soundness.{sound-good}
+use Rattle.memory.specs.Rows.{in_row, place_in, queue_width}
+use Rattle.loading.proofs.RowLaws.{part, part_length}
 use Rattle.dispatch.specs.State.{view}
 use Rattle.dispatch.specs.Sound.{sound_of}
 use Rattle.dispatch.specs.Readers.{entry_of, queue_of, task_record_of, active_priority_of}
-use Rattle.dispatch.proofs.Known.{Shaped}
 use Rattle.dispatch.specs.declared.State.{State}
-use Rattle.dispatch.specs.declared.Listed.TheVariants.{Number, Nothing}
-use Rattle.dispatch.proofs.ReaderLaws.{has-none, has_some, there, list-room, entry-there, queue-is, queue-none}
-use Rattle.board.specs.declared.PlaceKind.{PlaceKind}
+use Rattle.dispatch.proofs.Known.{Shaped}
+use Rattle.dispatch.proofs.MethodLaws.{view-sound}
+use Rattle.dispatch.proofs.ReaderLaws.{queue-is, queue-none}
 use Rattle.board.specs.declared.Row.{Row}
 use Rattle.board.specs.Rows.{is_ready_kind}
-use Rattle.memory.specs.Rows.{place_in}
-use Rattle.board.specs.Fill.{kind_of, queue_position, row_of}
-use Rattle.dispatch.proofs.MethodLaws.{view-sound}
+use Rattle.board.specs.Fill.{queue_position, row_of}
 
--- ---- how many tasks a state has: as many as it says, cut to the limit
-module _ (s : State) (known : Shaped s) where
-  abbrev count : ℕ
-  count = length (view s).tasks
+-- ---- a search of a queue from its head: nothing before i is x
+module _ (x i : ℕ) (l : List ℕ) (e : place_in x l ≡ i + place_in x (drop i l)) where
+  pub find-hit : i < length l → get_or l i 0 ≡ x → i ≡ place_in x l
+  unfolding place_in
+  find-hit h f = sym (e ∙ rw (drop-cons l i 0 h, eq-eqb (get_or l i 0) x f) (omega arith))
 
-  most : count ≤ task_limit
-  most = compare count task_limit (λ h. h) (λ h. absurd (omega (arith, there s known task_limit h)))
+  pub find-miss : i < length l → (get_or l i 0 ≡ x → ⊥) → place_in x l ≡ (i + 1) + place_in x (drop (i + 1) l)
+  unfolding place_in
+  find-miss h f = e ∙ rw (drop-cons l i 0 h, ne_eqb (get_or l i 0) x f, add-one) (omega arith)
 
-  said : count ≤ s.task_count
-  said = ltb-false s.task_count count (sym (has-none s known s.task_count (omega arith)))
+  pub find-end : length l ≤ i → i ≡ place_in x l
+  unfolding place_in
+  find-end h = sym (e ∙ rw (drop_of_length-le l {i = i} h) (omega arith))
 
-  -- below what it says, it is at the limit
-  least : count < s.task_count → task_limit ≤ count
-  least h = ltb-false count task_limit (has_some s known count h ∙ le-ltb count count (omega arith))
-
-  pub tasks-cut : task_limit < s.task_count → count ≡ task_limit
-  tasks-cut h = compare s.task_count count (λ g. absurd (omega (arith, most))) (λ g. omega (arith, most, least g))
-
-  pub tasks-all : s.task_count ≤ task_limit → count ≡ s.task_count
-  tasks-all h = compare s.task_count count (λ g. omega (arith, said)) (λ g. absurd (omega (arith, least g)))
-
--- ---- an entry of a queue
-pub entry-is : (q : List ℕ) (i t u : ℕ) → i < length q → entry_of q i ≡ Number u → eqb u t ≡ eqb (get_or q i 0) t
-entry-is q i t u h e = let same : u ≡ get_or q i 0 = cc (entry-there q i h) in ap (λ (x : ℕ). eqb x t) same
-
-pub entry-some : {C : Type 0} (q : List ℕ) (i : ℕ) → i < length q → entry_of q i ≡ Nothing → C
-entry-some q i h e = absurd (let z : ◌≡◌ {A = ℕ} 0 1 = cc (entry-there q i h) in omega arith)
+-- an entry that is there
+pub entry-there : (q : List ℕ) (i : ℕ) → i < length q → entry_of q i ≡ Some (get_or q i 0)
+unfolding entry_of
+entry-there q i h = cond-true (ltb i (length q)) _ None (lt-ltb i (length q) h)
 
 -- ---- where t stands in a queue: no more than there are, which are no more than tasks
 before-most : (t : ℕ) (q : List ℕ) → place_in t q ≤ length q
@@ -68,14 +63,19 @@ before-most t (u ∷ q) = go (eqb u t) (before-most t q)
     go true h = omega arith
     go false h = omega arith
 
+in_row-most : (l : List ℕ) → length (in_row l) ≤ length l - 1
+unfolding in_row
+in_row-most [] = omega arith
+in_row-most (n ∷ cells) = omega (arith, length-take n cells)
+
 queue-most : (s : State) (p : Priority) → Shaped s → length (queue_of s p) ≤ task_limit
 queue-most s p known = go (in_range p.0) refl
   where
     go : (b : Bool) → in_range p.0 ≡ b → length (queue_of s p) ≤ task_limit
     go true e =
         let b = in_bounds p.0 e in
-        let fits : (p.0 - 1) * suc task_limit + suc task_limit ≤ length s.queues = omega (arith, b.0, b.1, known.queues) in
-        omega (arith, ap length (queue-is s p e), list-room (suc task_limit) (p.0 - 1) s.queues (omega arith) fits)
+        let size = part_length queue_width last_priority (p.0 - 1) s.queues (omega (arith, b.0, b.1)) (omega (arith, known.queues)) in
+        omega (arith, ap length (queue-is s known p e), in_row-most (part queue_width (p.0 - 1) s.queues), size)
     go false e = omega (arith, ap length (queue-none s p e))
 
 pub position-fits : (s : State) (p : Priority) (t : ℕ) → Shaped s → place_in t (queue_of s p) ≤ task_limit
@@ -104,9 +104,9 @@ module _ (s : State) (t : ℕ) where
       kind : PlaceKind
       kind = kind_of (task_at (view s) t).place
 
-  pub row_made : (k : Task) (x : PlaceKind) (p : Priority) (a : ℕ) → (sound_of s ≡ true) × (t < length (view s).tasks) →
+  pub row_made : (k : Task) (x : PlaceKind) (p : Priority) (a : ℕ) → sound_of s ≡ true → t < length (view s).tasks →
       k ≡ task_record_of s t → x ≡ kind_of k.place → p ≡ active_priority_of s t → a ≡ cond (is_ready_kind x) (place_in t (queue_of s p)) 0 →
       row_with x p a ≡ row_of (view s) t
-  row_made k x p a asked e f g h =
+  row_made k x p a good low e f g h =
       ap (row_with x p) h ∙ ap (row_from x) g ∙
-      ap (λ (y : PlaceKind). row_from y (active_priority_of s t)) (f ∙ ap (λ (j : Task). kind_of j.place) e) ∙ row_is asked.0 asked.1
+      ap (λ (y : PlaceKind). row_from y (active_priority_of s t)) (f ∙ ap (λ (j : Task). kind_of j.place) e) ∙ row_is good low

@@ -1,24 +1,14 @@
 -- What filling writes on a board: a row for each task of a state, and nothing else.
-use Rattle.std.specs.Prelude.{cond, List, [], ◌∷◌, ◌++◌, ℕ, zero, suc, ltb, length, take, drop}
+use Rattle.std.specs.Prelude.{cond, List, [], ◌∷◌, ◌++◌, ℕ, zero, suc, ltb, length, take, drop, Ok, Err}
 use Rattle.rules.specs.Model.{Model, task_at, queue, active}
-use Rattle.rules.specs.declared.Place.{Place}
-use Rattle.rules.specs.declared.Place.TheVariants.{Running, Ready, Delayed, Suspended, Ended}
+use Rattle.rules.specs.Kinds.{kind_of}
 use Rattle.memory.specs.Rows.{place_in}
 use Rattle.dispatch.specs.State.{view}
 use Rattle.dispatch.specs.Sound.{sound_of}
 use Rattle.dispatch.specs.declared.State.{State}
-use Rattle.board.specs.declared.PlaceKind.{PlaceKind}
 use Rattle.board.specs.declared.Row.{Row}
-use Rattle.board.specs.declared.FillAnswer.{FillAnswer}
-use Rattle.board.specs.Rows.{row_limit, is_ready_kind, Filling, filling_of, behind}
-
--- "place kind (one of the five above)"
-abbrev pub kind_of : Place → PlaceKind
-kind_of Running = PlaceKind.Running
-kind_of Ready = PlaceKind.Ready
-kind_of (Delayed d) = PlaceKind.Delayed
-kind_of Suspended = PlaceKind.Suspended
-kind_of Ended = PlaceKind.Ended
+use Rattle.board.specs.declared.FillError.TheVariants.{Unsound, TooFewRows}
+use Rattle.board.specs.Rows.{row_limit, is_ready_kind, FillAnswer, Filling, filling_of, behind}
 
 -- "position in its queue (0 at the head, 0 if not ready)"
 unfoldable pub queue_position : Model → ℕ → ℕ
@@ -38,13 +28,12 @@ rows_of m = rows_to m (length m.tasks)
 
 -- "with an unsound state it answers 10, else with too few rows 13": the answer for a board of n rows
 unfoldable pub fill_answer_of : State → ℕ → FillAnswer
-fill_answer_of s n = cond (sound_of s) (cond (ltb n (length (view s).tasks)) FillAnswer.TooFewRows FillAnswer.Done) FillAnswer.Unsound
+fill_answer_of s n = cond (sound_of s) (cond (ltb n (length (view s).tasks)) (Err TooFewRows) (Ok tt)) (Err Unsound)
 
 -- "Filling it writes the first rows, one per task, and no others"; refused, it "writes nothing"
 unfoldable pub board_after : State → FillAnswer → List Row → List Row
-board_after s FillAnswer.Done board = rows_of (view s) ++ drop (length (view s).tasks) board
-board_after s FillAnswer.Unsound board = board
-board_after s FillAnswer.TooFewRows board = board
+board_after s (Ok done) board = rows_of (view s) ++ drop (length (view s).tasks) board
+board_after s (Err e) board = board
 
 -- what filling a board is promised to give
 abbrev pub fill_of : State → List Row → Filling
@@ -53,11 +42,5 @@ fill_of s board = filling_of (fill_answer_of s (length board)) (board_after s (f
 -- the same for the first rows of an array, the others staying as they are; with more of them than there are, 10 or else 13
 abbrev pub fill_first_of : State → List Row → ℕ → Filling
 fill_first_of s rows count =
-    cond (ltb row_limit count) (filling_of (cond (sound_of s) FillAnswer.TooFewRows FillAnswer.Unsound) rows)
+    cond (ltb row_limit count) (filling_of (cond (sound_of s) (Err TooFewRows) (Err Unsound)) rows)
     (behind (fill_of s (take count rows)) (drop count rows))
-
--- how many rows are written with an answer
-abbrev pub rows_written : State → FillAnswer → ℕ
-rows_written s FillAnswer.Done = length (view s).tasks
-rows_written s FillAnswer.Unsound = 0
-rows_written s FillAnswer.TooFewRows = 0

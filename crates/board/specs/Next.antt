@@ -1,8 +1,8 @@
 -- What the next row of a board is, in document 01's words.
-use Rattle.std.specs.Prelude.{◌≡◌, true, false, List, ℕ, ◌≤◌, ◌<◌, length}
+use Rattle.std.specs.Prelude.{◌≡◌, true, false, List, ℕ, ◌≤◌, ◌<◌, length, None, Some, Ok, Err}
 use Rattle.rules.specs.Priorities.{in_range}
 use Rattle.board.specs.declared.Row.{Row}
-use Rattle.board.specs.declared.NextAnswer.{NextAnswer}
+use Rattle.board.specs.declared.NextError.TheVariants.{TooManyRows, BadPriority}
 use Rattle.board.specs.Rows.{row_limit, is_ready_kind, row_at, Told, told_of}
 
 -- a row's columns
@@ -39,7 +39,7 @@ NoBadRow rows = (i : ℕ) → i < length rows → in_range (priority_at rows i) 
 
 -- the answer: "More than" row_limit "rows is 13; else a priority outside 1 to 32 in any row is 3"; else the next row, "or nobody"
 pub data Answers (rows : List Row) : Told → Type 0 where
-  too_many : row_limit < length rows → Answers rows (told_of NextAnswer.TooManyRows)
-  bad : length rows ≤ row_limit → BadRow rows → Answers rows (told_of NextAnswer.BadPriority)
-  named : length rows ≤ row_limit → NoBadRow rows → (i : ℕ) → NextRow rows i → Answers rows (told_of (NextAnswer.Row i))
-  none : length rows ≤ row_limit → NoBadRow rows → ((i : ℕ) → ReadyRow rows i → ⊥) → Answers rows (told_of NextAnswer.Nobody)
+  too_many : row_limit < length rows → Answers rows (told_of (Err TooManyRows))
+  bad : length rows ≤ row_limit → BadRow rows → Answers rows (told_of (Err BadPriority))
+  named : length rows ≤ row_limit → NoBadRow rows → (i : ℕ) → NextRow rows i → Answers rows (told_of (Ok (Some i)))
+  none : length rows ≤ row_limit → NoBadRow rows → ((i : ℕ) → ReadyRow rows i → ⊥) → Answers rows (told_of (Ok None))

@@ -1,13 +1,15 @@
 -- The rows of a board, and what it answers when it is asked or filled: document 01's number and values for each case.
-use Rattle.std.specs.Prelude.{Bool, true, false, List, ◌++◌, ℕ, get_or}
+use Rattle.std.specs.Prelude.{Bool, true, false, List, ◌++◌, ℕ, get_or, None, Option, Result, Ok, Err, ⊤}
 use Rattle.rules.specs.Limits.{task_limit, first_priority}
-use Rattle.rules.specs.Answers.{number_of}
-use Rattle.rules.specs.declared.Answer.{Answer}
-use Rattle.board.specs.declared.PlaceKind.{PlaceKind}
-use Rattle.board.specs.declared.PlaceKind.TheVariants.{Running, Ready, Delayed, Suspended, Ended}
+use Rattle.rules.specs.Answers.{number_by, number_of}
+use Rattle.rules.specs.declared.Refusal.TheVariants as refusal
+use Rattle.rules.specs.declared.PlaceKind.{PlaceKind}
+use Rattle.rules.specs.declared.PlaceKind.TheVariants.{Running, Ready, Delayed, Suspended, Ended}
 use Rattle.board.specs.declared.Row.{Row}
-use Rattle.board.specs.declared.NextAnswer.{NextAnswer}
-use Rattle.board.specs.declared.FillAnswer.{FillAnswer}
+use Rattle.board.specs.declared.NextError.{NextError}
+use Rattle.board.specs.declared.NextError.TheVariants.{TooManyRows, BadPriority}
+use Rattle.board.specs.declared.FillError.{FillError}
+use Rattle.board.specs.declared.FillError.TheVariants.{Unsound, TooFewRows}
 
 -- 2026-07: "The board's 32 rows become 64": there is one row per task
 abbrev pub row_limit : ℕ
@@ -28,27 +30,34 @@ no_row = record { kind = Ended; priority = record { 0 = first_priority }; positi
 abbrev pub row_at : List Row → ℕ → Row
 row_at rows i = get_or rows i no_row
 
--- "its next": a row, "or nobody"
-pub data Named : Type 0 where
-  nobody : Named
-  row : ℕ → Named
+-- what a board answers when it is asked: "its next", a row or nobody, or why not
+abbrev pub NextAnswer : Type 0
+NextAnswer = Result (Option ℕ) NextError
+
+abbrev pub next_number : NextError → ℕ
+next_number TooManyRows = number_of (Err refusal.BadCounts)
+next_number BadPriority = number_of (Err refusal.BadPriority)
 
 pub record Told : Type 0 where
   pub number : ℕ
-  pub next : Named
+  pub next : Option ℕ
 
 -- the number and the row that each answer stands for; every promise about the next row goes through this
 abbrev pub told_of : NextAnswer → Told
-told_of (NextAnswer.Row i) = record { number = number_of Answer.Done; next = row i }
-told_of NextAnswer.Nobody = record { number = number_of Answer.Done; next = nobody }
-told_of NextAnswer.TooManyRows = record { number = number_of Answer.BadCounts; next = nobody }
-told_of NextAnswer.BadPriority = record { number = number_of Answer.BadPriority; next = nobody }
+told_of (Ok i) = record { number = number_of (Ok tt); next = i }
+told_of (Err e) = record { number = next_number e; next = None }
+
+-- what filling a board answers
+abbrev pub FillAnswer : Type 0
+FillAnswer = Result ⊤ FillError
+
+abbrev pub unfilled_number : FillError → ℕ
+unfilled_number Unsound = number_of (Err refusal.Unsound)
+unfilled_number TooFewRows = number_of (Err refusal.BadCounts)
 
 -- the number of each answer, and the board after it; every promise about filling goes through this
 abbrev pub fill_number : FillAnswer → ℕ
-fill_number FillAnswer.Done = number_of Answer.Done
-fill_number FillAnswer.Unsound = number_of Answer.Unsound
-fill_number FillAnswer.TooFewRows = number_of Answer.BadCounts
+fill_number a = number_by unfilled_number a
 
 pub record Filling : Type 0 where
   pub number : ℕ

@@ -3,36 +3,25 @@ use mathlib.Core.Path.{◌≡◌, refl, ap, sym, ◌∙◌}
 use mathlib.Core.List.{List, [], ◌∷◌, flat_map}
 use Prim.Native.Nat.{ℕ, suc, ◌+◌, ◌*◌, ◌≤◌, ◌<◌}
 use native.Mathlib.Omega.{arith}
-use borrow.Author.Tests.{ne_eqb}
+use borrow.Author.Tests.{lt-ltb, le-ltb}
+use lib.Dec.{ltb}
 use lib.ListN.{length, get_or, drop, length-append, drop_of_length-le}
 use lib.Seq.{sets, drop-cons}
-use Rattle.rules.proofs.Choices.{compare}
-use Rattle.board.specs.Rows.{row_limit, Told, told_of}
-use Rattle.board.specs.Scan.{next_of, next_first_of, best_of, looked_of}
+use Rattle.std.specs.Prelude.{Ok, Err}
+use Rattle.rules.specs.Answers.{number_by}
+use Rattle.rules.proofs.Choices.{compare, cond-true, cond-false}
+use Rattle.board.specs.Rows.{row_limit, NextAnswer, next_number as refusal_number, Told, told_of}
+use Rattle.board.specs.Scan.{next_of, next_first_of}
 use Rattle.board.specs.Next.{Answers, too_many, bad, named, none}
-use Rattle.board.specs.declared.PlaceKind.TheVariants.{Running}
 use Rattle.board.specs.declared.Row.{Row}
-use Rattle.board.specs.declared.NextAnswer.{NextAnswer}
 use Rattle.board.proofs.NextLaws.{next-is}
-use Rattle.board.proofs.ScanLaws.{first-many, first-few, finish-many}
-use Rattle.cells.specs.Sizes.{nobody_code, ready_code, delayed_code, suspended_code, ended_code}
+use Rattle.board.proofs.ScanLaws.{scan_many}
+use Rattle.cells.specs.Sizes.{nobody_code}
 use Rattle.words.specs.Words.{tabulate}
-use Rattle.board_bytes.specs.Boards.{row_size, kind_from, kind_number, row_from, rows_from, row_count, row_bytes}
+use Rattle.board_bytes.specs.Boards.{row_size, row_from, rows_from, row_count, row_bytes}
 use Rattle.board_bytes.specs.Boards.{row_byte, packed_told, next_number}
 use Rattle.words.proofs.TableLaws.{length-tabulate, tabulate-take}
 use Rattle.words.proofs.CopyLaws.{sets-append}
-
--- a kind that is none of the other four
-pub running-kind : (k : ℕ) → (k ≡ ready_code → ⊥) → (k ≡ delayed_code → ⊥) → (k ≡ suspended_code → ⊥) → (k ≡ ended_code → ⊥) →
-    Running ≡ kind_from k
-unfolding kind_from
-running-kind k a b c d = rw (ne_eqb k ready_code a, ne_eqb k delayed_code b, ne_eqb k suspended_code c, ne_eqb k ended_code d)
-
--- a row is three bytes
-pub row_put : (l l' : List ℕ) (at : ℕ) (r : Row) (kind : ℕ) → kind ≡ kind_number r.kind →
-    l' ≡ sets l at (kind ∷ (r.priority.0 ∷ (r.position ∷ []))) → l' ≡ sets l at (row_bytes r)
-unfolding row_bytes
-row_put l l' at r kind e f = f ∙ rw e
 
 -- the next of the rows is put
 pub row-length : (r : Row) → length (row_bytes r) ≡ row_size
@@ -79,12 +68,14 @@ next_small rows = told-small rows (next_of rows) (next-is rows)
 -- the next of all rows is that of the first of them, or 13
 pub next-all : (f : ℕ → Row) (n : ℕ) → next_first_of (tabulate row_limit f) n ≡ next_of (tabulate n f)
 next-all f n =
-    let rows = tabulate n f in
-    let best = best_of rows (looked_of (length rows)) in
     compare n row_limit
-    (λ h. first-few (tabulate row_limit f) n h ∙ ap next_of (tabulate-take n row_limit f h))
-    (λ h. first-many (tabulate row_limit f) n h ∙
-    sym (ap told_of (finish-many (length rows) best (omega (arith, length-tabulate n f)))))
+    (λ h. cond-false (ltb row_limit n) _ _ (le-ltb row_limit n h) ∙ ap next_of (tabulate-take n row_limit f h))
+    (λ h. cond-true (ltb row_limit n) _ _ (lt-ltb row_limit n h) ∙
+    sym (ap told_of (scan_many (tabulate n f) (omega (arith, length-tabulate n f)))))
+
+pub told_number : (a : NextAnswer) → number_by refusal_number a ≡ (told_of a).number
+told_number (Ok i) = refl
+told_number (Err e) = refl
 
 -- the number of an answer and the row that it names, packed
 module _ (b : List ℕ) (rows : List Row) (a : NextAnswer) (number byte : ℕ) (e : rows ≡ rows_from b row_limit)

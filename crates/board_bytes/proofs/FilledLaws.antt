@@ -8,24 +8,25 @@ use borrow.Author.Tests.{lt-ltb, le-ltb, ltb-false, eq-eqb, ne_eqb}
 use lib.Dec.{eqb, ltb}
 use lib.ListN.{length, take, drop, replicate}
 use lib.Seq.{sets, take_at, length-take-le}
-use Rattle.rules.specs.Limits.{task_limit}
 use Rattle.rules.specs.Answers.{number_of}
-use Rattle.rules.specs.declared.Answer.TheVariants.{Unsound}
+use Rattle.std.specs.Prelude.{Ok, Err}
+use Rattle.rules.specs.declared.Refusal.TheVariants.{Unsound}
 use Rattle.rules.proofs.Choices.{cond-true, cond-false, compare, both_ways}
-use Rattle.dispatch.specs.State.{priority, view}
+use Rattle.rules.specs.Priorities.{priority}
+use Rattle.dispatch.specs.State.{view}
 use Rattle.dispatch.specs.Sound.{sound_of}
 use Rattle.dispatch.proofs.Known.{Shaped}
 use Rattle.dispatch.specs.declared.State.{State}
-use Rattle.dispatch.proofs.LoadLaws.{fitting}
 use Rattle.dispatch.proofs.MethodLaws.{sound-fits}
-use Rattle.board.specs.Rows.{row_limit, fill_number, Filling, filling_of, behind}
+use Rattle.board.specs.Rows.{row_limit, FillAnswer, unfilled_number, fill_number, Filling, filling_of, behind}
 use Rattle.board.specs.Fill.{rows_of, fill_answer_of, board_after, fill_of, fill_first_of}
-use Rattle.board.specs.declared.PlaceKind.TheVariants.{Ended}
+use Rattle.rules.specs.declared.PlaceKind.TheVariants.{Ended}
+use Rattle.board.specs.declared.FillError.{FillError}
+use Rattle.board.specs.declared.FillError.TheVariants as why
 use Rattle.board.specs.declared.Row.{Row}
-use Rattle.board.specs.declared.FillAnswer.{FillAnswer}
 use Rattle.board.proofs.StateLaws.{answer-few, answer-unsound, fill-few}
 use Rattle.board.proofs.FillLaws.{rows-length}
-use Rattle.board.proofs.SourceLaws.{tasks-cut, tasks-all}
+use Rattle.dispatch.proofs.LoadLaws.{fitting, tasks-are}
 use Rattle.cells.specs.InRange.{readable}
 use Rattle.cells.specs.Decode.{state_of_bytes}
 use Rattle.board_bytes.specs.Boards.{row_size, row_count, row_bytes, lent_of, fill_answer, filled_bytes}
@@ -42,20 +43,21 @@ lent-few : (n : ℕ) → lent_of n ≤ row_limit
 lent-few n = both_ways (λ x. x ≤ row_limit) (ltb row_limit n) row_limit n (λ e. omega arith) (λ e. ltb-false row_limit n e)
 
 -- the numbers of the answers tell them apart
-done-only : (x : FillAnswer) → fill_number x ≡ 0 → x ≡ FillAnswer.Done
-done-only FillAnswer.Done e = refl
-done-only FillAnswer.Unsound e = absurd (omega arith)
-done-only FillAnswer.TooFewRows e = absurd (omega arith)
+done-only : (x : FillAnswer) → fill_number x ≡ 0 → x ≡ Ok tt
+done-only (Ok done) e = refl
+done-only (Err why.Unsound) e = absurd (omega arith)
+done-only (Err why.TooFewRows) e = absurd (omega arith)
+
+pub refusal_counts : (e : FillError) → unfilled_number e ≡ 0 → ⊥
+refusal_counts why.Unsound e = omega arith
+refusal_counts why.TooFewRows e = omega arith
 
 module _ (s : State) (known : Shaped s) where
   abbrev count : ℕ
   count = length (view s).tasks
 
   most : count ≤ row_limit
-  most =
-      compare s.task_count task_limit
-      (λ h. omega (arith, tasks-all s known h))
-      (λ h. omega (arith, tasks-cut s known h))
+  most = omega (arith, tasks-are s known)
 
   -- rows that no task can have do not change the answer
   lent-answer : (n : ℕ) → fill_answer_of s (lent_of n) ≡ fill_answer_of s n
@@ -67,7 +69,7 @@ module _ (s : State) (known : Shaped s) where
       rw (le-ltb row_limit count most, le-ltb n count (omega (arith, most))))
 
   -- 0 is answered for a sound state with room for its tasks
-  done-sound : (n : ℕ) → fill_answer_of s n ≡ FillAnswer.Done → (sound_of s ≡ true) × (count ≤ n)
+  done-sound : (n : ℕ) → fill_answer_of s n ≡ Ok tt → (sound_of s ≡ true) × (count ≤ n)
   done-sound n e = go (sound_of s) refl
     where
       go : (t : Bool) → sound_of s ≡ t → (sound_of s ≡ true) × (count ≤ n)
@@ -79,7 +81,7 @@ module _ (s : State) (known : Shaped s) where
   said-count : sound_of s ≡ true → (count ≡ s.task_count) × (s.task_count ≤ row_limit)
   said-count e =
       let fit = fitting s (sound-fits s e) in
-      (tasks-all s known fit.count, fit.count)
+      (omega (arith, tasks-are s known, fit.count), fit.count)
 
 -- the bytes of a board after its rows were written
 abbrev filled_with : List ℕ → State → List ℕ
@@ -118,7 +120,7 @@ module _ (b board : List ℕ) (room : readable b ≡ true) (s : State) (e : s �
       (fill-number, sym (cond-false (eqb (fill_answer b board) 0) _ board (ne_eqb _ 0 (λ x. z (fill-number ∙ x)))))
 
   module _ (z : n ≡ 0) where
-    done : fill_answer_of s (row_count board) ≡ FillAnswer.Done
+    done : fill_answer_of s (row_count board) ≡ Ok tt
     done = done-only (fill_answer_of s (row_count board)) (sym number ∙ (sym told ∙ z))
 
     good : (sound_of s ≡ true) × (length (view s).tasks ≤ row_count board)
@@ -155,7 +157,7 @@ module _ (b board : List ℕ) (room : readable b ≡ true) (s : State) (e : s �
         (sym zero_is, put ∙ (front ∙ (ap (filled_with board) e ∙ sym written)))
 
 -- bytes that are no state's
-pub fill-unread : (b board : List ℕ) (n : ℕ) → n ≡ number_of Unsound → readable b ≡ false →
+pub fill-unread : (b board : List ℕ) (n : ℕ) → n ≡ number_of (Err Unsound) → readable b ≡ false →
     (n ≡ fill_answer b board) × (board ≡ filled_bytes b board)
 unfolding fill_answer filled_bytes
 fill-unread b board n i h =

@@ -12,19 +12,19 @@ use Rattle.dispatch.specs.State.{view}
 use Rattle.board.specs.Rows.{no_row}
 use Rattle.board.specs.Scan.{next_of}
 use Rattle.board.specs.Fill.{rows_of}
-use Rattle.board.specs.declared.PlaceKind.{PlaceKind}
-use Rattle.board.specs.declared.PlaceKind.TheVariants.{Running, Ready, Delayed, Suspended, Ended}
+use Rattle.rules.specs.Kinds.{kind_from, kind_number}
+use Rattle.rules.specs.declared.PlaceKind.{PlaceKind}
+use Rattle.rules.specs.declared.PlaceKind.TheVariants.{Running, Ready, Delayed, Suspended, Ended}
 use Rattle.board.specs.declared.Row.{Row}
 use Rattle.board.proofs.FillLaws.{rows-length}
 use Rattle.cells.specs.Decode.{state_of_bytes}
-use Rattle.board_bytes.specs.Boards.{row_size, kind_from, kind_number, row_from, rows_from, row_count, row_bytes, fill_answer, filled_bytes}
+use Rattle.board_bytes.specs.Boards.{row_size, row_from, rows_from, row_count, row_bytes, fill_answer, filled_bytes}
 use Rattle.board_bytes.specs.Boards.{packed_told, next_number}
 use Rattle.words.proofs.TableLaws.{tabulate-of}
 use Rattle.cells.proofs.BackLaws.{byte-behind}
 use Rattle.board_bytes.proofs.BoardLaws.{row-length, rows-size}
 
 kind-back : (k : PlaceKind) → kind_from (kind_number k) ≡ k
-unfolding kind_from
 kind-back Running = refl
 kind-back Ready = refl
 kind-back Delayed = refl

@@ -1,14 +1,14 @@
 -- A board as bytes, three for each row: place kind, active priority, position. Bytes behind the last whole row are no part of it.
-use Rattle.std.specs.Prelude.{cond, ℕ, ◌+◌, ◌*◌, ◌/◌, eqb, ltb, length, drop}
+use Rattle.std.specs.Prelude.{cond, ℕ, ◌+◌, ◌*◌, ◌/◌, eqb, ltb, length, drop, Option, unwrap_or}
 use mathlib.Core.List.{List, [], ◌∷◌, ◌++◌, flat_map}
-use Rattle.dispatch.specs.State.{priority, view}
-use Rattle.board.specs.Rows.{row_limit, Told, Named, nobody, row, fill_number}
+use Rattle.rules.specs.Kinds.{kind_from, kind_number}
+use Rattle.rules.specs.Priorities.{priority}
+use Rattle.dispatch.specs.State.{view}
+use Rattle.board.specs.Rows.{row_limit, Told, fill_number}
 use Rattle.board.specs.Scan.{next_of}
 use Rattle.board.specs.Fill.{rows_of, fill_answer_of}
-use Rattle.board.specs.declared.PlaceKind.{PlaceKind}
-use Rattle.board.specs.declared.PlaceKind.TheVariants.{Running, Ready, Delayed, Suspended, Ended}
 use Rattle.board.specs.declared.Row.{Row}
-use Rattle.cells.specs.Sizes.{nobody_code, running_code, ready_code, delayed_code, suspended_code, ended_code}
+use Rattle.cells.specs.Sizes.{nobody_code}
 use Rattle.words.specs.Words.{tabulate, byte_at}
 use Rattle.cells.specs.Decode.{state_of_bytes}
 use Rattle.cells.specs.InRange.{unless_unreadable}
@@ -16,22 +16,7 @@ use Rattle.cells.specs.InRange.{unless_unreadable}
 abbrev pub row_size : ℕ
 row_size = 3
 
--- a kind that is none of the five reads as running, as in a state
-unfoldable pub kind_from : ℕ → PlaceKind
-kind_from k =
-    cond (eqb k ready_code) Ready
-    (cond (eqb k delayed_code) Delayed
-    (cond (eqb k suspended_code) Suspended
-    (cond (eqb k ended_code) Ended Running)))
-
-abbrev pub kind_number : PlaceKind → ℕ
-kind_number Running = running_code
-kind_number Ready = ready_code
-kind_number Delayed = delayed_code
-kind_number Suspended = suspended_code
-kind_number Ended = ended_code
-
--- the row that starts at i, all rows, and the bytes for one
+-- the row that starts at i, all rows, and the bytes for one; a kind that is none of the five reads as running, as in a state
 unfoldable pub row_from : List ℕ → ℕ → Row
 row_from b i = record { kind = kind_from (byte_at b i); priority = priority (byte_at b (i + 1)); position = byte_at b (i + 2) }
 
@@ -60,9 +45,8 @@ filled_bytes b board =
     board
 
 -- the next row and the answer's number, in one: the number, and 256 times the row, 255 being nobody
-abbrev pub row_byte : Named → ℕ
-row_byte nobody = nobody_code
-row_byte (row i) = i
+abbrev pub row_byte : Option ℕ → ℕ
+row_byte o = unwrap_or o nobody_code
 
 unfoldable pub packed_told : Told → ℕ
 packed_told t = t.number + 256 * row_byte t.next

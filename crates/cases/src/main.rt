@@ -1,8 +1,8 @@
 // Plays the scope's marked cases A to L, and a preemption, through the dispatcher's methods; what it prints is held to the file stdout.
 #![tactic(auto)]
 
-use dispatch::{Listed, State, Stepped};
-use rules::{Priority, Runner};
+use dispatch::{State, Stepped};
+use rules::{Numbered, Priority};
 use std::io;
 
 // An event, its answer and its report; the state goes on to the next event.
@@ -23,15 +23,15 @@ fn begin(rt: &impl Print, letter: &str, bases: &[u8], ceilings: &[u8]) -> io::Re
 
 fn print_runner(rt: &impl Print, state: State) -> io::Result<()> {
     match state.running() {
-        Runner::Nobody => print!(rt; ", runs nobody"),
-        Runner::Task(t) => print!(rt; ", runs {t}"),
+        None => print!(rt; ", runs nobody"),
+        Some(t) => print!(rt; ", runs {t}"),
     }
 }
 
-fn print_entry(rt: &impl Print, entry: Listed) -> io::Result<()> {
+fn print_entry(rt: &impl Print, entry: Option<u8>) -> io::Result<()> {
     match entry {
-        Listed::Number(t) => print!(rt; " {t}"),
-        Listed::Nothing => print!(rt; " -"),
+        Some(t) => print!(rt; " {t}"),
+        None => print!(rt; " -"),
     }
 }
 

@@ -9,17 +9,16 @@ use borrow.Author.Tests.{ne_eqb}
 use lib.Dec.{eqb}
 use lib.ListN.{length, get_or, length-append, length-map, get_or-append}
 use lib.Seq.{get_or-append-add}
+use Rattle.std.specs.Prelude.{None, Option, Some}
+use Rattle.rules.specs.declared.Priority.{Priority}
 use Rattle.rules.specs.Limits.{task_limit, object_limit, last_priority}
 use Rattle.rules.specs.declared.Place.{Place}
 use Rattle.rules.specs.declared.Place.TheVariants.{Running, Ready, Delayed, Suspended, Ended}
-use Rattle.rules.specs.declared.WaitingBase.{WaitingBase}
-use Rattle.rules.specs.declared.WaitingBase.TheVariants.{Nothing, Base}
-use Rattle.rules.specs.declared.Runner.{Runner}
-use Rattle.rules.specs.declared.Runner.TheVariants.{Nobody, Task as Runs}
 use Rattle.rules.specs.declared.Task.{Task}
 use Rattle.memory.specs.Rows.{held_width, queue_width}
-use Rattle.memory.specs.Tasks.{due_of, bit, blank_task}
-use Rattle.dispatch.specs.State.{level, priority}
+use Rattle.rules.specs.Kinds.{kind_of, kind_number}
+use Rattle.rules.specs.Priorities.{level, priority}
+use Rattle.memory.specs.Memory.{blank_task}
 use Rattle.dispatch.proofs.Known.{Shaped}
 use Rattle.dispatch.specs.declared.State.{State}
 use Rattle.words.proofs.ListLaws.{map_at}
@@ -28,8 +27,8 @@ use Rattle.cells.specs.Sizes.{tasks_start, ceilings_start, held_start, queues_st
 use Rattle.words.specs.Words.{tabulate, byte_at, word_at, long_at, number_at}
 use Rattle.cells.specs.Decode.{runner_from, place_from, waiting_from, task_from, tasks_from, cells_from}
 use Rattle.cells.specs.Decode.{state_of_bytes}
-use Rattle.cells.specs.Encode.{low_bytes, runner_code, kind_byte, waits_byte, waiting_byte, task_tail, task_bytes, head_tail, head_bytes}
-use Rattle.cells.specs.Encode.{bytes_of_state, number_values, Fits}
+use Rattle.cells.specs.Encode.{low_bytes, runner_code, due_of, waits_byte, waiting_byte, bit, task_tail, task_bytes, head_row}
+use Rattle.cells.specs.Encode.{head_bytes, bytes_of_state, number_values, Fits}
 use Rattle.words.proofs.TableLaws.{tabulate-of}
 use Rattle.cells.proofs.PutLaws.{task-length}
 use Rattle.cells.proofs.WriteLaws.{head-length, up_to_ceilings, up_to_held, up_to_queues, front-one, front-two, front-three}
@@ -65,23 +64,20 @@ number-back : (n : ℕ) (r : List ℕ) → n < number_values → number_at (low_
 unfolding number_at word_at low_bytes
 number-back n r h = omega arith
 
-runner-back : (w : Runner) → ((t : ℕ) → w ≡ Runs t → t < nobody_code) → runner_from (runner_code w) ≡ w
-unfolding runner_from
-runner-back Nobody f = refl
-runner-back (Runs t) f = rw (ne_eqb t nobody_code (λ e. let h = f t refl in omega arith))
+runner-back : (w : Option ℕ) → ((t : ℕ) → w ≡ Some t → t < nobody_code) → runner_from (runner_code w) ≡ w
+runner-back None f = refl
+runner-back (Some t) f = rw (ne_eqb t nobody_code (λ e. let h = f t refl in omega arith))
 
-place-back : (x : Place) → place_from (kind_byte x) (due_of x) ≡ x
-unfolding place_from
+place-back : (x : Place) → place_from (kind_number (kind_of x)) (due_of x) ≡ x
 place-back Running = refl
 place-back Ready = refl
 place-back (Delayed d) = refl
 place-back Suspended = refl
 place-back Ended = refl
 
-waiting-back : (w : WaitingBase) → waiting_from (waits_byte w) (waiting_byte w) ≡ w
-unfolding waiting_from
-waiting-back Nothing = refl
-waiting-back (Base p) = refl
+waiting-back : (w : Option Priority) → waiting_from (waits_byte w) (waiting_byte w) ≡ w
+waiting-back None = refl
+waiting-back (Some p) = refl
 
 bit-back : (b : Bool) → not (eqb (bit b) 0) ≡ b
 bit-back true = refl
@@ -102,7 +98,7 @@ module _ (p r : List ℕ) (n : ℕ) (e : length p ≡ n) (k : Task) (h : due_of 
   unfolding task_from task_bytes low_bytes task_tail
   task-here =
       rw (
-        cell kind_offset (kind_byte k.place) refl,
+        cell kind_offset (kind_number (kind_of k.place)) refl,
         cell base_offset k.base.0 refl,
         cell waits_offset (waits_byte k.waiting) refl,
         cell waiting_offset (waiting_byte k.waiting) refl,
@@ -182,15 +178,15 @@ module _ (s : State) (r : List ℕ) (d : Shaped s) (g : Fits s) where
 
   -- the head
   now-back : number_at whole 0 ≡ s.now
-  unfolding bytes_of_state head_bytes
+  unfolding bytes_of_state head_row
   now-back = simp append_assoc (number-back s.now _ g.now)
 
   marks-back : long_at whole marks_at ≡ s.marks
-  unfolding bytes_of_state head_bytes head_tail low_bytes long_at word_at
+  unfolding bytes_of_state head_row low_bytes long_at word_at
   marks-back = let fits = g.marks in omega arith
 
   -- the bytes of a state, whatever is behind them, stand for it
   pub state-back : state_of_bytes whole ≡ s
-  unfolding state_of_bytes bytes_of_state head_bytes head_tail low_bytes
+  unfolding state_of_bytes bytes_of_state head_row low_bytes
   state-back =
       rw (now-back, runner-back s.running g.running, marks-back, tasks-back, held_back, ceilings-back, queues-back)

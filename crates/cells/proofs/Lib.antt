@@ -1,6 +1,7 @@
+pub mod ByteLaws
 pub mod ReadLaws
 pub mod PutLaws
 pub mod WriteLaws
 pub mod BackLaws
 pub mod RangeLaws
-pub mod CellLaws
+pub mod StateLaws

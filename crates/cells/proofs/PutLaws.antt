@@ -1,47 +1,25 @@
 -- Laws of bytes that are put one behind the other.
 use mathlib.Core.Path.{◌≡◌, refl, ap, sym, ◌∙◌}
 use mathlib.Core.List.{List, [], ◌∷◌, ◌++◌, flat_map}
-use Prim.Native.Nat.{ℕ, zero, suc, ◌+◌, ◌-◌, ◌*◌, ◌/◌, ◌%◌, ◌≤◌, ◌<◌}
+use Prim.Native.Nat.{ℕ, zero, suc, ◌+◌, ◌*◌, ◌/◌, ◌≤◌, ◌<◌}
 use native.Mathlib.Omega.{arith}
-use lib.ListN.{length, get_or, set, drop, drop_of_length-le, length-append}
+use lib.ListN.{length, get_or, drop, drop_of_length-le, length-append}
 use lib.Seq.{sets, drop-cons}
 use Rattle.words.proofs.CopyLaws.{sets-append}
 use Rattle.rules.specs.declared.Task.{Task}
-use Rattle.cells.specs.Sizes.{marks_size, task_size, tasks_start}
-use Rattle.memory.specs.Tasks.{due_of, bit}
-use Rattle.cells.specs.Encode.{low_bytes, kind_byte, waits_byte, waiting_byte, task_tail, task_bytes}
+use Rattle.cells.specs.declared.head.Head.{Head}
+use Rattle.cells.specs.Sizes.{task_size, tasks_start}
+use Rattle.cells.specs.Encode.{low_bytes, due_of, task_tail, task_bytes, head_row}
 
 pub put-behind : (l l' l'' xs ys : List ℕ) (i j : ℕ) → l' ≡ sets l i xs → l'' ≡ sets l' j ys → j ≡ i + length xs → l'' ≡ sets l i (xs ++ ys)
 put-behind l l' l'' xs ys i j e f g =
     f ∙ (ap (λ (k : List ℕ). sets k j ys) e ∙ (ap (λ (k : ℕ). sets (sets l i xs) k ys) g ∙ sym (sets-append l i xs ys)))
 
 -- the bytes of a number
-low-more : (k n m : ℕ) → m ≡ suc k → low_bytes m n ≡ n % 256 ∷ low_bytes k (n / 256)
-unfolding low_bytes
-low-more k n m e = ap (λ (j : ℕ). low_bytes j n) e
-
 pub low-length : (k n : ℕ) → length (low_bytes k n) ≡ k
 unfolding low_bytes
 low-length zero n = refl
 low-length (suc k) n = ap suc (low-length k (n / 256))
-
-module _ (whole out : List ℕ) (at i rest : ℕ) where
-  -- the next byte of a number is stored
-  pub number-turn : (x rest' : ℕ) → i < 8 → x ≡ rest % 256 → rest' ≡ rest / 256 → whole ≡ sets out (at + i) (low_bytes (8 - i) rest) →
-      whole ≡ sets (set out (at + i) x) (at + (i + 1)) (low_bytes (8 - (i + 1)) rest')
-  number-turn x rest' h e f g =
-      let k = 8 - (i + 1) in
-      let next : suc (at + i) ≡ at + (i + 1) = omega arith in
-      g ∙ (ap (λ (l : List ℕ). sets out (at + i) l) (low-more k rest (8 - i) (omega arith)) ∙
-      (ap (λ (y : ℕ). sets (set out (at + i) y) (suc (at + i)) (low_bytes k (rest / 256))) (sym e) ∙
-      (ap (λ (r : ℕ). sets (set out (at + i) x) (suc (at + i)) (low_bytes k r)) (sym f) ∙
-      ap (λ (j : ℕ). sets (set out (at + i) x) j (low_bytes k rest')) next)))
-
-  pub number-end : 8 ≤ i → whole ≡ sets out (at + i) (low_bytes (8 - i) rest) → out ≡ whole
-  unfolding low_bytes
-  number-end h g =
-      let e : 8 - i ≡ 0 = omega arith in
-      sym (g ∙ ap (λ (k : ℕ). sets out (at + i) (low_bytes k rest)) e)
 
 -- task rows
 pub task-length : (k : Task) → length (task_bytes k) ≡ task_size
@@ -79,19 +57,7 @@ module _ (whole : List ℕ) (ks : List Task) (out out' : List ℕ) (t : ℕ) whe
       (sets-append out j (task_bytes k) rest ∙
       (ap (λ (l : List ℕ). sets l (j + length (task_bytes k)) rest) (sym f) ∙ ap (λ (n : ℕ). sets out' n rest) next)))
 
--- a number, and the bytes behind it: the head, and a task row
-module _ (l l' l'' : List ℕ) (at j : ℕ) (next : j ≡ at + 8) where
-  behind-number : (n : ℕ) (tail : List ℕ) → l' ≡ sets l at (low_bytes 8 n) → l'' ≡ sets l' j tail → l'' ≡ sets l at (low_bytes 8 n ++ tail)
-  behind-number n tail e f = put-behind l l' l'' (low_bytes 8 n) tail at j e f (omega (arith, low-length 8 n))
-
-  pub task-put : (k : Task) (due kind waits waiting on : ℕ) → due ≡ due_of k.place → kind ≡ kind_byte k.place →
-      waits ≡ waits_byte k.waiting → waiting ≡ waiting_byte k.waiting → on ≡ bit k.permit → l' ≡ sets l at (low_bytes 8 due) →
-      l'' ≡ sets l' j (kind ∷ (k.base.0 ∷ (waits ∷ (waiting ∷ (on ∷ (0 ∷ (0 ∷ (0 ∷ [])))))))) → l'' ≡ sets l at (task_bytes k)
-  unfolding task_bytes task_tail
-  task-put k due kind waits waiting on e1 e2 e3 e4 e5 f g =
-      behind-number due (kind ∷ (k.base.0 ∷ (waits ∷ (waiting ∷ (on ∷ (0 ∷ (0 ∷ (0 ∷ [])))))))) f g ∙ rw (e1, e2, e3, e4, e5)
-
-  pub head-put : (now running n m marks : ℕ) → l' ≡ sets l at (low_bytes 8 now) →
-      l'' ≡ sets l' j (running ∷ (n ∷ (m ∷ (0 ∷ low_bytes marks_size marks)))) →
-      l'' ≡ sets l at (low_bytes 8 now ++ (running ∷ (n ∷ (m ∷ (0 ∷ low_bytes marks_size marks)))))
-  head-put now running n m marks e f = behind-number now (running ∷ (n ∷ (m ∷ (0 ∷ low_bytes marks_size marks)))) e f
+-- the head
+pub head-size : (h : Head) → length (head_row h) ≡ tasks_start
+unfolding head_row low_bytes
+head-size h = refl

@@ -1,62 +1,49 @@
--- Laws of the numbers in range: by the ways of the code, and of the bytes that a state is written as.
+-- Laws of bytes in range: by the ways of the code, and of the bytes that a state is written as.
 use mathlib.Core.Path.{◌≡◌, refl, ap, sym, ◌∙◌}
 use mathlib.Core.Bool.{Bool, true, false, ◌&&◌}
 use mathlib.Core.List.{List, [], ◌∷◌, ◌++◌, append_assoc, map, flat_map}
 use Prim.Native.Nat.{ℕ, zero, suc, ◌+◌, ◌*◌, ◌≤◌, ◌<◌}
 use native.Mathlib.Nat.{not-suc-le-zero, le_of_suc-le-suc}
 use native.Mathlib.Omega.{arith}
+use native.Mathlib.Numerals.{add-one}
 use borrow.Author.Tests.{lt-leb, le-leb, leb-true}
 use lib.Dec.{leb}
 use lib.ListN.{length, length-append}
 use Rattle.rules.specs.Limits.{task_limit}
 use Rattle.rules.specs.Lists.{below}
+use Rattle.std.specs.Prelude.{None, Option, Some, Err}
 use Rattle.rules.specs.Answers.{number_of}
-use Rattle.rules.specs.declared.Answer.TheVariants.{Unsound}
+use Rattle.rules.specs.declared.Refusal.TheVariants.{Unsound}
+use Rattle.rules.specs.declared.Priority.{Priority}
 use Rattle.rules.specs.declared.Place.{Place}
 use Rattle.rules.specs.declared.Place.TheVariants.{Running, Ready, Delayed, Suspended, Ended}
-use Rattle.rules.specs.declared.WaitingBase.{WaitingBase}
-use Rattle.rules.specs.declared.WaitingBase.TheVariants.{Nothing, Base}
 use Rattle.rules.specs.declared.Task.{Task}
-use Rattle.rules.proofs.Choices.{and_left, cond-true, cond-false}
-use Rattle.rules.proofs.SoundLaws.{below-make}
-use Rattle.memory.specs.Tasks.{bit}
-use Rattle.memory.proofs.TestLaws.{fails-first, holds-first, below_more, below_fails}
-use Rattle.dispatch.specs.State.{level}
+use Rattle.rules.specs.Kinds.{kind_of, kind_number, ended_code}
+use Rattle.rules.specs.Priorities.{level}
 use Rattle.dispatch.specs.declared.State.{State}
 use Rattle.dispatch.proofs.Known.{Shaped}
+use Rattle.rules.proofs.Choices.{clash, and_left, and-make, cond-true, cond-false}
+use Rattle.rules.proofs.SoundLaws.{below_at, below-make}
 use Rattle.words.specs.Words.{byte_at}
-use Rattle.cells.specs.Sizes.{task_count_at, tasks_start, task_size, kind_offset, waits_offset, permit_offset, ended_code, state_size}
+use Rattle.cells.specs.Sizes.{task_count_at, tasks_start, task_size, kind_offset, waits_offset, permit_offset, state_size}
 use Rattle.cells.specs.Decode.{state_of_bytes}
 use Rattle.cells.specs.InRange.{row_in_range, rows_in_range, readable, unless_unreadable}
-use Rattle.cells.specs.Encode.{low_bytes, kind_byte, waits_byte, task_tail, task_bytes, head_bytes, bytes_of_state, Fits}
+use Rattle.cells.specs.Encode.{low_bytes, waits_byte, bit, task_tail, task_bytes, head_bytes, bytes_of_state, Fits}
 use Rattle.cells.proofs.PutLaws.{task-length}
 use Rattle.cells.proofs.WriteLaws.{head-length, state-length}
 use Rattle.cells.proofs.BackLaws.{byte-behind, around-tasks, state-back}
 
--- a row, tested byte by byte
-module _ (s : List ℕ) (i a b c : ℕ) (e : a ≡ byte_at s (i + kind_offset)) (f : b ≡ byte_at s (i + waits_offset))
-    (g : c ≡ byte_at s (i + permit_offset)) where
-  row_is : row_in_range s i ≡ (leb a ended_code && leb b 1 && leb c 1)
-  unfolding row_in_range
-  row_is = rw (e, f, g)
-
-  pub row-kind : ended_code < a → false ≡ row_in_range s i
-  row-kind h =
-      sym (row_is ∙ fails-first (leb a ended_code && leb b 1) (leb c 1) (fails-first (leb a ended_code) (leb b 1) (lt-leb a ended_code h)))
-
-  pub row-waits : a ≤ ended_code → 1 < b → false ≡ row_in_range s i
-  row-waits h k =
-      sym (row_is ∙ fails-first (leb a ended_code && leb b 1) (leb c 1)
-      (holds-first (leb a ended_code) (leb b 1) (le-leb a ended_code h) ∙ lt-leb b 1 k))
-
-  pub row-permit : a ≤ ended_code → b ≤ 1 → leb c 1 ≡ row_in_range s i
-  row-permit h k =
-      sym (row_is ∙ holds-first (leb a ended_code && leb b 1) (leb c 1)
-      (holds-first (leb a ended_code) (leb b 1) (le-leb a ended_code h) ∙ le-leb b 1 k))
-
 -- the rows of the listed tasks
 abbrev pub row_at : List ℕ → ℕ → Bool
 row_at s t = row_in_range s (tasks_start + task_size * t)
+
+pub rows_none : (s : List ℕ) → below 0 (row_at s) ≡ true
+unfolding below
+rows_none s = refl
+
+pub rows_more : (s : List ℕ) (t : ℕ) → below t (row_at s) ≡ true → row_at s t ≡ true → below (t + 1) (row_at s) ≡ true
+unfolding below
+rows_more s t e f = rw add-one (and-make _ _ e f)
 
 module _ (s : List ℕ) (n : ℕ) (e : n ≡ byte_at s task_count_at) where
   rows_are : rows_in_range s ≡ (leb n task_limit && below n (row_at s))
@@ -64,46 +51,40 @@ module _ (s : List ℕ) (n : ℕ) (e : n ≡ byte_at s task_count_at) where
   rows_are = rw e
 
   pub rows-many : task_limit < n → false ≡ rows_in_range s
-  rows-many h = sym (rows_are ∙ fails-first (leb n task_limit) (below n (row_at s)) (lt-leb n task_limit h))
+  rows-many h = sym (rows_are ∙ ap (λ (b : Bool). b && below n (row_at s)) (lt-leb n task_limit h))
 
-  pub rows-fail : (t : ℕ) (b : Bool) → n ≤ task_limit → t < n → b ≡ row_at s t → b ≡ false → false ≡ rows_in_range s
-  rows-fail t b h g f k =
-      sym (rows_are ∙ (holds-first (leb n task_limit) (below n (row_at s)) (le-leb n task_limit h) ∙
-      below_fails n t (row_at s) g (sym f ∙ k)))
+  rows_few : n ≤ task_limit → rows_in_range s ≡ below n (row_at s)
+  rows_few h = rows_are ∙ ap (λ (b : Bool). b && below n (row_at s)) (le-leb n task_limit h)
+
+  pub rows-fail : (t : ℕ) → n ≤ task_limit → t < n → row_at s t ≡ false → false ≡ rows_in_range s
+  rows-fail t h g f = go (below n (row_at s)) refl
+    where
+      go : (b : Bool) → below n (row_at s) ≡ b → false ≡ rows_in_range s
+      go true k = clash (sym (below_at n (row_at s) k t g) ∙ f)
+      go false k = sym (rows_few h ∙ k)
 
   pub rows_all : (t : ℕ) → n ≤ task_limit → t ≤ n → n ≤ t → below t (row_at s) ≡ true → true ≡ rows_in_range s
   rows_all t h g k f =
       let same : t ≡ n = omega arith in
-      sym (rows_are ∙ (holds-first (leb n task_limit) (below n (row_at s)) (le-leb n task_limit h) ∙
-      (ap (λ (m : ℕ). below m (row_at s)) (sym same) ∙ f)))
-
-pub rows_more : (s : List ℕ) (t : ℕ) (b : Bool) → below t (row_at s) ≡ true → b ≡ row_at s t → b ≡ true → below (t + 1) (row_at s) ≡ true
-rows_more s t b e f g = below_more t (row_at s) e (sym f ∙ g)
-
--- enough bytes
-pub read_short : (s : List ℕ) → length s < state_size → false ≡ readable s
-unfolding readable
-read_short s h = sym (fails-first (leb state_size (length s)) (rows_in_range s) (lt-leb state_size (length s) h))
-
-pub read-rows : (s : List ℕ) → state_size ≤ length s → rows_in_range s ≡ readable s
-unfolding readable
-read-rows s h = sym (holds-first (leb state_size (length s)) (rows_in_range s) (le-leb state_size (length s) h))
+      sym (rows_few h ∙ (ap (λ (m : ℕ). below m (row_at s)) (sym same) ∙ f))
 
 pub read-long : (s : List ℕ) → readable s ≡ true → state_size ≤ length s
-unfolding readable
 read-long s e = leb-true state_size (length s) (and_left (leb state_size (length s)) (rows_in_range s) e)
 
+read-rows : (s : List ℕ) → state_size ≤ length s → readable s ≡ rows_in_range s
+read-rows s h = ap (λ (b : Bool). b && rows_in_range s) (le-leb state_size (length s) h)
+
 -- what is written is in range
-kind-small : (x : Place) → leb (kind_byte x) ended_code ≡ true
+kind-small : (x : Place) → leb (kind_number (kind_of x)) ended_code ≡ true
 kind-small Running = refl
 kind-small Ready = refl
 kind-small (Delayed d) = refl
 kind-small Suspended = refl
 kind-small Ended = refl
 
-waits-small : (w : WaitingBase) → leb (waits_byte w) 1 ≡ true
-waits-small Nothing = refl
-waits-small (Base p) = refl
+waits-small : (w : Option Priority) → leb (waits_byte w) 1 ≡ true
+waits-small None = refl
+waits-small (Some p) = refl
 
 bit-small : (b : Bool) → leb (bit b) 1 ≡ true
 bit-small true = refl
@@ -154,13 +135,13 @@ module _ (s : State) (r : List ℕ) (d : Shaped s) (g : Fits s) (few : s.task_co
   pub written-readable : readable whole ≡ true
   written-readable =
       let long : state_size ≤ length whole = omega (arith, length-append (bytes_of_state s) r, state-length s d) in
-      sym (read-rows whole long) ∙
+      read-rows whole long ∙
       sym (rows_all whole s.task_count count-byte s.task_count few (omega arith) (omega arith)
       (below-make s.task_count (row_at whole) each_row))
 
 -- unreadable bytes, or readable
-pub unread-answer : (b : List ℕ) (n : ℕ) → readable b ≡ false → unless_unreadable b n ≡ number_of Unsound
-unread-answer b n h = cond-false (readable b) n (number_of Unsound) h
+pub unread-answer : (b : List ℕ) (n : ℕ) → readable b ≡ false → unless_unreadable b n ≡ number_of (Err Unsound)
+unread-answer b n h = cond-false (readable b) n (number_of (Err Unsound)) h
 
 pub read_answer : (b : List ℕ) (n : ℕ) → readable b ≡ true → unless_unreadable b n ≡ n
-read_answer b n h = cond-true (readable b) n (number_of Unsound) h
+read_answer b n h = cond-true (readable b) n (number_of (Err Unsound)) h

@@ -1,6 +1,6 @@
 -- Laws of a whole state, written part by part.
 use mathlib.Core.Path.{◌≡◌, ap, sym, ◌∙◌}
-use mathlib.Core.List.{List, ◌∷◌, ◌++◌, append_assoc, map, flat_map}
+use mathlib.Core.List.{List, ◌++◌, append_assoc, map, flat_map}
 use Prim.Native.Nat.{ℕ, ◌*◌, ◌≤◌, ◌<◌}
 use native.Mathlib.Omega.{arith}
 use borrow.Author.Tests.{lt-ltb, le-ltb}
@@ -9,25 +9,16 @@ use lib.ListN.{length, drop, length-append, length-map}
 use lib.Seq.{sets}
 use Rattle.rules.proofs.Choices.{cond-true, cond-false}
 use Rattle.rules.specs.Limits.{task_limit, object_limit}
-use Rattle.dispatch.specs.State.{level}
+use Rattle.rules.specs.Priorities.{level}
 use Rattle.dispatch.proofs.Known.{Shaped}
 use Rattle.dispatch.specs.declared.State.{State}
-use Rattle.cells.specs.Sizes.{number_size, marks_size, task_size, tasks_start, ceilings_start, held_start, queues_start, state_size}
-use Rattle.cells.specs.Encode.{low_bytes, runner_code, head_tail, head_bytes, task_bytes, bytes_of_state, with_state}
+use Rattle.cells.specs.Sizes.{task_size, tasks_start, ceilings_start, held_start, queues_start, state_size}
+use Rattle.cells.specs.Encode.{head_in, head_bytes, task_bytes, bytes_of_state, with_state}
 use Rattle.words.proofs.CopyLaws.{sets_over}
-use Rattle.cells.proofs.PutLaws.{put-behind, low-length, tasks-length}
+use Rattle.cells.proofs.PutLaws.{put-behind, head-size, tasks-length}
 
 pub head-length : (s : State) → length (head_bytes s) ≡ tasks_start
-unfolding head_bytes head_tail
-head-length s =
-    length-append (low_bytes 8 s.now) (head_tail s) ∙ omega (arith, low-length 8 s.now, low-length marks_size s.marks)
-
--- the head, from its parts
-pub head-is : (s : State) (b b' : List ℕ) (now w n m marks : ℕ) → now ≡ s.now → w ≡ runner_code s.running → n ≡ s.task_count →
-    m ≡ s.object_count → marks ≡ s.marks → b' ≡ sets b 0 (low_bytes number_size now ++ (w ∷ (n ∷ (m ∷ (0 ∷ low_bytes marks_size marks))))) →
-    b' ≡ sets b 0 (head_bytes s)
-unfolding head_bytes head_tail
-head-is s b b' now w n m marks e f g h i put = put ∙ rw (e, f, g, h, i)
+head-length s = head-size (head_in s)
 
 -- what stands in front of the ceilings, of the held lists, of the queues
 abbrev pub up_to_ceilings : State → List ℕ
@@ -68,19 +59,18 @@ module _ (s : State) (d : Shaped s) where
       (length-append (up_to_queues s) s.queues ∙
       omega (arith, front-three, d.queues))
 
-  module _ (b b1 b2 b3 b4 b5 ps : List ℕ) (room : state_size ≤ length b) (head : b1 ≡ sets b 0 (head_bytes s))
-      (tasks : b2 ≡ sets b1 tasks_start (flat_map task_bytes s.tasks)) (levels : ps ≡ map level s.ceilings)
-      (ceilings : b3 ≡ sets b2 ceilings_start ps) (held : b4 ≡ sets b3 held_start s.held)
-      (queues : b5 ≡ sets b4 queues_start s.queues) where
-    pub state-put : b5 ≡ with_state s b
+  -- the front, the held lists and the queues, one behind the other
+  module _ (b b1 b2 b3 : List ℕ) (room : state_size ≤ length b)
+      (front : b1 ≡ sets b 0 (head_bytes s ++ (flat_map task_bytes s.tasks ++ map level s.ceilings)))
+      (held : b2 ≡ sets b1 held_start s.held) (queues : b3 ≡ sets b2 queues_start s.queues) where
+    pub state-put : b3 ≡ with_state s b
     unfolding with_state
     state-put =
-        let one = put-behind b b1 b2 (head_bytes s) (flat_map task_bytes s.tasks) 0 tasks_start head tasks (omega (arith, head-length s)) in
-        let there = ceilings ∙ ap (λ (l : List ℕ). sets b2 ceilings_start l) levels in
-        let two = put-behind b b2 b3 (up_to_ceilings s) (map level s.ceilings) 0 ceilings_start one there (omega (arith, front-one)) in
-        let three = put-behind b b3 b4 (up_to_held s) s.held 0 held_start two held (omega (arith, front-two)) in
-        let four = put-behind b b4 b5 (up_to_queues s) s.queues 0 queues_start three queues (omega (arith, front-three)) in
-        four ∙ (ap (λ (l : List ℕ). sets b 0 l) same_bytes ∙ (sets_over b (bytes_of_state s) state_size state-length room ∙
+        let one =
+        front ∙ ap (λ (l : List ℕ). sets b 0 l) (sym (append_assoc (head_bytes s) (flat_map task_bytes s.tasks) (map level s.ceilings))) in
+        let two = put-behind b b1 b2 (up_to_held s) s.held 0 held_start one held (omega (arith, front-two)) in
+        let three = put-behind b b2 b3 (up_to_queues s) s.queues 0 queues_start two queues (omega (arith, front-three)) in
+        three ∙ (ap (λ (l : List ℕ). sets b 0 l) same_bytes ∙ (sets_over b (bytes_of_state s) state_size state-length room ∙
         sym (cond-false (ltb (length b) state_size) b (bytes_of_state s ++ drop state_size b) (le-ltb (length b) state_size room))))
 
 -- too few bytes stay as they are

@@ -1,37 +1,30 @@
 -- The state that bytes stand for. Any bytes stand for one; what lies past the last byte reads as 0.
-use Rattle.std.specs.Prelude.{cond, not, List, ℕ, ◌+◌, ◌*◌, eqb}
+use Rattle.std.specs.Prelude.{cond, not, List, ℕ, ◌+◌, ◌*◌, eqb, None, Option, Some}
 use Rattle.words.specs.Words.{byte_at, long_at, number_at, tabulate}
 use Rattle.rules.specs.Limits.{task_limit, object_limit, last_priority}
 use Rattle.rules.specs.declared.Place.{Place}
-use Rattle.rules.specs.declared.Place.TheVariants.{Running, Ready, Delayed, Suspended, Ended}
-use Rattle.rules.specs.declared.WaitingBase.{WaitingBase}
-use Rattle.rules.specs.declared.WaitingBase.TheVariants.{Nothing, Base}
-use Rattle.rules.specs.declared.Runner.{Runner}
-use Rattle.rules.specs.declared.Runner.TheVariants.{Nobody, Task as Runs}
+use Rattle.rules.specs.declared.Priority.{Priority}
 use Rattle.rules.specs.declared.Task.{Task}
+use Rattle.rules.specs.Kinds.{kind_from, place_of}
+use Rattle.rules.specs.Priorities.{priority}
 use Rattle.memory.specs.Rows.{held_width, queue_width}
-use Rattle.dispatch.specs.State.{priority}
 use Rattle.dispatch.specs.declared.State.{State}
+use Rattle.cells.specs.declared.head.Head.{Head}
 use Rattle.cells.specs.Sizes.{running_at, task_count_at, object_count_at, marks_at, nobody_code, task_size}
 use Rattle.cells.specs.Sizes.{kind_offset, base_offset, waits_offset, waiting_offset, permit_offset}
-use Rattle.cells.specs.Sizes.{ready_code, delayed_code, suspended_code, ended_code}
 use Rattle.cells.specs.Sizes.{tasks_start, ceilings_start, held_start, queues_start}
 
 -- who runs; 255 is nobody
-unfoldable pub runner_from : ℕ → Runner
-runner_from b = cond (eqb b nobody_code) Nobody (Runs b)
+abbrev pub runner_from : ℕ → Option ℕ
+runner_from b = cond (eqb b nobody_code) None (Some b)
 
 -- a kind that is none of the five reads as running; InRange.antt makes such bytes unsound, as it does other flags than 0 and 1
-unfoldable pub place_from : ℕ → ℕ → Place
-place_from kind due =
-    cond (eqb kind ready_code) Ready
-    (cond (eqb kind delayed_code) (Delayed due)
-    (cond (eqb kind suspended_code) Suspended
-    (cond (eqb kind ended_code) Ended Running)))
+abbrev pub place_from : ℕ → ℕ → Place
+place_from kind due = place_of (kind_from kind) due
 
 -- a base waits unless the byte before it is 0
-unfoldable pub waiting_from : ℕ → ℕ → WaitingBase
-waiting_from waits p = cond (eqb waits 0) Nothing (Base (priority p))
+abbrev pub waiting_from : ℕ → ℕ → Option Priority
+waiting_from waits p = cond (eqb waits 0) None (Some (priority p))
 
 -- the task row that starts at i; a permit is off if its byte is 0
 unfoldable pub task_from : List ℕ → ℕ → Task
@@ -49,6 +42,17 @@ tasks_from s = tabulate task_limit (λ t. task_from s (tasks_start + task_size *
 -- n bytes from i on
 unfoldable pub cells_from : List ℕ → ℕ → ℕ → List ℕ
 cells_from s i n = tabulate n (λ k. byte_at s (i + k))
+
+-- the head
+unfoldable pub head_from : List ℕ → Head
+head_from s =
+    record {
+      now = number_at s 0;
+      running = runner_from (byte_at s running_at);
+      task_count = byte_at s task_count_at;
+      object_count = byte_at s object_count_at;
+      marks = long_at s marks_at;
+    }
 
 -- the whole
 unfoldable pub state_of_bytes : List ℕ → State

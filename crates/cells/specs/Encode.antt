@@ -1,58 +1,68 @@
 -- The bytes that stand for a state.
-use Rattle.std.specs.Prelude.{◌≡◌, cond, ℕ, zero, suc, ◌/◌, ◌%◌, ◌<◌, ltb, length, drop, get_or}
+use Rattle.std.specs.Prelude.{◌≡◌, Bool, true, false, cond, ℕ, zero, suc, ◌/◌, ◌%◌, ◌<◌, ltb, length, drop, get_or}
+use Rattle.std.specs.Prelude.{None, Option, Some, unwrap_or}
 use mathlib.Core.List.{List, [], ◌∷◌, ◌++◌, map, flat_map}
 use Rattle.rules.specs.declared.Place.{Place}
 use Rattle.rules.specs.declared.Place.TheVariants.{Running, Ready, Delayed, Suspended, Ended}
-use Rattle.rules.specs.declared.WaitingBase.{WaitingBase}
-use Rattle.rules.specs.declared.WaitingBase.TheVariants.{Nothing, Base}
-use Rattle.rules.specs.declared.Runner.{Runner}
-use Rattle.rules.specs.declared.Runner.TheVariants.{Nobody, Task as Runs}
+use Rattle.rules.specs.declared.Priority.{Priority}
 use Rattle.rules.specs.declared.Task.{Task}
-use Rattle.memory.specs.Tasks.{due_of, bit, blank_task}
-use Rattle.dispatch.specs.State.{level}
+use Rattle.rules.specs.Kinds.{kind_of, kind_number}
+use Rattle.rules.specs.Priorities.{level}
+use Rattle.memory.specs.Memory.{blank_task}
 use Rattle.dispatch.specs.declared.State.{State}
-use Rattle.cells.specs.Sizes.{number_size, marks_size, nobody_code, running_code, ready_code, delayed_code, suspended_code}
-use Rattle.cells.specs.Sizes.{ended_code, state_size}
+use Rattle.cells.specs.declared.head.Head.{Head}
+use Rattle.cells.specs.Sizes.{number_size, marks_size, nobody_code, state_size}
 
 -- the k lowest bytes of a number, the lowest first
 unfoldable pub low_bytes : ℕ → ℕ → List ℕ
 low_bytes zero n = []
 low_bytes (suc k) n = n % 256 ∷ low_bytes k (n / 256)
 
-abbrev pub runner_code : Runner → ℕ
-runner_code Nobody = nobody_code
-runner_code (Runs t) = t
+abbrev pub runner_code : Option ℕ → ℕ
+runner_code w = unwrap_or w nobody_code
 
-abbrev pub kind_byte : Place → ℕ
-kind_byte Running = running_code
-kind_byte Ready = ready_code
-kind_byte (Delayed d) = delayed_code
-kind_byte Suspended = suspended_code
-kind_byte Ended = ended_code
+-- the due time of a task that is not delayed is 0
+abbrev pub due_of : Place → ℕ
+due_of Running = 0
+due_of Ready = 0
+due_of (Delayed d) = d
+due_of Suspended = 0
+due_of Ended = 0
 
 -- whether a base waits, and which
-abbrev pub waits_byte : WaitingBase → ℕ
-waits_byte Nothing = 0
-waits_byte (Base p) = 1
+abbrev pub waits_byte : Option Priority → ℕ
+waits_byte None = 0
+waits_byte (Some p) = 1
 
-abbrev pub waiting_byte : WaitingBase → ℕ
-waiting_byte Nothing = 0
-waiting_byte (Base p) = p.0
+abbrev pub waiting_byte : Option Priority → ℕ
+waiting_byte None = 0
+waiting_byte (Some p) = p.0
 
--- a task row; the due time of a task that is not delayed is 0
+-- a permit is 1 where it is on
+abbrev pub bit : Bool → ℕ
+bit true = 1
+bit false = 0
+
+-- a task row
 unfoldable pub task_tail : Task → List ℕ
 task_tail k =
-    kind_byte k.place ∷ (k.base.0 ∷ (waits_byte k.waiting ∷ (waiting_byte k.waiting ∷ (bit k.permit ∷ (0 ∷ (0 ∷ (0 ∷ [])))))))
+    kind_number (kind_of k.place) ∷ (k.base.0 ∷ (waits_byte k.waiting ∷ (waiting_byte k.waiting ∷ (bit k.permit ∷ (0 ∷ (0 ∷ (0 ∷ [])))))))
 
 unfoldable pub task_bytes : Task → List ℕ
 task_bytes k = low_bytes number_size (due_of k.place) ++ task_tail k
 
 -- the head
-unfoldable pub head_tail : State → List ℕ
-head_tail s = runner_code s.running ∷ (s.task_count ∷ (s.object_count ∷ (0 ∷ low_bytes marks_size s.marks)))
+unfoldable pub head_row : Head → List ℕ
+head_row h =
+    low_bytes number_size h.now ++
+    (runner_code h.running ∷ (h.task_count ∷ (h.object_count ∷ (0 ∷ low_bytes marks_size h.marks))))
 
-unfoldable pub head_bytes : State → List ℕ
-head_bytes s = low_bytes number_size s.now ++ head_tail s
+abbrev pub head_in : State → Head
+head_in s =
+    record { now = s.now; running = s.running; task_count = s.task_count; object_count = s.object_count; marks = s.marks }
+
+abbrev pub head_bytes : State → List ℕ
+head_bytes s = head_row (head_in s)
 
 -- the whole
 unfoldable pub bytes_of_state : State → List ℕ
@@ -71,6 +81,6 @@ marks_values = 4294967296
 
 pub record Fits (s : State) : Type 0 where
   pub now : s.now < number_values
-  pub running : (t : ℕ) → s.running ≡ Runs t → t < nobody_code
+  pub running : (t : ℕ) → s.running ≡ Some t → t < nobody_code
   pub marks : s.marks < marks_values
   pub due : (t : ℕ) → due_of (get_or s.tasks t blank_task).place < number_values

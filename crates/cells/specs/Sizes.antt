@@ -11,6 +11,9 @@ abbrev pub marks_size : ℕ
 marks_size = 4
 
 -- the head, 16 bytes: now (8), running task or 255, task count, object count, a zero that nobody reads, the word of marks (4)
+abbrev pub head_size : ℕ
+head_size = 16
+
 abbrev pub running_at : ℕ
 running_at = 8
 
@@ -45,25 +48,9 @@ waiting_offset = 11
 abbrev pub permit_offset : ℕ
 permit_offset = 12
 
--- the place kinds, in the scope's order: "running, ready, delayed, suspended or ended"
-abbrev pub running_code : ℕ
-running_code = 0
-
-abbrev pub ready_code : ℕ
-ready_code = 1
-
-abbrev pub delayed_code : ℕ
-delayed_code = 2
-
-abbrev pub suspended_code : ℕ
-suspended_code = 3
-
-abbrev pub ended_code : ℕ
-ended_code = 4
-
 -- where the parts start, with no gaps, and where the last ends
 abbrev pub tasks_start : ℕ
-tasks_start = 16
+tasks_start = head_size
 
 abbrev pub ceilings_start : ℕ
 ceilings_start = tasks_start + task_limit * task_size

@@ -1,9 +1,14 @@
 // Internal: pub only for our own crates. A state's bytes, in the layout of specs/: whether they can be a state's, and from them into
-// the engine's slices and back.
+// the engine's memory and back.
 #![tactic(auto)]
 
-pub mod decode;
-pub mod encode;
-pub mod row_ranges;
+mod front;
+mod head;
+mod rows;
 pub mod sizes;
-pub mod slices;
+mod states;
+
+pub use front::put_front;
+pub use head::{Head, runner_from};
+pub use rows::{task_of, task_row};
+pub use states::{load, loadable, readable, store};

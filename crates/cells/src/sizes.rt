@@ -2,10 +2,9 @@
 use memory::sizes::{HELD_CELLS, QUEUE_CELLS};
 use rules::Roster;
 
-// The bytes of a number.
-pub const NUMBER_SIZE: usize = 8;
-
 // The head: now, who runs, the counts, the word of marks.
+pub const HEAD_SIZE: usize = 16;
+
 pub const RUNNING_AT: usize = 8;
 
 pub const TASK_COUNT_AT: usize = 9;
@@ -29,19 +28,8 @@ pub const WAITING: usize = 11;
 
 pub const PERMIT: usize = 12;
 
-// The place kinds.
-pub const RUNNING: u8 = 0;
-
-pub const READY: u8 = 1;
-
-pub const DELAYED: u8 = 2;
-
-pub const SUSPENDED: u8 = 3;
-
-pub const ENDED: u8 = 4;
-
 // Where the parts start, and how many bytes there are.
-pub const TASKS_START: usize = 16;
+pub const TASKS_START: usize = HEAD_SIZE;
 
 pub const CEILINGS_START: usize = TASKS_START + Roster::TASKS * TASK_SIZE;
 

@@ -1,9 +1,7 @@
-pub mod ListLaws
+pub mod Known
 pub mod EncodeLaws
 pub mod LoadLaws
-pub mod Known
-pub mod RunnerLaws
-pub mod ReaderLaws
+pub mod RuleLaws
 pub mod FreshLaws
 pub mod MethodLaws
-pub mod RuleLaws
+pub mod ReaderLaws

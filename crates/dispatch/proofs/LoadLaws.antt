@@ -1,173 +1,90 @@
--- Laws of the loops that load records and ceilings into the engine's slices, and of all that is loaded.
-use mathlib.Core.Path.{◌≡◌, refl, ap, ◌∙◌, sym}
-use mathlib.Core.Bool.{true, ◌&&◌}
-use mathlib.Core.List.{List, [], append-nil, map, flat_map}
-use Prim.Native.Nat.{ℕ, ◌+◌, ◌-◌, ◌*◌, ◌≤◌, ◌<◌}
-use native.Mathlib.Numerals.{add-one}
-use native.Mathlib.Omega.{arith}
-use lib.ListN.{length, take, get_or, replicate, length-replicate, length-map}
-use lib.Seq.{length-take-le}
-use Rattle.rules.specs.Limits.{task_limit, object_limit, last_priority, counts_good}
-use Rattle.rules.specs.Model.{blank}
-use Rattle.rules.specs.declared.Runner.{Runner}
-use Rattle.rules.specs.declared.Runner.TheVariants.{Nobody, Task as Runs}
+-- Laws of a state whose sizes fit: what is written down in it is the Model that it means.
+use Rattle.std.proofs.Common.{◌≡◌, ap, ◌∙◌, sym, true, List, [], map, ℕ, ◌<◌, length, get_or, min, arith, length-take}
+use Rattle.std.proofs.Math.ListN.{length-map, get_or-map}
+use Rattle.std.proofs.lemmas.List.{same_lists, get_or_default}
+use Rattle.std.proofs.Math.Seq.{get_or-take}
+use Rattle.rules.specs.Limits.{task_limit, object_limit}
+use Rattle.rules.specs.Priorities.{level, priority}
+use Rattle.rules.specs.Model.{Model, TaskRecord, blank}
+use Rattle.rules.specs.declared.Priority.{Priority}
 use Rattle.rules.specs.declared.Task.{Task}
-use Rattle.rules.proofs.Choices.{and_left, and_right}
-use Rattle.rules.proofs.LimitLaws.{counted-by}
-use Rattle.memory.specs.Rows.{row_for, lists, held_width, held_in, queue_width, queues_in, Queues}
-use Rattle.memory.specs.Tasks.{blank_task, tasks_in, TaskBecame}
-use Rattle.memory.specs.Memory.{marks_in, next_in, runner_of, together, all_records, Means}
-use Rattle.memory.proofs.GridLaws.{list_count}
-use Rattle.memory.proofs.MemoryLaws.{all-expected}
+use Rattle.loading.specs.Loading.{Each, TaskFrom, CeilingFrom}
+use Rattle.memory.specs.Rows.{held_width, held_in, queues_in}
+use Rattle.memory.specs.Memory.{record_of, together, blank_task}
+use Rattle.loading.proofs.RowLaws.{list_count}
+use Rattle.loading.proofs.LoadLaws.{Fitting, told_fits}
 use Rattle.dispatch.specs.declared.State.{State}
-use Rattle.dispatch.specs.State.{level, view, padded}
-use Rattle.loading.specs.Loading.{lengths_good, code_of, head_for}
+use Rattle.dispatch.specs.State.{view}
 use Rattle.dispatch.specs.Sound.{sizes_fit}
-use Rattle.dispatch.specs.Loading.{TasksLoaded}
 use Rattle.dispatch.proofs.Known.{Shaped}
-use Rattle.words.proofs.CopyLaws.{over, over-step}
-use Rattle.dispatch.proofs.ListLaws.{padded-length, padded-front, padded-rest, short-padded, flat-padded}
-use Rattle.dispatch.proofs.EncodeLaws.{together-append, together-length, together-take, together-blank}
-use Rattle.loading.proofs.LoadLaws.{lists_over}
-use Rattle.loading.proofs.FlatLaws.{Short, lists_of, lists-good, lists-front, lengths_short}
-
--- a record over the blank ones
-pub task-more : (ks : List Task) (ts ts' : List ℕ) (i : ℕ) (k : Task) → i < task_limit → i < length ks →
-    tasks_in ts ≡ over (replicate task_limit blank_task) ks i → k ≡ get_or ks i blank_task → TaskBecame ts ts' i k →
-    tasks_in ts' ≡ over (replicate task_limit blank_task) ks (i + 1)
-task-more ks ts ts' i k h g e f b =
-    b.same ∙ over-step blank_task (replicate task_limit blank_task) ks (tasks_in ts) i e k (simp length-replicate h) g f
-
--- who runs
-runner-back : (w : Runner) → runner_of (code_of w) ≡ w
-unfolding runner_of
-runner-back Nobody = refl
-runner-back (Runs t) = rw add-one
-
-together-padded : (ks : List Task) (ls : List (List ℕ)) (n : ℕ) → n ≤ length ks → n ≤ length ls →
-    together (padded task_limit (take n ks) blank_task) (padded task_limit (take n ls) []) ≡
-    padded task_limit (take n (together ks ls)) blank
-unfolding padded
-together-padded ks ls n a b =
-    let k = length-take-le n ks a in
-    let l = length-take-le n ls b in
-    let blanks : List Task = replicate (task_limit - n) blank_task in
-    let empty : List (List ℕ) = replicate (task_limit - n) [] in
-    let count = together-length (take n ks) (take n ls) (k ∙ sym l) ∙ k in
-    rw (
-      ← together-take n ks ls,
-      count,
-      k,
-      l,
-      together-append (take n ks) blanks (take n ls) empty (k ∙ sym l),
-      together-blank
-          (task_limit - n),
-    )
+use Rattle.dispatch.proofs.EncodeLaws.{together-length, together-at}
 
 -- what fits: the counts and the lengths
-pub record Fitting (s : State) : Type 0 where
-  pub count : s.task_count ≤ task_limit
-  pub objects : s.object_count ≤ object_limit
-  pub held : lengths_good held_width s.task_count s.held ≡ true
-  pub queues : lengths_good queue_width last_priority s.queues ≡ true
-
-pub fitting : (s : State) → sizes_fit s ≡ true → Fitting s
+pub fitting : (s : State) → sizes_fit s ≡ true → Fitting s.task_count s.object_count s.held s.queues
 unfolding sizes_fit
-fitting s e =
-    let counts = counts_good s.task_count s.object_count in
-    let held = lengths_good held_width s.task_count s.held in
-    let both = and_left (counts && held) _ e in
-    let sizes = and_left counts held both in
-    let counted = counted-by s.task_count s.object_count sizes in
-    record {
-      count = counted.tasks;
-      objects = counted.objects;
-      held = and_right counts held both;
-      queues = and_right (counts && held) _ e;
-    }
+fitting s e = told_fits s.task_count s.object_count s.held s.queues e
 
--- the whole: the slices that a state is loaded into mean what it means
-module _ (s : State) (fit : Fitting s) (known : Shaped s) where
-  n : ℕ
-  n = s.task_count
+-- two lists with the same elements
+pub same_at : {A : Type 0} (d : A) (l r : List A) → length l ≡ length r → ((i : ℕ) → i < length l → get_or l i d ≡ get_or r i d) → l ≡ r
+same_at d l r e f = same_lists l r e (λ i z h. get_or_default l i z d h ∙ (f i h ∙ get_or_default r i d z (omega (arith, e))))
 
-  holds : List (List ℕ)
-  holds = lists held_width n s.held
+module _ (s : State) (known : Shaped s) where
+  all : List TaskRecord
+  all = together s.tasks (held_in s.held)
 
-  holds-front : holds ≡ take n (held_in s.held)
-  unfolding n holds
-  holds-front = lists-front held_width n task_limit s.held fit.count
+  -- there are as many tasks and objects as the state says, or as there is room for
+  pub tasks-are : length (view s).tasks ≡ min s.task_count task_limit
+  unfolding view all
+  tasks-are =
+      let n = together-length s.tasks (held_in s.held) (known.tasks ∙ sym (list_count held_width task_limit s.held)) in
+      length-take s.task_count all ∙ rw (n, known.tasks)
 
-  holds-count : length (padded task_limit holds []) ≡ task_limit
-  unfolding n holds
-  holds-count = padded-length task_limit holds [] (omega (arith, list_count held_width n s.held, fit.count))
+  pub objects-are : length (view s).ceilings ≡ min s.object_count (length s.ceilings)
+  unfolding view
+  objects-are = length-take s.object_count (map level s.ceilings) ∙ rw (length-map s.ceilings level)
 
-  holds-short : Short held_width (padded task_limit holds [])
-  unfolding n holds
-  holds-short = short-padded held_width task_limit holds (lengths_short held_width n s.held (omega arith) fit.held)
+  -- each is read where it is written down
+  pub task-read : (t : ℕ) → t < length (view s).tasks →
+      get_or (view s).tasks t blank ≡ record_of (get_or s.tasks t blank_task) (get_or (held_in s.held) t [])
+  unfolding view all
+  task-read t h =
+      get_or-take s.task_count all t blank (omega (arith, tasks-are)) ∙
+      together-at s.tasks (held_in s.held) t (omega (arith, tasks-are, known.tasks))
+      (omega (arith, tasks-are, list_count held_width task_limit s.held))
 
-  held-is : (hd : List ℕ) → hd ≡ lists_over held_width s.held n (task_limit * held_width) →
-      hd ≡ flat_map (row_for held_width) (padded task_limit holds [])
-  unfolding n holds
-  held-is hd e =
-      let count = list_count held_width n s.held in
-      e ∙ rw count at (flat-padded held_width task_limit holds (omega arith) (omega (arith, count, fit.count)))
+  pub ceiling-read : (o : ℕ) → o < length (view s).ceilings → get_or (view s).ceilings o 0 ≡ (get_or s.ceilings o (priority 0)).0
+  unfolding view
+  ceiling-read o h =
+      get_or-take s.object_count (map level s.ceilings) o 0 (omega (arith, objects-are)) ∙ get_or-map level s.ceilings o (priority 0)
 
-  records-are : (ts hd : List ℕ) → TasksLoaded s.tasks n ts → hd ≡ flat_map (row_for held_width) (padded task_limit holds []) →
-      all_records ts hd ≡ padded task_limit (take n (together s.tasks (held_in s.held))) blank
-  unfolding n
-  records-are ts hd t e =
-      let lists-are = ap held_in e ∙ lists_of held_width task_limit (padded task_limit holds []) holds-count holds-short in
-      let a : n ≤ length s.tasks = omega (arith, fit.count, known.tasks) in
-      let b : n ≤ length (held_in s.held) = omega (arith, fit.count, list_count held_width task_limit s.held) in
-      rw (t.same, lists-are, holds-front) (together-padded s.tasks (held_in s.held) n a b)
+  told : (m : Model) →
+      m ≡ record { now = s.now; running = s.running; tasks = m.tasks; ceilings = m.ceilings; ready = queues_in s.queues } →
+      m.tasks ≡ (view s).tasks → m.ceilings ≡ (view s).ceilings → m ≡ view s
+  unfolding view
+  told m e ks cs =
+      let q = queues_in s.queues in
+      e ∙
+      (ap (λ (x : List TaskRecord). record { now = s.now; running = s.running; tasks = x; ceilings = m.ceilings; ready = q }) ks ∙
+      ap (λ (x : List ℕ). record { now = s.now; running = s.running; tasks = (view s).tasks; ceilings = x; ready = q }) cs)
 
-  queues-short : Short queue_width (queues_in s.queues)
-  queues-short = lengths_short queue_width last_priority s.queues (omega arith) fit.queues
-
-  queues-are : (qs : List ℕ) → qs ≡ lists_over queue_width s.queues last_priority (last_priority * queue_width) →
-      qs ≡ flat_map (row_for queue_width) (queues_in s.queues)
-  queues-are qs e = e ∙ append-nil _
-
-  pub queues-loaded : (qs : List ℕ) → qs ≡ lists_over queue_width s.queues last_priority (last_priority * queue_width) → Queues qs
-  queues-loaded qs e =
-      let count = list_count queue_width last_priority s.queues in
-      rw (queues-are qs e) (lists-good queue_width last_priority (queues_in s.queues) count queues-short)
-
-  pub state-loaded : (h ts hd cs qs : List ℕ) →
-      h ≡ head_for s.now s.running s.task_count s.object_count qs →
-      TasksLoaded s.tasks s.task_count ts →
-      hd ≡ lists_over held_width s.held s.task_count (task_limit * held_width) →
-      cs ≡ padded object_limit (take s.object_count (map level s.ceilings)) 0 →
-      qs ≡ lists_over queue_width s.queues last_priority (last_priority * queue_width) →
-      Means h ts hd cs qs (view s)
-  unfolding view n
-  state-loaded h ts hd cs qs e t f g i =
-      let o = s.object_count in
-      let ks = together s.tasks (held_in s.held) in
-      let hd-is = held-is hd f in
-      let all = records-are ts hd t hd-is in
-      let many = together-length s.tasks (held_in s.held) (known.tasks ∙ sym (list_count held_width task_limit s.held)) in
-      let count : length (take n ks) ≡ n = length-take-le n ks (omega (arith, many, known.tasks, fit.count)) in
-      let cs-count : length (take o (map level s.ceilings)) ≡ o =
-      length-take-le o (map level s.ceilings) (omega (arith, length-map s.ceilings level, known.ceilings, fit.objects)) in
-      let q = list_count queue_width last_priority s.queues in
-      let ready = ap queues_in (queues-are qs i) ∙ lists_of queue_width last_priority (queues_in s.queues) q queues-short in
-      let front = padded-front n task_limit (take n ks) blank count in
-      let cs-front = padded-front o object_limit (take o (map level s.ceilings)) 0 cs-count in
-      record {
-        same = rw (e, all, runner-back s.running, front, g, cs-front, ready);
-        laid = record {
-          head = ap length e;
-          count = rw e fit.count;
-          objects = rw e fit.objects;
-          tasks = t.good;
-          held = rw hd-is (lists-good held_width task_limit (padded task_limit holds []) holds-count holds-short);
-          ceilings = ap length g ∙ padded-length object_limit (take o (map level s.ceilings)) 0 (omega (arith, cs-count, fit.objects));
-          queues = queues-loaded qs i;
-          unused = rw (e, all) (padded-rest n task_limit (take n ks) blank count);
-          zeros = rw (e, g) (padded-rest o object_limit (take o (map level s.ceilings)) 0 cs-count);
-          marks = ap marks_in e;
-          next = all-expected h ts hd cs qs (ap next_in e) (rw e);
-        };
-      }
+  -- a Model that says the state's numbers, and has been read off it task by task and ceiling by ceiling
+  pub state-loaded : Fitting s.task_count s.object_count s.held s.queues →
+      (m : Model) (post : ℕ → Task → Type 0) (post' : ℕ → Priority → Type 0) →
+      m ≡ record { now = s.now; running = s.running; tasks = m.tasks; ceilings = m.ceilings; ready = queues_in s.queues } →
+      Each (TaskFrom post s.held) blank s.task_count m.tasks → Each (CeilingFrom post') 0 s.object_count m.ceilings →
+      ((t : ℕ) (k : Task) → t < task_limit → post t k → k ≡ get_or s.tasks t blank_task) →
+      ((o : ℕ) (p : Priority) → o < object_limit → post' o p → p ≡ get_or s.ceilings o (priority 0)) → m ≡ view s
+  state-loaded fit m post post' e tasks ceilings f g =
+      let ks : m.tasks ≡ (view s).tasks =
+      same_at blank m.tasks (view s).tasks (omega (arith, tasks.count, tasks-are, fit.count)) (λ t h.
+      let low : t < s.task_count = omega (arith, tasks.count, h) in
+      let r = tasks.each t low in
+      r.2 ∙ (ap (λ (k : Task). record_of k (get_or (held_in s.held) t [])) (f t r.0 (omega (arith, fit.count)) r.1) ∙
+      sym (task-read t (omega (arith, tasks-are, fit.count))))) in
+      let cs : m.ceilings ≡ (view s).ceilings =
+      same_at 0 m.ceilings (view s).ceilings (omega (arith, ceilings.count, objects-are, known.ceilings, fit.objects)) (λ o h.
+      let low : o < s.object_count = omega (arith, ceilings.count, h) in
+      let r = ceilings.each o low in
+      r.2 ∙ (ap (λ (p : Priority). p.0) (g o r.0 (omega (arith, fit.objects)) r.1) ∙
+      sym (ceiling-read o (omega (arith, objects-are, known.ceilings, fit.objects))))) in
+      told m e ks cs

@@ -1,27 +1,37 @@
 -- Laws of the methods: the test of soundness, and the three ways of an event.
-use mathlib.Core.Path.{◌≡◌, ap, ◌∙◌, sym}
-use mathlib.Core.Bool.{Bool, true, false, ◌&&◌}
-use mathlib.Core.List.{List}
-use Prim.Native.Nat.{ℕ}
-use borrow.Author.Tests.{eq-eqb, ne_eqb}
-use lib.Dec.{eqb}
-use Rattle.rules.specs.Answers.{number_of}
-use Rattle.memory.specs.Rulings.{answer_in, report_in}
+use Rattle.std.proofs.Common.{◌≡◌, refl, ap, ◌∙◌, sym, Bool, true, false, ◌&&◌, cond, None, Some, Ok, Err, is_ok, eqb, is_some}
+use Rattle.rules.specs.Answers.{Answer, number_of}
+use Rattle.rules.specs.declared.Refusal.TheVariants.{NoSuchTask, NoSuchObject, BadPriority, BadReading, NobodyRuns, EndedTask}
+use Rattle.rules.specs.declared.Refusal.TheVariants.{InsideAction, AboveCeiling, NotInnermost, Unsound, BadCounts, BadBases}
 use Rattle.rules.specs.Model.{Model}
 use Rattle.rules.specs.Events.{apply}
 use Rattle.rules.specs.Sound.{sound}
 use Rattle.rules.specs.declared.Event.{Event}
-use Rattle.rules.specs.declared.Answer.{Answer}
-use Rattle.rules.specs.declared.Report.{Report}
-use Rattle.memory.specs.Rulings.{Ruling}
 use Rattle.rules.proofs.Choices.{and_left, and_right}
 use Rattle.marks.specs.Marks.{marks_of}
-use Rattle.memory.specs.Rows.{queues_in}
-use Rattle.memory.specs.Memory.{model_of, Means, Valid, Moves}
+use Rattle.memory.specs.Memory.{Did}
+use Rattle.memory.specs.Rulings.{answer_in, report_in}
+use Rattle.memory.specs.declared.rulings.Ruling.{Ruling}
 use Rattle.dispatch.specs.declared.State.{State}
 use Rattle.dispatch.specs.State.{view, encode}
 use Rattle.dispatch.specs.Sound.{sizes_fit, marks_good, sound_of}
-use Rattle.dispatch.specs.Methods.{answered, unsound, applied_of}
+use Rattle.dispatch.specs.Methods.{answered, unsound, applied_of, loaded_of}
+
+-- 0 is the number of no refusal
+pub ok-is : (a : Answer) → eqb (number_of a) 0 ≡ is_ok a
+ok-is (Ok done) = refl
+ok-is (Err NoSuchTask) = refl
+ok-is (Err NoSuchObject) = refl
+ok-is (Err BadPriority) = refl
+ok-is (Err BadReading) = refl
+ok-is (Err NobodyRuns) = refl
+ok-is (Err EndedTask) = refl
+ok-is (Err InsideAction) = refl
+ok-is (Err AboveCeiling) = refl
+ok-is (Err NotInnermost) = refl
+ok-is (Err Unsound) = refl
+ok-is (Err BadCounts) = refl
+ok-is (Err BadBases) = refl
 
 module _ (s : State) where
   -- the sizes of a sound state fit, and it means a sound Model
@@ -42,28 +52,59 @@ module _ (s : State) where
   unfolding applied_of
   unsound-by e f = rw f
 
-  module _ (fit : sizes_fit s ≡ true) {h ts hd cs qs : List ℕ} (m : Means h ts hd cs qs (view s)) where
-    -- sizes that fit: the slices are tested
-    pub tested : (r : Bool) → r ≡ (eqb s.marks (marks_of (queues_in qs)) && sound (model_of h ts hd cs qs)) → r ≡ sound_of s
-    unfolding sound_of marks_good
-    tested r e = e ∙ (ap (λ (n : Model). eqb s.marks (marks_of n.ready) && sound n) m.same ∙ rw fit)
+  -- sizes that fit: the memory m is tested
+  pub tested : (m : Model) (r : Bool) → sizes_fit s ≡ true → m ≡ view s → r ≡ (eqb s.marks (marks_of m.ready) && sound m) → r ≡ sound_of s
+  unfolding sound_of marks_good
+  tested m r fit e f = f ∙ (ap (λ (n : Model). eqb s.marks (marks_of n.ready) && sound n) e ∙ rw fit)
 
-    pub valid : (r : Bool) → r ≡ (eqb s.marks (marks_of (queues_in qs)) && sound (model_of h ts hd cs qs)) → r ≡ true → Valid h ts hd cs qs
-    valid r e f = record { laid = m.laid; sound = and_right (eqb s.marks (marks_of (queues_in qs))) _ (sym e ∙ f) }
+  -- the memory of a sound state, and none
+  pub loaded-none : sound_of s ≡ false → None ≡ loaded_of s
+  unfolding loaded_of
+  loaded-none e = rw e
 
-    -- an event on them
-    module _ (e : Event) (good : sound_of s ≡ true) {h' ts' hd' cs' qs' : List ℕ} (x : Ruling)
-        (d : Moves h' ts' hd' cs' qs' x (apply (model_of h ts hd cs qs) e)) (n : ℕ) (i : n ≡ number_of (answer_in x)) (a : Answer)
-        (p : a ≡ answer_in x) (w : Report) (q : w ≡ report_in x) where
-      by-rule : applied_of s e ≡ answered s (apply (model_of h ts hd cs qs) e)
-      unfolding applied_of
-      by-rule = rw (good, m.same)
+  pub loaded-some : sound_of s ≡ true → Some (view s) ≡ loaded_of s
+  unfolding loaded_of
+  loaded-some e = rw e
 
-      pub refused-by : (n ≡ 0 → ⊥) → record { answer = a; report = w; state = s } ≡ applied_of s e
-      unfolding answered
-      refused-by z = sym (by-rule ∙ rw (← d.answer, ← d.report, ← i, ne_eqb n 0 z, p, q))
+  pub none-loaded : None ≡ loaded_of s → sound_of s ≡ false
+  unfolding loaded_of
+  none-loaded e = go (sound_of s) e
+    where
+      go : (b : Bool) → None ≡ cond b (Some (view s)) None → b ≡ false
+      go true f = absurd (cc)
+      go false f = refl
 
-      pub accepted-by : n ≡ 0 → (t : State) → t ≡ encode (model_of h' ts' hd' cs' qs') →
-          record { answer = a; report = w; state = t } ≡ applied_of s e
-      unfolding answered
-      accepted-by z t f = sym (by-rule ∙ rw (← d.answer, ← d.report, ← i, eq-eqb n 0 z, f, d.same, p, q))
+  pub some-loaded : (m : Model) → Some m ≡ loaded_of s → (sound_of s ≡ true) × (m ≡ view s)
+  unfolding loaded_of
+  some-loaded m e = go (sound_of s) e
+    where
+      go : (b : Bool) → Some m ≡ cond b (Some (view s)) None → (b ≡ true) × (m ≡ view s)
+      go true f = (refl, cc)
+      go false f = absurd (cc)
+
+  pub loaded-is : is_some (loaded_of s) ≡ sound_of s
+  unfolding loaded_of
+  loaded-is = go (sound_of s)
+    where
+      go : (b : Bool) → is_some (cond b (Some (view s)) None) ≡ b
+      go true = refl
+      go false = refl
+
+  -- an event on the memory of a sound state
+  module _ (e : Event) (m n : Model) (x : Ruling) (good : sound_of s ≡ true) (same : m ≡ view s) (d : Did n x (apply m e)) where
+    by-rule : applied_of s e ≡ answered s (apply m e)
+    unfolding applied_of
+    by-rule = rw (good, same)
+
+    pub applied-by : record { answer = answer_in x; report = report_in x; state = cond (is_ok (answer_in x)) (encode n) s } ≡ applied_of s e
+    unfolding answered
+    applied-by = sym (by-rule ∙ rw (← d.answer, ← d.report, ok-is (answer_in x), ← d.same))
+
+    -- the same said apart
+    pub refused-by : is_ok (answer_in x) ≡ false → record { answer = answer_in x; report = report_in x; state = s } ≡ applied_of s e
+    unfolding answered
+    refused-by z = sym (by-rule ∙ rw (← d.answer, ← d.report, ok-is (answer_in x), z))
+
+    pub accepted-by : is_ok (answer_in x) ≡ true → record { answer = answer_in x; report = report_in x; state = encode n } ≡ applied_of s e
+    unfolding answered
+    accepted-by z = sym (by-rule ∙ rw (← d.answer, ← d.report, ok-is (answer_in x), z, ← d.same))

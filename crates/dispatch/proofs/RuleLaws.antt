@@ -1,44 +1,30 @@
 -- The state of a sound Model is sound, and an event on it does what the rule does; no rule answers 10.
-use mathlib.Core.Path.{◌≡◌, refl, ap, ◌∙◌, sym}
-use mathlib.Core.Bool.{Bool, true, false, cond}
-use mathlib.Core.List.{List, [], map, flat_map}
-use Prim.Native.Nat.{ℕ, suc, ◌-◌, ◌*◌, ◌≤◌, ◌<◌}
-use native.Mathlib.Numerals.{sub-one}
-use native.Mathlib.Omega.{arith}
-use borrow.Author.Tests.{le-leb, lt-ltb, eq-eqb, eqb-true}
-use lib.Dec.{eqb, ltb}
-use lib.ListN.{length, get_or}
+use Rattle.std.proofs.Common.{◌≡◌, refl, ap, ◌∙◌, sym, Bool, true, false, cond, Err, suc, ◌-◌, eqb, length, arith, sub-one}
+use borrow.Author.Tests.{le-leb, eq-eqb, eqb-true}
 use Rattle.rules.specs.Limits.{task_limit, object_limit, last_priority}
-use Rattle.rules.specs.Answers.{number_of}
+use Rattle.rules.specs.Answers.{Answer, number_of}
 use Rattle.rules.specs.Model.{Model}
 use Rattle.rules.specs.Events.{apply}
 use Rattle.rules.specs.Sound.{sound}
 use Rattle.rules.specs.declared.Event.{Event}
-use Rattle.rules.specs.declared.Answer.{Answer}
-use Rattle.rules.specs.declared.Answer.TheVariants.{Unsound}
+use Rattle.rules.specs.declared.Refusal.TheVariants.{Unsound}
 use Rattle.rules.proofs.Choices.{clash}
-use Rattle.rules.proofs.SoundLaws.{sound-is, below-make}
+use Rattle.rules.proofs.SoundLaws.{sound-is}
 use Rattle.rules.specs.Refusals.{table, applies_at}
 use Rattle.rules.proofs.Refusals.{exactly-when, refused-same}
 use Rattle.marks.specs.Marks.{marks_of}
 use Rattle.marks.proofs.MarkLaws.{marks-claim}
-use Rattle.memory.specs.Rows.{row_for, held_width, queue_width, Lists}
-use Rattle.memory.proofs.GridLaws.{list-room, list_count, count_at}
+use Rattle.memory.specs.Rows.{held_width, queue_width}
+use Rattle.loading.specs.Loading.{held_lists}
+use Rattle.loading.proofs.RowLaws.{list_count}
+use Rattle.loading.proofs.PaddedLaws.{held-count}
+use Rattle.loading.proofs.FlatLaws.{lengths-of}
 use Rattle.dispatch.specs.declared.State.{State}
 use Rattle.dispatch.specs.declared.Stepped.{Stepped}
-use Rattle.dispatch.specs.State.{view, holding, padded, encode}
-use Rattle.loading.specs.Loading.{lengths_good}
+use Rattle.dispatch.specs.State.{view, encode}
 use Rattle.dispatch.specs.Sound.{sizes_fit, marks_good, MarksGoodClaim, sound_of}
 use Rattle.dispatch.specs.Methods.{answered, applied_of}
-use Rattle.loading.proofs.FlatLaws.{lists-good}
-use Rattle.dispatch.proofs.EncodeLaws.{held-short, queue-short, held-count, view-encode}
-
--- rows made of lists say their lengths
-lengths-of : (w n k : ℕ) (l : List ℕ) → Lists w n l → k ≤ n → lengths_good w k l ≡ true
-lengths-of w n k l g h =
-    below-make k (λ i. ltb (get_or l (i * w) 0) w) (λ i e.
-    let inside : i < n = omega arith in
-    lt-ltb (get_or l (i * w) 0) w (omega (arith, count_at w n i l g inside, list-room w n i l g inside)))
+use Rattle.dispatch.proofs.EncodeLaws.{held-short, queue-short, view-encode}
 
 module _ (m : Model) (s : sound m ≡ true) where
   -- the State of a sound Model is sound
@@ -46,12 +32,10 @@ module _ (m : Model) (s : sound m ≡ true) where
   unfolding sizes_fit encode
   sizes-fit =
       let n = (sound-is m s).numbers in
-      let hs = padded task_limit (map holding m.tasks) [] in
-      let held = lists-good held_width task_limit hs (held-count m s) (held-short m s) in
-      let ready = lists-good queue_width last_priority m.ready n.queues (queue-short m s) in
+      let held = held-count m n.count in
       rw (
-        lengths-of held_width task_limit (length m.tasks) (flat_map (row_for held_width) hs) held n.count,
-        lengths-of queue_width last_priority last_priority (flat_map (row_for queue_width) m.ready) ready (omega arith),
+        lengths-of held_width task_limit (held_lists m) held (held-short m s) (length m.tasks) n.count,
+        lengths-of queue_width last_priority m.ready n.queues (queue-short m s) last_priority (omega arith),
         le-leb 1 (length m.tasks) n.some,
         le-leb (length m.tasks) task_limit n.count,
         le-leb (length m.ceilings) object_limit n.objects,
@@ -94,6 +78,6 @@ marks-say s h =
     )
 
 -- a rule answers 1 to 9, or 0
-pub rule-never : (m : Model) (e : Event) → (apply m e).answer ≡ Unsound → ⊥
+pub rule-never : (m : Model) (e : Event) → (apply m e).answer ≡ Err Unsound → ⊥
 unfolding table applies_at
 rule-never m e u = clash (sym ((exactly-when m e 9).0 (ap number_of u)).applies)

@@ -2,4 +2,3 @@ pub mod State
 pub mod Sound
 pub mod Methods
 pub mod Readers
-pub mod Loading

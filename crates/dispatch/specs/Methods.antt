@@ -1,6 +1,7 @@
 -- What the methods give back: the answer, the report, and the state beside them.
-use Rattle.std.specs.Prelude.{cond, ℕ, eqb}
+use Rattle.std.specs.Prelude.{cond, ℕ, eqb, Option, Some, None, Err}
 use Rattle.rules.specs.Answers.{number_of}
+use Rattle.rules.specs.Model.{Model}
 use Rattle.rules.specs.Moved.{Moved}
 use Rattle.rules.specs.Events.{apply}
 use Rattle.rules.specs.Fresh.{Setup, Begun, fresh}
@@ -8,7 +9,7 @@ use Rattle.rules.specs.declared.Priority.{Priority}
 use Rattle.rules.specs.declared.Event.{Event}
 use Rattle.rules.specs.declared.Event.TheVariants.{Enter, Leave, Delay, Suspend, Release, Clock, Set, Work, Finish}
 use Rattle.rules.specs.declared.Report.TheVariants.{Unchanged}
-use Rattle.rules.specs.declared.Answer.TheVariants.{Unsound}
+use Rattle.rules.specs.declared.Refusal.TheVariants.{Unsound}
 use Rattle.dispatch.specs.declared.State.{State}
 use Rattle.dispatch.specs.declared.Started.{Started}
 use Rattle.dispatch.specs.declared.Stepped.{Stepped}
@@ -22,11 +23,15 @@ answered s r =
 
 -- 10, "unsound state"; 2026-10: "A refused event reports 0."
 abbrev pub unsound : State → Stepped
-unsound s = record { answer = Unsound; report = Unchanged; state = s }
+unsound s = record { answer = Err Unsound; report = Unchanged; state = s }
 
 -- "10 is tested first"; then what the rule says
 unfoldable pub applied_of : State → Event → Stepped
 applied_of s e = cond (sound_of s) (answered s (apply (view s) e)) (unsound s)
+
+-- the Model of a state that is sound
+unfoldable pub loaded_of : State → Option Model
+loaded_of s = cond (sound_of s) (Some (view s)) None
 
 -- each method
 abbrev pub enter_of : State → ℕ → Stepped

@@ -1,22 +1,16 @@
 -- What the readers give back, of any state: what its Model has there, or nothing.
-use Rattle.std.specs.Prelude.{cond, List, [], ℕ, ◌*◌, ltb, length, take, drop, get_or}
-use Rattle.rules.specs.Priorities.{in_range}
+use Rattle.std.specs.Prelude.{cond, List, [], ℕ, ltb, length, get_or, None, Option, Some}
+use Rattle.rules.specs.Priorities.{in_range, priority}
 use Rattle.rules.specs.Model.{task_at, queue, active}
 use Rattle.rules.specs.declared.Priority.{Priority}
 use Rattle.rules.specs.declared.Task.{Task}
-use Rattle.memory.specs.Rows.{in_row}
 use Rattle.dispatch.specs.declared.State.{State}
-use Rattle.dispatch.specs.declared.Listed.{Listed}
-use Rattle.dispatch.specs.declared.Listed.TheVariants.{Number, Nothing}
-use Rattle.dispatch.specs.State.{priority, view, task_for}
-
--- the list in row i of the rows of width w
-abbrev pub list_at : ℕ → ℕ → List ℕ → List ℕ
-list_at w i l = in_row (take w (drop (i * w) l))
+use Rattle.memory.specs.Memory.{task_for}
+use Rattle.dispatch.specs.State.{view}
 
 -- the entry of a list at i
-unfoldable pub entry_of : List ℕ → ℕ → Listed
-entry_of l i = cond (ltb i (length l)) (Number (get_or l i 0)) Nothing
+unfoldable pub entry_of : List ℕ → ℕ → Option ℕ
+entry_of l i = cond (ltb i (length l)) (Some (get_or l i 0)) None
 
 -- the ready queue for a priority, its head first; there is none for a priority out of range
 unfoldable pub queue_of : State → Priority → List ℕ

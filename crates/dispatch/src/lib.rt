@@ -6,17 +6,16 @@ mod methods;
 mod readers;
 mod start;
 mod store;
-mod test;
 
 use memory::sizes::{HELD_CELLS, QUEUE_CELLS};
-use rules::{Answer, Priority, Report, Roster, Runner, Task};
+use rules::{Answer, Priority, Report, Roster, Task};
 
 // All fields are public: whatever a caller hands in gets an answer. Cells past a count or past a row's length are no part of it.
 // Bit p - 1 of the marks is on exactly where the ready queue for p is not empty; otherwise the state is unsound.
 #[derive(Clone, Copy)]
 pub struct State {
     pub now: u64,
-    pub running: Runner,
+    pub running: Option<u8>,
     pub task_count: u8,
     pub object_count: u8,
     pub marks: u32,
@@ -39,11 +38,4 @@ pub struct Stepped {
 pub struct Started {
     pub answer: Answer,
     pub state: State,
-}
-
-// What stands at a place of a list: a task's or an object's number, or nothing.
-#[derive(Clone, Copy)]
-pub enum Listed {
-    Number(u8),
-    Nothing,
 }

@@ -1,77 +1,69 @@
 // The events, each a method that takes the state by value and hands it back beside the answer and the report, and the test of soundness.
-ghost use Rattle.std.specs.Prelude.{◌≡◌};
+ghost use Rattle.std.specs.Prelude.{◌≡◌, cond, is_ok};
+ghost use Rattle.dispatch.specs.State.{encode};
 ghost use Rattle.dispatch.specs.Sound.{sound_of};
 ghost use Rattle.dispatch.specs.Methods.{unsound, applied_of, enter_of, leave_of, delay_of, suspend_of, release_of, clock_of};
-ghost use Rattle.dispatch.specs.Methods.{set_of, work_of, finish_of};
+ghost use Rattle.dispatch.specs.Methods.{set_of, work_of, finish_of, loaded_of};
 
 use crate::load::load;
 use crate::store::store;
 use crate::{State, Stepped};
-use memory::rulings;
-use rules::{Answer, Event, Priority, Report};
+use memory::Memory;
+use rules::{Answer, Event, Priority, Refusal, Report};
 
 impl State {
+    // The engine's memory of a sound state.
+    fn loaded(&self) -> Option<Memory>
+        ensures { result ≡ loaded_of self.entry.now }
+    {
+        if !self.fits() {
+            return None;
+        }
+        let memory = load(self);
+        if soundness::sound(&memory, self.marks) {
+            Some(memory)
+        } else {
+            None
+        }
+    }
+
     pub fn sound(self) -> bool
         ensures { result ≡ sound_of self }
     {
-        if !self.fits() {
-            return false;
-        }
-        let m = load(self);
-        let head = m.head;
-        let tasks = m.tasks;
-        let held = m.held;
-        let ceilings = m.ceilings;
-        let queues = m.queues;
-        soundness::sound(&head, &tasks, &held, &ceilings, &queues, self.marks)
+        self.loaded().is_some()
     }
 
     fn unsound(self) -> Stepped
         ensures { result ≡ unsound self }
     {
         Stepped {
-            answer: Answer::Unsound,
+            answer: Err(Refusal::Unsound),
             report: Report::Unchanged,
             state: self,
         }
     }
 
-    // Any event: the state is tested, loaded into the engine's slices and stored again, unless it is refused.
+    // Any event: the state is tested, loaded into the engine's memory and stored again, unless it is refused.
     pub fn applied(self, event: Event) -> Stepped
         ensures { result ≡ applied_of self event }
     {
-        if !self.fits() {
+        let Some(mut memory) = self.loaded() else {
             return self.unsound();
-        }
-        let m = load(self);
-        let mut head = m.head;
-        let mut tasks = m.tasks;
-        let mut held = m.held;
-        let ceilings = m.ceilings;
-        let mut queues = m.queues;
-        if !soundness::sound(&head, &tasks, &held, &ceilings, &queues, self.marks) {
-            return self.unsound();
-        }
-        let ruling = engine::apply(
-            &mut head,
-            &mut tasks,
-            &mut held,
-            &ceilings,
-            &mut queues,
-            event,
-        );
-        if rulings::number(ruling) != 0 {
-            return Stepped {
-                answer: rulings::answer(ruling),
-                report: rulings::report(ruling),
-                state: self,
-            };
-        }
+        };
+        let ruling = engine::apply(&mut memory, event);
+        let answer = ruling.answer();
         Stepped {
-            answer: rulings::answer(ruling),
-            report: rulings::report(ruling),
-            state: store(head, tasks, held, ceilings, queues),
+            answer,
+            report: ruling.report(),
+            state: self.after(answer, &memory),
         }
+    }
+
+    // The state beside an answer: that of the memory, or a refused event's as it came.
+    fn after(self, answer: Answer, memory: &Memory) -> State
+        ensures { result ≡ cond (is_ok answer) (encode memory.entry.now) self }
+    {
+        if answer.is_ok() { store(memory) } else { self }
     }
 
     pub fn enter(self, o: u64) -> Stepped

@@ -1,79 +1,52 @@
-// From the engine's slices back to a state.
-ghost use Rattle.std.specs.Prelude.{◌≡◌, map, ◌≤◌};
-ghost use Rattle.rules.specs.Limits.{task_limit};
-ghost use Rattle.memory.specs.Tasks.{tasks_in, Tasks};
-ghost use Rattle.memory.specs.Memory.{runner_of, model_of, Valid};
-ghost use Rattle.dispatch.specs.State.{priority, encode};
+// From the engine's memory back to a state.
+ghost use Rattle.std.specs.Prelude.{◌≡◌, ◌≤◌, length, map};
+ghost use Rattle.rules.specs.Limits.{task_limit, object_limit};
+ghost use Rattle.rules.specs.Priorities.{priority};
+ghost use Rattle.memory.specs.Memory.{task_for, blank_task};
+ghost use Rattle.loading.specs.Loading.{padded};
+ghost use Rattle.dispatch.specs.State.{encode};
 
 use crate::State;
-use memory::sizes::{
-    HEAD_WIDTH, HELD_CELLS, MARKS_CELL, NOW_CELL, OBJECTS_CELL, QUEUE_CELLS, RUNNING_CELL,
-    TASK_CELLS, TASKS_CELL,
-};
-use rules::{Priority, Roster, Runner, Task};
+use memory::Memory;
+use memory::objects::ceiling_of;
+use memory::sizes::{HELD_CELLS, QUEUE_CELLS};
+use rules::{Priority, Roster, Task};
+use std::array;
 
-fn stored_tasks(tasks: &[u64]) -> [Task; Roster::TASKS]
-    requires { Tasks tasks.now }
-    ensures { result ≡ tasks_in tasks.now }
+fn tasks(memory: &Memory) -> [Task; Roster::TASKS]
+    requires { length memory.now.tasks ≤ task_limit }
+    ensures { result ≡ padded task_limit (map task_for memory.entry.now.tasks) blank_task }
 {
-    let first = memory::tasks::get(tasks, 0);
-    let mut records = [first; Roster::TASKS];
-    let mut i: usize = 0;
-    while i < Roster::TASKS {
-        let k = memory::tasks::get(tasks, i);
-        records[i] = k;
-        i += 1;
-    }
-    records
+    array::from_fn(|t| memory.task(t as u8))
 }
 
-fn stored_ceilings(ceilings: [u8; Roster::OBJECTS]) -> [Priority; Roster::OBJECTS]
-    ensures { result ≡ map priority ceilings }
+fn ceilings(memory: &Memory) -> [Priority; Roster::OBJECTS]
+    requires { length memory.now.ceilings ≤ object_limit }
+    ensures { result ≡ padded object_limit (map priority memory.entry.now.ceilings) (priority 0) }
 {
-    let mut levels = [Priority(0); Roster::OBJECTS];
-    let mut i: usize = 0;
-    while i < Roster::OBJECTS {
-        let p = Priority(ceilings[i]);
-        levels[i] = p;
-        i += 1;
-    }
-    levels
+    array::from_fn(|o| ceiling_of(memory.ceilings(), o as u8))
 }
 
-// Who runs, from the engine's head.
-fn runner(code: u64) -> Runner
-    requires { code ≤ task_limit }
-    ensures { result ≡ runner_of code }
+// The state for the Model that the memory means.
+pub fn store(memory: &Memory) -> State
+    ensures { result ≡ encode memory.entry.now }
 {
-    if code == 0 {
-        return Runner::Nobody;
-    }
-    Runner::Task((code - 1) as u8)
-}
-
-// The state for the Model that the slices mean.
-pub fn store(
-    head: [u64; HEAD_WIDTH],
-    tasks: [u64; TASK_CELLS],
-    held: [u8; HELD_CELLS],
-    ceilings: [u8; Roster::OBJECTS],
-    queues: [u8; QUEUE_CELLS],
-) -> State
-    requires { Valid head tasks held ceilings queues }
-    ensures { result ≡ encode (model_of head tasks held ceilings queues) }
-{
-    let running = runner(head[RUNNING_CELL]);
-    let records = stored_tasks(&tasks);
-    let levels = stored_ceilings(ceilings);
+    let task_count = memory.task_count();
+    let object_count = memory.object_count();
+    let marks = memory.marks();
+    let mut held = [0; HELD_CELLS];
+    loading::store_held(memory, &mut held);
+    let mut queues = [0; QUEUE_CELLS];
+    loading::store_queues(memory, &mut queues);
     State {
-        now: head[NOW_CELL],
-        running: running,
-        task_count: head[TASKS_CELL] as u8,
-        object_count: head[OBJECTS_CELL] as u8,
-        marks: head[MARKS_CELL] as u32,
-        tasks: records,
-        held: held,
-        ceilings: levels,
-        queues: queues,
+        now: memory.now(),
+        running: memory.running(),
+        task_count,
+        object_count,
+        marks,
+        tasks: tasks(memory),
+        held,
+        ceilings: ceilings(memory),
+        queues,
     }
 }

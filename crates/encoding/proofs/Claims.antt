@@ -1,13 +1,12 @@
 -- The claims of written rosters.
-use mathlib.Core.Path.{refl, ap, sym, ◌∙◌}
+use mathlib.Core.Path.{ap, sym, ◌∙◌}
 use mathlib.Core.List.{List}
 use Prim.Native.Nat.{ℕ}
 use lib.ListN.{length, take, drop}
 use lib.Seq.{take-append_seam}
-use Rattle.words.specs.Words.{over_front}
 use Rattle.format.specs.Roster.{Roster, roster_of}
 use Rattle.format.specs.Form.{form_of}
-use Rattle.format.specs.declared.Verdict.TheVariants.{BadLength}
+use Rattle.format.specs.declared.Fault.TheVariants.{BadLength}
 use Rattle.encoding.specs.File.{file_of}
 use Rattle.encoding.specs.Answers.{write_buffer_of}
 use Rattle.encoding.specs.Encoding.{parts_of}
@@ -23,8 +22,8 @@ refuses-as-read p e f h = as_read p (sizes-of p e f h)
 pub reads-back : ReadsBack
 reads-back p out e =
     let ok = done-file p (length out) e in
-    let file = sym (part-whole p (length out) (file_of p) e refl) in
-    let buffer = sym (buffer-written p out (over_front (file_of p) out) e refl) in
+    let file = part-whole p (length out) e in
+    let buffer = buffer-written p out e in
     record {
       front =
           ap (λ (l : List ℕ). take (length l) (write_buffer_of p out)) file ∙
@@ -34,7 +33,7 @@ reads-back p out e =
     }
 
 pub length-before-room : LengthBeforeRoom
-length-before-room p size e h = sym (answer-refused p size BadLength _ (file-long p e h) refl refl)
+length-before-room p size e h = answer-refused p size BadLength (file-long p e h)
 
 pub one-encoding : OneEncoding
 one-encoding s u sb ub sp up =
@@ -47,6 +46,6 @@ writes_again s bytes ok =
     let known = read-sizes s bytes ok in
     let passes = sym (as_read p known) ∙ (ap form_of file ∙ ok) in
     record {
-      answer = λ size h. sym (answer-done p size (sym (file-passes p passes known.small)) (rw file h));
+      answer = λ size h. answer-done p size (file-passes p passes known.small) (rw file h);
       file = file;
     }

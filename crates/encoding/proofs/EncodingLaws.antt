@@ -1,4 +1,5 @@
 -- A roster that passes 11 to 16 is the file of its own parts.
+use Rattle.std.specs.Prelude.{Ok}
 use mathlib.Core.Path.{◌≡◌, refl, ap, sym, ◌∙◌}
 use mathlib.Core.Bool.{true, ◌&&◌}
 use mathlib.Core.List.{List, [], ◌∷◌, ◌++◌}
@@ -23,7 +24,6 @@ use Rattle.format.specs.Steps.{a_at, b_at, step_at, step_count}
 use Rattle.format.specs.Roster.{Roster, roster_of, script_of}
 use Rattle.format.specs.Form.{length_good, mark_good, counts_kept, scripts_end, task_row_good, object_row_good, values_good}
 use Rattle.format.specs.Form.{is_step, unused_zero, names_listed, stands_right, step_good, form_of}
-use Rattle.format.specs.declared.Verdict.TheVariants.{Passed}
 use Rattle.format.proofs.TestLaws.{below_at}
 use Rattle.format.proofs.StepLaws.{steps-length}
 use Rattle.format.proofs.FormatLaws.{base-listed, ceiling-listed, script-listed, base-count, ceiling-count}
@@ -37,7 +37,7 @@ use Rattle.encoding.proofs.PieceLaws.{pieces-suc, pieces-found}
 use Rattle.encoding.proofs.FileLaws.{before-none, before-suc, task-rows, object-rows, Sizes}
 use Rattle.encoding.proofs.StepLaws.{word_back, script-bytes}
 
-module _ (s : List ℕ) (bytes : Bytes s) (ok : form_of s ≡ Passed) where
+module _ (s : List ℕ) (bytes : Bytes s) (ok : form_of s ≡ Ok tt) where
   abbrev r : Roster
   r = roster_of s
 

@@ -9,9 +9,9 @@ use borrow.Author.Tests.{eqb-true}
 use lib.Dec.{eqb}
 use lib.ListN.{length, get_or, take, drop}
 use lib.Seq.{take_all}
+use Rattle.std.specs.Prelude.{None, Option, Some}
 use Rattle.rules.specs.Priorities.{in_range, checked_of}
-use Rattle.rules.specs.declared.Checked.{Checked}
-use Rattle.rules.specs.declared.Checked.TheVariants.{Good, OutOfRange}
+use Rattle.rules.specs.declared.Priority.{Priority}
 use Rattle.rules.proofs.Choices.{split, clash, and_left, and_right}
 use Rattle.words.specs.Words.{byte_at, word_at, word, tabulate, Bytes}
 use Rattle.words.proofs.TableLaws.{window}
@@ -75,18 +75,18 @@ module _ (a b : ℕ) where
   unfolding Back step_of unused_zero bytes_of_step
   back-6 i e = b-none 6 e
 
-  set_back : (v : Checked) → v ≡ checked_of b → is_step (set_step a v) ≡ true → bytes_of_step (set_step a v) ≡ 7 ∷ a ∷ word b
+  set_back : (v : Option Priority) → v ≡ checked_of b → is_step (set_step a v) ≡ true → bytes_of_step (set_step a v) ≡ 7 ∷ a ∷ word b
   unfolding set_step is_step bytes_of_step
-  set_back (Good p) f e =
+  set_back (Some p) f e =
       by-test (in_range b)
       (λ h.
-      let g : checked_of b ≡ Good (record { 0 = b }) = ap (λ (x : Bool). cond x (Good (record { 0 = b })) OutOfRange) h in
+      let g : checked_of b ≡ Some (record { 0 = b }) = ap (λ (x : Bool). cond x (Some (record { 0 = b })) None) h in
       let k : p ≡ record { 0 = b } = cc in
       ap (λ (x : ℕ). 7 ∷ a ∷ word x) (ap (λ (q : _). q.0) k))
       (λ h.
-      let g : checked_of b ≡ OutOfRange = ap (λ (x : Bool). cond x (Good (record { 0 = b })) OutOfRange) h in
+      let g : checked_of b ≡ None = ap (λ (x : Bool). cond x (Some (record { 0 = b })) None) h in
       absurd (let z : ◌≡◌ {A = ℕ} 0 1 = cc in omega arith))
-  set_back OutOfRange f e = clash (sym e)
+  set_back None f e = clash (sym e)
 
   back-7 : Back 7
   unfolding Back step_of

@@ -2,54 +2,57 @@
 #![tactic(auto)]
 
 ghost use Rattle.std.specs.Prelude.{◌≡◌};
-ghost use Rattle.encoding.specs.Answers.{number_of, task_of, position_of, wrote};
+ghost use Rattle.encoding.specs.Answers.{error_number, error_task, error_position};
+ghost use Rattle.encoding.specs.declared.WriteError.TheVariants.{Refused};
 
-use format::Verdict;
+use format::{Fault, Placed};
+use rules::Numbered;
 
-// Done, what is wrong with what was given (13 to 16, then 11), or a buffer shorter than the file.
-#[derive(Clone, Copy)]
-pub enum WriteAnswer {
-    Done,
-    Refused(Verdict),
+// What is wrong with what was given (13 to 16, then 11), or a buffer shorter than the file.
+#[derive(Clone, Copy, PartialEq, Eq)]
+pub enum WriteError {
+    Refused(Fault),
     ShortBuffer,
 }
 
-impl WriteAnswer {
-    pub fn wrote(self) -> bool
-        ensures { result ≡ wrote self }
-    {
-        self.number() == 0
-    }
+// What the writer answers.
+pub type WriteAnswer = Result<(), WriteError>;
 
-    pub fn number(self) -> u8
-        ensures { result ≡ number_of self }
-    {
+impl From<Fault> for WriteError {
+    ghost from_gives = { λ f e. e ≡ Refused f };
+
+    fn from(fault: Fault) -> WriteError {
+        WriteError::Refused(fault)
+    }
+}
+
+impl Numbered for WriteError {
+    ghost number = { error_number };
+
+    fn number(self) -> u8 {
         match self {
-            WriteAnswer::Done => 0,
-            WriteAnswer::Refused(v) => v.number(),
-            WriteAnswer::ShortBuffer => 22,
+            WriteError::Refused(f) => f.number(),
+            WriteError::ShortBuffer => 22,
+        }
+    }
+}
+
+impl Placed for WriteError {
+    ghost task = { error_task };
+
+    ghost position = { error_position };
+
+    fn task(self) -> u8 {
+        match self {
+            WriteError::Refused(f) => f.task(),
+            WriteError::ShortBuffer => 0,
         }
     }
 
-    // The task of a bad step, or 0.
-    pub fn task(self) -> u8
-        ensures { result ≡ task_of self }
-    {
+    fn position(self) -> usize {
         match self {
-            WriteAnswer::Done => 0,
-            WriteAnswer::Refused(v) => v.task(),
-            WriteAnswer::ShortBuffer => 0,
-        }
-    }
-
-    // Its position in the task's script, or 0.
-    pub fn position(self) -> usize
-        ensures { result ≡ position_of self }
-    {
-        match self {
-            WriteAnswer::Done => 0,
-            WriteAnswer::Refused(v) => v.position(),
-            WriteAnswer::ShortBuffer => 0,
+            WriteError::Refused(f) => f.position(),
+            WriteError::ShortBuffer => 0,
         }
     }
 }

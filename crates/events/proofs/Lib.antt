@@ -1,3 +1,1 @@
-pub mod ValidLaws
-pub mod ApplyLaws
-pub mod ReportLaws
+pub mod SoundLaws

@@ -1,47 +1,35 @@
 // How an accepted event ends: one dispatch, and the report of who had the processor before and has it after.
-ghost use Rattle.std.specs.Prelude.{◌≡◌, ◌%◌};
+ghost use Rattle.std.specs.Prelude.{◌≡◌, Ok};
 ghost use Rattle.rules.specs.Moved.{report_by, accepted};
-ghost use Rattle.memory.specs.Rulings.{report_unit, report_in};
-ghost use Rattle.memory.specs.Memory.{runner_of, model_of, LaidOut, Did};
+ghost use Rattle.memory.specs.Rulings.{answer_in, report_in};
+ghost use Rattle.memory.specs.Memory.{Did};
 ghost use Rattle.moves.specs.Room.{Dispatches};
 
-use memory::rulings;
-use memory::sizes::{HEAD_WIDTH, HELD_CELLS, RUNNING_CELL};
-use rules::Roster;
+use memory::Memory;
+use memory::rulings::Ruling;
 
-// Accepted, with the report by the running cell before the event, when its dispatch begins, and after it.
-fn accepted_by(before: u64, pending: u64, after: u64) -> u8
-    ensures report_unit_value { result % report_unit ≡ 0 }
-    ensures result_value { report_in result ≡ report_by (runner_of before) (runner_of pending) (runner_of after) }
+// Accepted, with the report by who ran before the event, when its dispatch begins, and after it.
+#[tactic(auto, unfolding(rules::specs::Moved::report_by, rules::specs::Moved::is_nobody, rules::specs::Moved::same_runner))]
+fn accepted_by(before: Option<u8>, pending: Option<u8>, after: Option<u8>) -> Ruling
+    ensures answer { answer_in result ≡ Ok tt }
+    ensures report { report_in result ≡ report_by before pending after }
 {
     if before == after {
-        return rulings::UNCHANGED;
+        Ruling::Unchanged
+    } else if before.is_some() && before == pending {
+        Ruling::Preempted
+    } else {
+        Ruling::Changed
     }
-    if before == 0 {
-        return rulings::CHANGED;
-    }
-    if before == pending {
-        return rulings::PREEMPTED;
-    }
-    rulings::CHANGED
 }
 
-// The running cell was `before` when the event came.
-pub fn conclude(
-    head: &mut [u64; HEAD_WIDTH],
-    tasks: &mut [u64],
-    held: &[u8; HELD_CELLS],
-    ceilings: &[u8; Roster::OBJECTS],
-    queues: &mut [u8],
-    before: u64,
-) -> u8
-    requires laid_out { LaidOut head.old tasks.old held.now ceilings.now queues.old }
-    requires dispatches { Dispatches (model_of head.old tasks.old held.now ceilings.now queues.old) }
-    ensures { Did head.new tasks.new held.now ceilings.now queues.new result
-        (accepted (runner_of before)
-        (model_of head.old tasks.old held.now ceilings.now queues.old)) }
+// `before` ran when the event came.
+#[tactic(auto, unfolding(rules::specs::Moved::accepted))]
+pub fn conclude(memory: &mut Memory, before: Option<u8>) -> Ruling
+    requires { Dispatches memory.old }
+    ensures { Did memory.new result (accepted before memory.old) }
 {
-    let pending = head[RUNNING_CELL];
-    moves::dispatch(head, tasks, held, ceilings, queues);
-    accepted_by(before, pending, head[RUNNING_CELL])
+    let pending = memory.running();
+    moves::dispatch(memory);
+    accepted_by(before, pending, memory.running())
 }

@@ -1,288 +1,191 @@
-// Internal: pub only for our own crates. The nine events, as in specs/Events.antt of crate rules, in place on the slices of crate memory.
-// Each event may assume that the slices are laid out and mean a sound Model.
+// Internal: pub only for our own crates. The nine events, as in specs/Events.antt of crate rules, on the engine's memory. Each may assume
+// that the memory means a sound Model, and leaves a sound one.
 #![tactic(auto)]
 
-ghost use Rattle.std.specs.Prelude.{◌≡◌};
+ghost use Rattle.std.specs.Prelude.{◌≡◌, true};
 ghost use Rattle.rules.specs.Events.{enter, leave, delay, suspend, release, bad_reading, clock, set_base, work, finish};
-ghost use Rattle.memory.specs.Memory.{model_of, Valid, Did};
+ghost use Rattle.rules.specs.Sound.{sound};
+ghost use Rattle.memory.specs.Memory.{Did};
 
 mod conclusion;
 
 use crate::conclusion::conclude;
-use memory::sizes::{
-    HEAD_WIDTH, HELD_CELLS, LAST_READING, LONGEST_ADVANCE, NEXT_CELL, NOW_CELL, OBJECTS_CELL,
-    RUNNING_CELL, TASKS_CELL,
-};
-use memory::{held, priorities, rulings, tasks};
+use memory::Memory;
+use memory::rulings::Ruling;
+use memory::sizes::{LAST_READING, LONGEST_ADVANCE};
 use moves::{effects, waking};
-use rules::{Place, Priority, Roster};
+use rules::{Place, Priority};
 
 // No dispatch follows: who enters stays the highest.
-pub fn enter(
-    head: &[u64; HEAD_WIDTH],
-    tasks: &[u64],
-    held: &mut [u8; HELD_CELLS],
-    ceilings: &[u8; Roster::OBJECTS],
-    queues: &[u8],
-    o: u64,
-) -> u8
-    requires { Valid head.now tasks.now held.old ceilings.now queues.now }
-    ensures { Did head.now tasks.now held.new ceilings.now queues.now result
-        (enter
-        (model_of head.now tasks.now held.old ceilings.now queues.now)
-        o) }
+#[tactic(auto, unfolding(rules::specs::Events::enter, rules::specs::Moved::refuse_if_nobody))]
+pub fn enter(memory: &mut Memory, o: u64) -> Ruling
+    requires { sound memory.old ≡ true }
+    ensures did { Did memory.new result (enter memory.old o) }
+    ensures kept { sound memory.new ≡ true }
 {
-    if head[OBJECTS_CELL] <= o {
-        return rulings::NO_SUCH_OBJECT;
+    if o >= u64::from(memory.object_count()) {
+        return Ruling::NoSuchObject;
     }
-    let running = head[RUNNING_CELL];
-    if running == 0 {
-        return rulings::NOBODY_RUNS;
-    }
-    let t = (running - 1) as usize;
+    let Some(t) = memory.running() else {
+        return Ruling::NobodyRuns;
+    };
     let object = o as u8;
-    if held::holds(held, t, object) {
-        return rulings::INSIDE_ACTION;
+    if memory.holds(t, object) {
+        return Ruling::InsideAction;
     }
-    let a = priorities::active_inside(head, tasks, held, ceilings, queues, t);
-    if ceilings[o as usize] < a.0 {
-        return rulings::ABOVE_CEILING;
+    if memory.ceiling(object) < memory.active_inside(t) {
+        return Ruling::AboveCeiling;
     }
-    held::push(held, t, object);
-    rulings::UNCHANGED
+    memory.hold(t, object);
+    Ruling::Unchanged
 }
 
-pub fn leave(
-    head: &mut [u64; HEAD_WIDTH],
-    tasks: &mut [u64],
-    held: &mut [u8; HELD_CELLS],
-    ceilings: &[u8; Roster::OBJECTS],
-    queues: &mut [u8],
-    o: u64,
-) -> u8
-    requires { Valid head.old tasks.old held.old ceilings.now queues.old }
-    ensures { Did head.new tasks.new held.new ceilings.now queues.new result
-        (leave
-        (model_of head.old tasks.old held.old ceilings.now queues.old)
-        o) }
+#[tactic(auto, unfolding(rules::specs::Events::leave, rules::specs::Moved::refuse_if_nobody))]
+pub fn leave(memory: &mut Memory, o: u64) -> Ruling
+    requires { sound memory.old ≡ true }
+    ensures did { Did memory.new result (leave memory.old o) }
+    ensures kept { sound memory.new ≡ true }
 {
-    if head[OBJECTS_CELL] <= o {
-        return rulings::NO_SUCH_OBJECT;
+    if o >= u64::from(memory.object_count()) {
+        return Ruling::NoSuchObject;
     }
-    let running = head[RUNNING_CELL];
-    if running == 0 {
-        return rulings::NOBODY_RUNS;
+    let Some(t) = memory.running() else {
+        return Ruling::NobodyRuns;
+    };
+    if !memory.innermost(t, o as u8) {
+        return Ruling::NotInnermost;
     }
-    let t = (running - 1) as usize;
-    if held::depth(held, t) == 0 {
-        return rulings::NOT_INNERMOST;
-    }
-    if held::last(held, t) as u64 != o {
-        return rulings::NOT_INNERMOST;
-    }
-    held::drop_last(held, t);
-    effects::settle(head, tasks, held, ceilings, queues, t);
-    conclude(head, tasks, held, ceilings, queues, running)
+    memory.give_up(t);
+    effects::settle(memory, t);
+    conclude(memory, Some(t))
 }
 
-pub fn delay(
-    head: &mut [u64; HEAD_WIDTH],
-    tasks: &mut [u64],
-    held: &[u8; HELD_CELLS],
-    ceilings: &[u8; Roster::OBJECTS],
-    queues: &mut [u8],
-    d: u16,
-) -> u8
-    requires { Valid head.old tasks.old held.now ceilings.now queues.old }
-    ensures { Did head.new tasks.new held.now ceilings.now queues.new result
-        (delay
-        (model_of head.old tasks.old held.now ceilings.now queues.old)
-        d) }
+#[tactic(auto, unfolding(rules::specs::Events::delay, rules::specs::Moved::refuse_if_nobody))]
+pub fn delay(memory: &mut Memory, d: u16) -> Ruling
+    requires { sound memory.old ≡ true }
+    ensures did { Did memory.new result (delay memory.old d) }
+    ensures kept { sound memory.new ≡ true }
 {
-    let running = head[RUNNING_CELL];
-    if running == 0 {
-        return rulings::NOBODY_RUNS;
+    let Some(t) = memory.running() else {
+        return Ruling::NobodyRuns;
+    };
+    if memory.inside(t) {
+        return Ruling::InsideAction;
     }
-    let t = (running - 1) as usize;
-    if 0 < held::depth(held, t) {
-        return rulings::INSIDE_ACTION;
-    }
-    head[RUNNING_CELL] = 0;
-    effects::put_off(head, tasks, held, ceilings, queues, t, d);
-    conclude(head, tasks, held, ceilings, queues, running)
+    memory.set_running(None);
+    effects::put_off(memory, t, d);
+    conclude(memory, Some(t))
 }
 
 // No dispatch follows where the task had a permit: it runs on.
-pub fn suspend(
-    head: &mut [u64; HEAD_WIDTH],
-    tasks: &mut [u64],
-    held: &[u8; HELD_CELLS],
-    ceilings: &[u8; Roster::OBJECTS],
-    queues: &mut [u8],
-) -> u8
-    requires { Valid head.old tasks.old held.now ceilings.now queues.old }
-    ensures { Did head.new tasks.new held.now ceilings.now queues.new result
-        (suspend
-        (model_of head.old tasks.old held.now ceilings.now queues.old)) }
+#[tactic(auto, unfolding(rules::specs::Events::suspend, rules::specs::Moved::refuse_if_nobody))]
+pub fn suspend(memory: &mut Memory) -> Ruling
+    requires { sound memory.old ≡ true }
+    ensures did { Did memory.new result (suspend memory.old) }
+    ensures kept { sound memory.new ≡ true }
 {
-    let running = head[RUNNING_CELL];
-    if running == 0 {
-        return rulings::NOBODY_RUNS;
+    let Some(t) = memory.running() else {
+        return Ruling::NobodyRuns;
+    };
+    if memory.inside(t) {
+        return Ruling::InsideAction;
     }
-    let t = (running - 1) as usize;
-    if 0 < held::depth(held, t) {
-        return rulings::INSIDE_ACTION;
+    if effects::rest(memory, t) {
+        return Ruling::Unchanged;
     }
-    if effects::rest(head, tasks, held, ceilings, queues, t) {
-        return rulings::UNCHANGED;
-    }
-    conclude(head, tasks, held, ceilings, queues, running)
+    conclude(memory, Some(t))
 }
 
 // No dispatch follows where t was not suspended: a permit moves nobody.
-pub fn release(
-    head: &mut [u64; HEAD_WIDTH],
-    tasks: &mut [u64],
-    held: &[u8; HELD_CELLS],
-    ceilings: &[u8; Roster::OBJECTS],
-    queues: &mut [u8],
-    t: u64,
-) -> u8
-    requires { Valid head.old tasks.old held.now ceilings.now queues.old }
-    ensures { Did head.new tasks.new held.now ceilings.now queues.new result
-        (release
-        (model_of head.old tasks.old held.now ceilings.now queues.old)
-        t) }
+#[tactic(auto, unfolding(rules::specs::Events::release))]
+pub fn release(memory: &mut Memory, t: u64) -> Ruling
+    requires { sound memory.old ≡ true }
+    ensures did { Did memory.new result (release memory.old t) }
+    ensures kept { sound memory.new ≡ true }
 {
-    if head[TASKS_CELL] <= t {
-        return rulings::NO_SUCH_TASK;
+    if t >= u64::from(memory.task_count()) {
+        return Ruling::NoSuchTask;
     }
-    let running = head[RUNNING_CELL];
-    if !effects::release_from(head, tasks, held, ceilings, queues, t as usize) {
-        return rulings::UNCHANGED;
+    let before = memory.running();
+    if !effects::release_from(memory, t as u8) {
+        return Ruling::Unchanged;
     }
-    conclude(head, tasks, held, ceilings, queues, running)
+    conclude(memory, before)
 }
 
-// Whether the reading r is refused where now is at. A leap is told by the difference, since a sum could overflow.
-fn bad_reading(at: u64, r: u64) -> bool
-    ensures { result ≡ bad_reading at r }
+// Whether the reading r is refused at this now. A leap is told by the difference, since a sum could overflow.
+#[tactic(auto, unfolding(rules::specs::Events::bad_reading))]
+fn bad_reading(now: u64, r: u64) -> bool
+    ensures { result ≡ bad_reading now r }
 {
-    if r < at {
-        return true;
-    }
-    if LONGEST_ADVANCE < r - at {
-        return true;
-    }
-    if LAST_READING < r {
-        return true;
-    }
-    false
+    r < now || r - now > LONGEST_ADVANCE || r > LAST_READING
 }
 
 // No task is looked at, and no dispatch follows, where the reading is before the bound: it moves nobody then.
-pub fn clock(
-    head: &mut [u64; HEAD_WIDTH],
-    tasks: &mut [u64],
-    held: &[u8; HELD_CELLS],
-    ceilings: &[u8; Roster::OBJECTS],
-    queues: &mut [u8],
-    r: u64,
-) -> u8
-    requires { Valid head.old tasks.old held.now ceilings.now queues.old }
-    ensures { Did head.new tasks.new held.now ceilings.now queues.new result
-        (clock
-        (model_of head.old tasks.old held.now ceilings.now queues.old)
-        r) }
+#[tactic(auto, unfolding(rules::specs::Events::clock))]
+pub fn clock(memory: &mut Memory, r: u64) -> Ruling
+    requires { sound memory.old ≡ true }
+    ensures did { Did memory.new result (clock memory.old r) }
+    ensures kept { sound memory.new ≡ true }
 {
-    let at = head[NOW_CELL];
-    if bad_reading(at, r) {
-        return rulings::BAD_READING;
+    if bad_reading(memory.now(), r) {
+        return Ruling::BadReading;
     }
-    head[NOW_CELL] = r;
-    if r < head[NEXT_CELL] {
-        return rulings::UNCHANGED;
+    memory.set_now(r);
+    if r < memory.bound() {
+        return Ruling::Unchanged;
     }
-    let running = head[RUNNING_CELL];
-    waking::wake_up(head, tasks, held, ceilings, queues, r);
-    conclude(head, tasks, held, ceilings, queues, running)
+    let before = memory.running();
+    waking::wake_up(memory, r);
+    conclude(memory, before)
 }
 
-pub fn set(
-    head: &mut [u64; HEAD_WIDTH],
-    tasks: &mut [u64],
-    held: &[u8; HELD_CELLS],
-    ceilings: &[u8; Roster::OBJECTS],
-    queues: &mut [u8],
-    t: u64,
-    p: Priority,
-) -> u8
-    requires { Valid head.old tasks.old held.now ceilings.now queues.old }
-    ensures { Did head.new tasks.new held.now ceilings.now queues.new result
-        (set_base
-        (model_of head.old tasks.old held.now ceilings.now queues.old)
-        t p.0) }
+#[tactic(auto, unfolding(rules::specs::Events::set_base, rules::specs::Events::is_ended))]
+pub fn set(memory: &mut Memory, t: u64, p: Priority) -> Ruling
+    requires { sound memory.old ≡ true }
+    ensures did { Did memory.new result (set_base memory.old t p.0) }
+    ensures kept { sound memory.new ≡ true }
 {
-    let first = Priority::FIRST;
-    let last = Priority::LAST;
-    if head[TASKS_CELL] <= t {
-        return rulings::NO_SUCH_TASK;
+    if t >= u64::from(memory.task_count()) {
+        return Ruling::NoSuchTask;
     }
-    if p.0 < first.0 {
-        return rulings::BAD_PRIORITY;
+    if !p.in_range() {
+        return Ruling::BadPriority;
     }
-    if last.0 < p.0 {
-        return rulings::BAD_PRIORITY;
+    let task = t as u8;
+    if memory.place(task) == Place::Ended {
+        return Ruling::EndedTask;
     }
-    let place = tasks::place(tasks, t as usize);
-    if effects::is_ended(place) {
-        return rulings::ENDED_TASK;
-    }
-    let running = head[RUNNING_CELL];
-    effects::rebase(head, tasks, held, ceilings, queues, t as usize, p);
-    conclude(head, tasks, held, ceilings, queues, running)
+    let before = memory.running();
+    effects::rebase(memory, task, p);
+    conclude(memory, before)
 }
 
 // No dispatch follows: in a sound state it moves nobody.
-pub fn work(
-    head: &[u64; HEAD_WIDTH],
-    tasks: &[u64],
-    held: &[u8; HELD_CELLS],
-    ceilings: &[u8; Roster::OBJECTS],
-    queues: &[u8],
-) -> u8
-    requires { Valid head.now tasks.now held.now ceilings.now queues.now }
-    ensures { Did head.now tasks.now held.now ceilings.now queues.now result
-        (work
-        (model_of head.now tasks.now held.now ceilings.now queues.now)) }
+#[tactic(auto, unfolding(rules::specs::Events::work, rules::specs::Moved::refuse_if_nobody))]
+pub fn work(memory: &Memory) -> Ruling
+    requires { sound memory.now ≡ true }
+    ensures { Did memory.entry.now result (work memory.entry.now) }
 {
-    if head[RUNNING_CELL] == 0 {
-        return rulings::NOBODY_RUNS;
+    match memory.running() {
+        None => Ruling::NobodyRuns,
+        Some(_) => Ruling::Unchanged,
     }
-    rulings::UNCHANGED
 }
 
-pub fn finish(
-    head: &mut [u64; HEAD_WIDTH],
-    tasks: &mut [u64],
-    held: &[u8; HELD_CELLS],
-    ceilings: &[u8; Roster::OBJECTS],
-    queues: &mut [u8],
-) -> u8
-    requires { Valid head.old tasks.old held.now ceilings.now queues.old }
-    ensures { Did head.new tasks.new held.now ceilings.now queues.new result
-        (finish
-        (model_of head.old tasks.old held.now ceilings.now queues.old)) }
+#[tactic(auto, unfolding(rules::specs::Events::finish, rules::specs::Moved::refuse_if_nobody))]
+pub fn finish(memory: &mut Memory) -> Ruling
+    requires { sound memory.old ≡ true }
+    ensures did { Did memory.new result (finish memory.old) }
+    ensures kept { sound memory.new ≡ true }
 {
-    let running = head[RUNNING_CELL];
-    if running == 0 {
-        return rulings::NOBODY_RUNS;
+    let Some(t) = memory.running() else {
+        return Ruling::NobodyRuns;
+    };
+    if memory.inside(t) {
+        return Ruling::InsideAction;
     }
-    let t = (running - 1) as usize;
-    if 0 < held::depth(held, t) {
-        return rulings::INSIDE_ACTION;
-    }
-    head[RUNNING_CELL] = 0;
-    tasks::set_place(tasks, t, Place::Ended);
-    conclude(head, tasks, held, ceilings, queues, running)
+    memory.set_running(None);
+    memory.set_place(t, Place::Ended);
+    conclude(memory, Some(t))
 }

@@ -9,6 +9,7 @@ ghost use Rattle.trace.specs.Run.{answer_of, buffer_of};
 ghost use Rattle.packed.specs.Packed.{packed_verdict, packed_run, script_start};
 
 use packed::pack;
+use rules::Numbered;
 
 mod boards;
 mod readers;
@@ -20,8 +21,7 @@ mod writing;
 pub extern "C" fn dispatch_form(roster: &[u8]) -> u64
     ensures { result ≡ packed_verdict (form_of roster.now) }
 {
-    let v = roster::form(roster);
-    pack(v.number(), v.task(), v.position())
+    pack(roster::form(roster))
 }
 
 // The check of a roster, in the same packing.
@@ -29,8 +29,7 @@ pub extern "C" fn dispatch_form(roster: &[u8]) -> u64
 pub extern "C" fn dispatch_check(roster: &[u8]) -> u64
     ensures { result ≡ packed_verdict (check_of roster.now) }
 {
-    let v = roster::check(roster);
-    pack(v.number(), v.task(), v.position())
+    pack(roster::check(roster))
 }
 
 // The number of a script's refusal: 11 to 16, then 1; or 0.
@@ -46,10 +45,10 @@ pub extern "C" fn dispatch_script_number(roster: &[u8], t: u64) -> u8
 pub extern "C" fn dispatch_script_start(roster: &[u8], t: u64) -> u64
     ensures { result ≡ script_start roster.now t }
 {
-    if roster::script_answer(roster, t as usize).passed() {
-        return fields::start_at(roster, t as u8) as u64;
+    match roster::listed_task(roster, t as usize) {
+        Ok(u) => fields::start_at(roster, u) as u64,
+        Err(_) => 0,
     }
-    0
 }
 
 // The length of a task's script in bytes; 0 on a refusal.
@@ -66,6 +65,5 @@ pub extern "C" fn dispatch_run(roster: &[u8], events: &[u8], buffer: &mut [u8]) 
     ensures value { result ≡ packed_run (answer_of roster.now events.now (length buffer.old)) }
     ensures buffer_after { buffer.new ≡ buffer_of roster.now events.now buffer.old }
 {
-    let a = run::run(roster, events, buffer);
-    pack(a.number(), a.task(), a.position())
+    pack(run::run(roster, events, buffer))
 }

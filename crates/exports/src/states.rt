@@ -4,16 +4,13 @@ ghost use Rattle.rules.specs.declared.Event.TheVariants.{Enter, Leave, Delay, Su
 ghost use Rattle.exports.specs.Said.{said_priority};
 ghost use Rattle.layout.specs.Events.{event_number, event_bytes, event_report, fresh_number, fresh_bytes, sound_number, running_number};
 
-use rules::{Checked, Event, Priority};
+use rules::{Event, Priority};
 
 // A number as a priority; 0, which is none, for a number that is none.
 fn said_priority(value: u64) -> Priority
     ensures { result ≡ said_priority value }
 {
-    match Priority::checked(value) {
-        Checked::Good(p) => p,
-        Checked::OutOfRange => Priority(0),
-    }
+    Priority::checked(value).unwrap_or(Priority(0))
 }
 
 // The fresh state of bases and ceilings: 0, 13 or 15, the state being written each time; 10, and nothing, into too few bytes.

@@ -5,6 +5,7 @@ ghost use Rattle.encoding.specs.Answers.{write_answer_of, write_buffer_of, writt
 ghost use Rattle.packed.specs.Packed.{packed_write};
 
 use packed::pack;
+use writer::Parts;
 
 // Writes the file at the front of the buffer, or nothing, and answers: number, 256 times the task, 65536 times the step.
 #[unsafe(no_mangle)]
@@ -22,8 +23,13 @@ pub extern "C" fn dispatch_write(
         write_buffer_of (parts bases.now ceilings.now lengths.now steps.now)
         buffer.old }
 {
-    let a = writer::write(bases, ceilings, lengths, steps, buffer);
-    pack(a.number(), a.task(), a.position())
+    let parts = Parts {
+        bases,
+        ceilings,
+        lengths,
+        steps,
+    };
+    pack(parts.write(buffer))
 }
 
 // What dispatch_write would answer with a buffer of `room` bytes.
@@ -39,8 +45,13 @@ pub extern "C" fn dispatch_write_answer(
         packed_write (write_answer_of (parts bases.now ceilings.now lengths.now steps.now)
         room) }
 {
-    let a = writer::answer(bases, ceilings, lengths, steps, room as usize);
-    pack(a.number(), a.task(), a.position())
+    let parts = Parts {
+        bases,
+        ceilings,
+        lengths,
+        steps,
+    };
+    pack(parts.answer(room as usize))
 }
 
 // Writes as dispatch_write does, and tells how long the written front part of the buffer is; 0 on a refusal.
@@ -59,7 +70,13 @@ pub extern "C" fn dispatch_written(
         write_buffer_of (parts bases.now ceilings.now lengths.now steps.now)
         buffer.old }
 {
-    let n = writer::length(bases, ceilings, lengths, steps, buffer.len());
-    writer::write(bases, ceilings, lengths, steps, buffer);
+    let parts = Parts {
+        bases,
+        ceilings,
+        lengths,
+        steps,
+    };
+    let n = parts.length(buffer.len());
+    let _ = parts.write(buffer);
     n as u64
 }

@@ -13,112 +13,107 @@ use rules::Priority;
 pub mod steps;
 
 // Where the trailer starts.
+#[tactic(auto, unfolding(format::specs::Format::trailer))]
 pub fn trailer_of(s: &[u8]) -> usize
     ensures { result ≡ trailer s.now }
 {
-    let n = s.len();
-    if n < File::TRAILER {
-        return 0;
-    }
-    n - File::TRAILER
+    s.len().saturating_sub(File::TRAILER)
 }
 
+#[tactic(auto, unfolding(format::specs::Format::task_count, format::specs::Format::trailer))]
 pub fn task_count(s: &[u8]) -> u8
     ensures { result ≡ task_count s.now }
 {
-    let at = trailer_of(s);
-    words::byte_at(s, at + 2)
+    words::byte_at(s, trailer_of(s) + 2)
 }
 
+#[tactic(auto, unfolding(format::specs::Format::object_count, format::specs::Format::trailer))]
 pub fn object_count(s: &[u8]) -> u8
     ensures { result ≡ object_count s.now }
 {
-    let at = trailer_of(s);
-    words::byte_at(s, at + 3)
+    words::byte_at(s, trailer_of(s) + 3)
 }
 
+#[tactic(auto, unfolding(format::specs::Format::object_table, format::specs::Format::trailer))]
 pub fn object_table(s: &[u8]) -> u16
     ensures { result ≡ object_table s.now }
 {
-    let at = trailer_of(s);
-    words::word_at(s, at + 4)
+    words::word_at(s, trailer_of(s) + 4)
 }
 
+#[tactic(auto, unfolding(format::specs::Format::task_table, format::specs::Format::trailer))]
 pub fn task_table(s: &[u8]) -> u16
     ensures { result ≡ task_table s.now }
 {
-    let at = trailer_of(s);
-    words::word_at(s, at + 6)
+    words::word_at(s, trailer_of(s) + 6)
 }
 
+#[tactic(auto, unfolding(format::specs::Format::task_row))]
 pub fn task_row(s: &[u8], t: u8) -> u32
     ensures { result ≡ task_row s.now t }
 {
-    let table = task_table(s) as u32;
-    table + File::TASK_ROW * (t as u32)
+    task_table(s) as u32 + File::TASK_ROW * t as u32
 }
 
+#[tactic(auto, unfolding(format::specs::Format::object_row))]
 pub fn object_row(s: &[u8], o: u8) -> u32
     ensures { result ≡ object_row s.now o }
 {
-    let table = object_table(s) as u32;
-    table + File::OBJECT_ROW * (o as u32)
+    object_table(s) as u32 + File::OBJECT_ROW * o as u32
 }
 
+#[tactic(auto, unfolding(format::specs::Format::base_at))]
 pub fn base_at(s: &[u8], t: u8) -> Priority
     ensures { result.0 ≡ base_at s.now t }
 {
-    let row = task_row(s, t) as usize;
-    Priority(words::byte_at(s, row))
+    Priority(words::byte_at(s, task_row(s, t) as usize))
 }
 
+#[tactic(auto, unfolding(format::specs::Format::start_at))]
 pub fn start_at(s: &[u8], t: u8) -> u16
     ensures { result ≡ start_at s.now t }
 {
-    let row = task_row(s, t) as usize;
-    words::word_at(s, row + 2)
+    words::word_at(s, task_row(s, t) as usize + 2)
 }
 
+#[tactic(auto, unfolding(format::specs::Format::length_at))]
 pub fn length_at(s: &[u8], t: u8) -> u16
     ensures { result ≡ length_at s.now t }
 {
-    let row = task_row(s, t) as usize;
-    words::word_at(s, row + 4)
+    words::word_at(s, task_row(s, t) as usize + 4)
 }
 
 // The base of a task; of one that is not listed, 0.
+#[tactic(auto, using(format::proofs::FormatLaws::read_laws))]
 pub fn base_of(s: &[u8], t: u8) -> Priority
     ensures { result.0 ≡ base_of (roster_of s.now) t }
 {
-    let n = task_count(s);
-    if t < n {
-        return base_at(s, t);
+    if t < task_count(s) {
+        base_at(s, t)
+    } else {
+        Priority(0)
     }
-    Priority(0)
 }
 
 // The ceiling of an object; of one that is not listed, 0.
+#[tactic(auto, using(format::proofs::FormatLaws::read_laws), unfolding(format::specs::Format::ceiling_at))]
 pub fn ceiling_of(s: &[u8], o: u8) -> Priority
     ensures { result.0 ≡ ceiling_of (roster_of s.now).ceilings o }
 {
-    let n = object_count(s);
-    if o < n {
-        let row = object_row(s, o) as usize;
-        return Priority(words::byte_at(s, row));
+    if o < object_count(s) {
+        Priority(words::byte_at(s, object_row(s, o) as usize))
+    } else {
+        Priority(0)
     }
-    Priority(0)
 }
 
 // The ceilings, in the first cells.
+#[tactic(auto, using(format::proofs::FormatLaws::read_laws))]
 pub fn read_ceilings(s: &[u8], ceilings: &mut [u8])
     requires { object_count s.now ≤ length ceilings.old }
     ensures { take (object_count s.now) ceilings.new ≡ (roster_of s.now).ceilings }
 {
-    let n = object_count(s);
-    let mut o: u8 = 0;
-    while o < n {
-        let ceiling = ceiling_of(s, o);
-        ceilings[o as usize] = ceiling.0;
-        o += 1;
+    for o in 0..object_count(s) {
+        ceilings[o as usize] = ceiling_of(s, o).0;
     }
 }

@@ -4,19 +4,21 @@ ghost use Rattle.format.specs.Steps.{set_step, step_of, steps_of, step_in};
 ghost use Rattle.rules.specs.Priorities.{checked_of};
 
 use format::{File, Step};
-use rules::{Checked, Priority};
+use rules::Priority;
 
 // A Set; Finish where the value is no priority.
+#[tactic(auto, unfolding(format::specs::Steps::set_step))]
 fn set_step(a: u8, b: u16) -> Step
     ensures { result ≡ set_step a (checked_of b) }
 {
     match Priority::checked(b as u64) {
-        Checked::Good(p) => Step::Set(a, p),
-        Checked::OutOfRange => Step::Finish,
+        Some(p) => Step::Set(a, p),
+        None => Step::Finish,
     }
 }
 
 // The step of four bytes; Finish where they are none.
+#[tactic(auto, unfolding(format::specs::Steps::step_of))]
 pub fn step_of(code: u8, a: u8, b: u16) -> Step
     ensures { result ≡ step_of code a b }
 {
@@ -34,18 +36,17 @@ pub fn step_of(code: u8, a: u8, b: u16) -> Step
 }
 
 // The step at position k of a script's bytes; Finish past the last. Work, the most frequent, is told first.
+#[tactic(auto, using(format::proofs::StepLaws::read_laws), unfolding(format::specs::Steps::step_of))]
 pub fn step_at(part: &[u8], k: usize) -> Step
     ensures { result ≡ step_in (steps_of part.now) k }
 {
-    if k < part.len() / File::STEP {
-        let at = File::STEP * k;
-        let code = part[at];
-        if code == Step::WORK {
-            return Step::Work;
-        }
-        let a = part[at + 1];
-        let b = words::word_in(part, at + 2);
-        return step_of(code, a, b);
+    if k >= part.len() / File::STEP {
+        return Step::Finish;
     }
-    Step::Finish
+    let at = File::STEP * k;
+    let code = part[at];
+    if code == Step::WORK {
+        return Step::Work;
+    }
+    step_of(code, part[at + 1], words::word_in(part, at + 2))
 }

@@ -1,19 +1,18 @@
 -- Laws of the roster's answers, by the ways of the code: one script's fault, the check, and a task's script.
+use Rattle.std.specs.Prelude.{Ok, Err}
 use mathlib.Core.Path.{◌≡◌, ap, sym, ◌∙◌}
-use mathlib.Core.Bool.{Bool, true, false, cond}
-use mathlib.Core.List.{List, []}
-use Prim.Native.Nat.{ℕ, ◌≤◌, ◌<◌}
-use native.Mathlib.Omega.{arith}
-use borrow.Author.Tests.{ltb-true, lt-ltb, le-ltb}
+use mathlib.Core.Bool.{Bool, cond}
+use mathlib.Core.List.{List}
+use Prim.Native.Nat.{ℕ, ◌<◌}
+use borrow.Author.Tests.{ltb-true}
 use lib.Dec.{ltb}
-use Rattle.format.specs.Answers.{passed}
+use Rattle.format.specs.Answers.{Verdict, passed}
 use Rattle.format.specs.Format.{task_count, base_at, part_at}
 use Rattle.format.specs.Steps.{steps_of}
 use Rattle.format.specs.Roster.{roster_of, base_of, script_of}
-use Rattle.format.specs.Form.{form_of, script_answer, script_part}
+use Rattle.format.specs.Form.{form_of, script_answer}
 use Rattle.format.specs.Check.{top_of, top_at, steps_fault, script_fault, roster_fault, check_of}
-use Rattle.format.specs.declared.Verdict.{Verdict}
-use Rattle.format.specs.declared.Verdict.TheVariants.{Passed, NoSuchTask}
+use Rattle.format.specs.declared.Fault.TheVariants.{NoSuchTask}
 use Rattle.format.proofs.TestLaws.{truth, by-test, passed_is}
 use Rattle.format.proofs.FormatLaws.{base-listed, script-listed}
 
@@ -34,57 +33,25 @@ module _ (s : List ℕ) where
       g ∙ (ap (λ (p : ℕ). steps_fault (roster_of s).ceilings p t (steps_of part)) f ∙
       ap (steps_fault (roster_of s).ceilings (top_at (roster_of s) t) t) steps)
 
-  -- the form's answer, as it was read
-  module _ (v : Verdict) (b : Bool) (e : v ≡ form_of s) (f : b ≡ passed v) where
-    pub form-passed : b ≡ true → form_of s ≡ Passed
-    form-passed g = passed_is (form_of s) (ap passed (sym e) ∙ (sym f ∙ g))
-
-    pub check-form : b ≡ false → v ≡ check_of s
-    unfolding check_of
-    check-form g =
-        e ∙ sym (ap (λ (x : Bool). cond x (roster_fault (roster_of s)) (form_of s)) (ap passed (sym e) ∙ (sym f ∙ g)))
-
-    pub answer-form : (t : ℕ) → b ≡ false → v ≡ script_answer s t
-    unfolding script_answer
-    answer-form t g =
-        e ∙ sym (ap (λ (x : Bool). cond x (cond (ltb t (task_count s)) Passed NoSuchTask) (form_of s)) (ap passed (sym e) ∙ (sym f ∙ g)))
-
-  pub check-rules : (w : Verdict) → form_of s ≡ Passed → w ≡ roster_fault (roster_of s) → w ≡ check_of s
+  -- a fault of the form is the check's, and a script's
+  pub check-rules : (w : Verdict) → form_of s ≡ Ok tt → w ≡ roster_fault (roster_of s) → w ≡ check_of s
   unfolding check_of
   check-rules w e g = g ∙ sym (ap (λ (x : Verdict). cond (passed x) (roster_fault (roster_of s)) x) e)
 
-  answer-then : (t : ℕ) → form_of s ≡ Passed → script_answer s t ≡ cond (ltb t (task_count s)) Passed NoSuchTask
+  answer-then : (t : ℕ) → form_of s ≡ Ok tt → script_answer s t ≡ cond (ltb t (task_count s)) (Ok tt) (Err NoSuchTask)
   unfolding script_answer
-  answer-then t e = ap (λ (x : Verdict). cond (passed x) (cond (ltb t (task_count s)) Passed NoSuchTask) x) e
-
-  pub answer-task : (t n : ℕ) → form_of s ≡ Passed → n ≡ task_count s → t < n → Passed ≡ script_answer s t
-  answer-task t n e f h =
-      sym (answer-then t e ∙ ap (λ (x : Bool). cond x Passed NoSuchTask) (lt-ltb t (task_count s) (omega arith)))
-
-  pub answer-none : (t n : ℕ) → form_of s ≡ Passed → n ≡ task_count s → n ≤ t → NoSuchTask ≡ script_answer s t
-  answer-none t n e f h =
-      sym (answer-then t e ∙ ap (λ (x : Bool). cond x Passed NoSuchTask) (le-ltb t (task_count s) (omega arith)))
+  answer-then t e = ap (λ (x : Verdict). cond (passed x) (cond (ltb t (task_count s)) (Ok tt) (Err NoSuchTask)) x) e
 
   -- a script that is answered for is that of a task, of a roster that has its form
-  pub answered-form : (t : ℕ) → passed (script_answer s t) ≡ true → form_of s ≡ Passed
+  pub answered-form : (t : ℕ) → script_answer s t ≡ Ok tt → form_of s ≡ Ok tt
   unfolding script_answer
   answered-form t e =
       by-test (passed (form_of s)) (λ g. passed_is (form_of s) g) (λ g.
-      absurd (truth (sym e ∙ (ap (λ (x : Bool). passed (cond x (cond (ltb t (task_count s)) Passed NoSuchTask) (form_of s))) g ∙ g))))
+      absurd (truth (sym (ap passed e) ∙
+      (ap (λ (x : Bool). passed (cond x (cond (ltb t (task_count s)) (Ok tt) (Err NoSuchTask)) (form_of s))) g ∙ g))))
 
-  pub answered-task : (t : ℕ) → passed (script_answer s t) ≡ true → t < task_count s
+  pub answered-task : (t : ℕ) → script_answer s t ≡ Ok tt → t < task_count s
   answered-task t e =
       by-test (ltb t (task_count s)) (λ g. ltb-true t (task_count s) g) (λ g.
-      absurd (truth (sym e ∙ ap passed (answer-then t (answered-form t e) ∙ ap (λ (x : Bool). cond x Passed NoSuchTask) g))))
-
-  module _ (t : ℕ) (v : Verdict) (b : Bool) (e : v ≡ script_answer s t) (f : b ≡ passed v) where
-    pub answered : b ≡ true → passed (script_answer s t) ≡ true
-    answered g = ap passed (sym e) ∙ (sym f ∙ g)
-
-    pub part-whole : (r : List ℕ) → b ≡ true → r ≡ part_at s t → r ≡ script_part s t
-    unfolding script_part
-    part-whole r g h = h ∙ sym (ap (λ (x : Bool). cond x (part_at s t) []) (answered g))
-
-    pub part-empty : (r : List ℕ) → b ≡ false → r ≡ [] → r ≡ script_part s t
-    unfolding script_part
-    part-empty r g h = h ∙ sym (ap (λ (x : Bool). cond x (part_at s t) []) (ap passed (sym e) ∙ (sym f ∙ g)))
+      absurd (truth (ap passed (sym e ∙ (answer-then t (answered-form t e) ∙
+      ap (λ (x : Bool). cond x (Ok tt) (Err NoSuchTask)) g)))))

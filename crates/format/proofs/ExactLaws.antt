@@ -1,21 +1,21 @@
 -- The check's verdict is the one that says what is so: of a roster that has its form it is Passed exactly when every script keeps the
 -- written rules, and else it names the first fault.
+use Rattle.std.specs.Prelude.{Ok, Err}
 use mathlib.Core.Path.{◌≡◌, refl, ap, sym, ◌∙◌, subst}
 use mathlib.Core.Bool.{Bool, true, false}
 use mathlib.Core.List.{List}
 use Prim.Native.Nat.{ℕ, suc, ◌≤◌, ◌<◌}
 use native.Mathlib.Omega.{arith}
 use lib.ListN.{length}
-use Rattle.format.specs.Answers.{passed, first}
+use Rattle.format.specs.Answers.{passed, first, Verdict}
 use Rattle.format.specs.Roster.{Roster, roster_of, script_of}
 use Rattle.format.specs.Check.{top_at, while_held, low_ceiling, not_innermost, other_task}
 use Rattle.format.specs.Check.{fault_of, fault_in, steps_fault, script_fault, roster_fault}
 use Rattle.format.specs.Kept.{step_for, held_at, Keeps, NoneBefore, Says, CheckSays}
 use Rattle.format.specs.declared.Step.{Step}
-use Rattle.format.specs.declared.Verdict.{Verdict}
-use Rattle.format.specs.declared.Verdict.TheVariants.{Passed, NoSuchTask, NoSuchObject, BadLength, BadMark, BadCounts}
-use Rattle.format.specs.declared.Verdict.TheVariants.{BadLayout, BadValues}
-use Rattle.format.specs.declared.Verdict.TheVariants.{BadStep, WhileHeld, LowCeiling, NotInnermost, OtherTask}
+use Rattle.format.specs.declared.Fault.TheVariants.{NoSuchTask, NoSuchObject, BadLength, BadMark, BadCounts}
+use Rattle.format.specs.declared.Fault.TheVariants.{BadLayout, BadValues}
+use Rattle.format.specs.declared.Fault.TheVariants.{BadStep, WhileHeld, LowCeiling, NotInnermost, OtherTask}
 use Rattle.format.proofs.TestLaws.{truth, by-test, passed_is, first-at, first-all, first_found, first-names}
 use Rattle.format.proofs.AnswerLaws.{check-rules}
 use Rattle.format.proofs.KeptLaws.{unheld-of, of-unheld, covered_of, of-covered, innermost-of, of-innermost, own_of, of-own}
@@ -23,12 +23,12 @@ use Rattle.format.proofs.KeptLaws.{fault_at, keeps-of, of-keeps}
 
 -- which test decided a step's verdict
 pub data Way (cs : List ℕ) (top : ℕ) (held : List ℕ) (t k : ℕ) (x : Step) (v : Verdict) : Type 0 where
-  kept : v ≡ Passed → Way cs top held t k x v
-  at17 : v ≡ WhileHeld t k → while_held held x ≡ true → Way cs top held t k x v
-  at18 : v ≡ LowCeiling t k → while_held held x ≡ false → low_ceiling cs top held x ≡ true → Way cs top held t k x v
-  at19 : v ≡ NotInnermost t k → while_held held x ≡ false → low_ceiling cs top held x ≡ false → not_innermost held x ≡ true →
+  kept : v ≡ Ok tt → Way cs top held t k x v
+  at17 : v ≡ Err (WhileHeld t k) → while_held held x ≡ true → Way cs top held t k x v
+  at18 : v ≡ Err (LowCeiling t k) → while_held held x ≡ false → low_ceiling cs top held x ≡ true → Way cs top held t k x v
+  at19 : v ≡ Err (NotInnermost t k) → while_held held x ≡ false → low_ceiling cs top held x ≡ false → not_innermost held x ≡ true →
       Way cs top held t k x v
-  at20 : v ≡ OtherTask t k → while_held held x ≡ false → low_ceiling cs top held x ≡ false → not_innermost held x ≡ false →
+  at20 : v ≡ Err (OtherTask t k) → while_held held x ≡ false → low_ceiling cs top held x ≡ false → not_innermost held x ≡ false →
       other_task t x ≡ true → Way cs top held t k x v
 
 pub way : (cs : List ℕ) (top : ℕ) (held : List ℕ) (t k : ℕ) (x : Step) → Way cs top held t k x (fault_of cs top held t k x)
@@ -40,22 +40,22 @@ way cs top held t k x =
     by-test (other_task t x) (λ e. at20 (simp (a, b, d, e)) a b d e) (λ e. kept (simp (a, b, d, e))))))
 
 module _ (r : Roster) where
-  script-pass : (t : ℕ) → script_fault r t ≡ Passed → (k : ℕ) → k ≤ length (script_of r t) → Keeps r t k
+  script-pass : (t : ℕ) → script_fault r t ≡ Ok tt → (k : ℕ) → k ≤ length (script_of r t) → Keeps r t k
   unfolding script_fault steps_fault
   script-pass t e k h =
       keeps-of r t k (first-at (fault_in r.ceilings (top_at r t) t (script_of r t)) (suc (length (script_of r t))) e k (omega arith))
 
-  pass-script : (t : ℕ) → ((k : ℕ) → k ≤ length (script_of r t) → Keeps r t k) → script_fault r t ≡ Passed
+  pass-script : (t : ℕ) → ((k : ℕ) → k ≤ length (script_of r t) → Keeps r t k) → script_fault r t ≡ Ok tt
   unfolding script_fault steps_fault
   pass-script t h =
       first-all (fault_in r.ceilings (top_at r t) t (script_of r t)) (suc (length (script_of r t)))
       (λ k g. of-keeps r t k (h k (omega arith)))
 
   -- nothing before a location, as the scan has it
-  steps-before : (t k : ℕ) → first k (fault_in r.ceilings (top_at r t) t (script_of r t)) ≡ Passed → (j : ℕ) → j < k → Keeps r t j
+  steps-before : (t k : ℕ) → first k (fault_in r.ceilings (top_at r t) t (script_of r t)) ≡ Ok tt → (j : ℕ) → j < k → Keeps r t j
   steps-before t k e j h = keeps-of r t j (first-at (fault_in r.ceilings (top_at r t) t (script_of r t)) k e j h)
 
-  before-steps : (t k : ℕ) → ((j : ℕ) → j < k → Keeps r t j) → first k (fault_in r.ceilings (top_at r t) t (script_of r t)) ≡ Passed
+  before-steps : (t k : ℕ) → ((j : ℕ) → j < k → Keeps r t j) → first k (fault_in r.ceilings (top_at r t) t (script_of r t)) ≡ Ok tt
   before-steps t k h = first-all (fault_in r.ceilings (top_at r t) t (script_of r t)) k (λ j g. of-keeps r t j (h j g))
 
   -- the scan names a location, with the verdict of its step
@@ -126,24 +126,24 @@ module _ (r : Roster) where
       (way r.ceilings (top_at r w.task) (held_at r w.task w.position) w.task w.position
       (step_for r w.task w.position))))
 
-  fault17 : (t k : ℕ) → while_held (held_at r t k) (step_for r t k) ≡ true → fault_at r t k ≡ WhileHeld t k
+  fault17 : (t k : ℕ) → while_held (held_at r t k) (step_for r t k) ≡ true → fault_at r t k ≡ Err (WhileHeld t k)
   unfolding fault_in fault_of
   fault17 t k a = simp a
 
   fault18 : (t k : ℕ) → while_held (held_at r t k) (step_for r t k) ≡ false →
-      low_ceiling r.ceilings (top_at r t) (held_at r t k) (step_for r t k) ≡ true → fault_at r t k ≡ LowCeiling t k
+      low_ceiling r.ceilings (top_at r t) (held_at r t k) (step_for r t k) ≡ true → fault_at r t k ≡ Err (LowCeiling t k)
   unfolding fault_in fault_of
   fault18 t k a b = simp (a, b)
 
   fault19 : (t k : ℕ) → while_held (held_at r t k) (step_for r t k) ≡ false →
       low_ceiling r.ceilings (top_at r t) (held_at r t k) (step_for r t k) ≡ false →
-      not_innermost (held_at r t k) (step_for r t k) ≡ true → fault_at r t k ≡ NotInnermost t k
+      not_innermost (held_at r t k) (step_for r t k) ≡ true → fault_at r t k ≡ Err (NotInnermost t k)
   unfolding fault_in fault_of
   fault19 t k a b d = simp (a, b, d)
 
   fault20 : (t k : ℕ) → while_held (held_at r t k) (step_for r t k) ≡ false →
       low_ceiling r.ceilings (top_at r t) (held_at r t k) (step_for r t k) ≡ false →
-      not_innermost (held_at r t k) (step_for r t k) ≡ false → other_task t (step_for r t k) ≡ true → fault_at r t k ≡ OtherTask t k
+      not_innermost (held_at r t k) (step_for r t k) ≡ false → other_task t (step_for r t k) ≡ true → fault_at r t k ≡ Err (OtherTask t k)
   unfolding fault_in fault_of
   fault20 t k a b d e = simp (a, b, d, e)
 
@@ -155,24 +155,24 @@ module _ (r : Roster) where
   -- only what is so is answered
   says-scan : (v : Verdict) → Says r v → roster_fault r ≡ v
   unfolding roster_fault
-  says-scan Passed a =
+  says-scan (Ok done) a =
       first-all (script_fault r) (length r.scripts) (λ t h. pass-script t (λ k g. a.at t k (record { task = h; step = g })))
-  says-scan (WhileHeld t k) a = finds t k _ a.0 (fault17 t k (breaks _ _ (unheld-of r t k) a.1)) refl
-  says-scan (LowCeiling t k) a =
+  says-scan (Err (WhileHeld t k)) a = finds t k _ a.0 (fault17 t k (breaks _ _ (unheld-of r t k) a.1)) refl
+  says-scan (Err (LowCeiling t k)) a =
       finds t k _ a.0 (fault18 t k (of-unheld r t k a.1) (breaks _ _ (covered_of r t k) a.2)) refl
-  says-scan (NotInnermost t k) a =
+  says-scan (Err (NotInnermost t k)) a =
       finds t k _ a.0 (fault19 t k (of-unheld r t k a.1) (of-covered r t k a.2) (breaks _ _ (innermost-of r t k) a.3)) refl
-  says-scan (OtherTask t k) a =
+  says-scan (Err (OtherTask t k)) a =
       finds t k _ a.0
       (fault20 t k (of-unheld r t k a.1) (of-covered r t k a.2) (of-innermost r t k a.3) (breaks _ _ (own_of r t k) a.4)) refl
-  says-scan NoSuchTask a = absurd a
-  says-scan NoSuchObject a = absurd a
-  says-scan BadLength a = absurd a
-  says-scan BadMark a = absurd a
-  says-scan BadCounts a = absurd a
-  says-scan BadLayout a = absurd a
-  says-scan BadValues a = absurd a
-  says-scan (BadStep t k) a = absurd a
+  says-scan (Err NoSuchTask) a = absurd a
+  says-scan (Err NoSuchObject) a = absurd a
+  says-scan (Err BadLength) a = absurd a
+  says-scan (Err BadMark) a = absurd a
+  says-scan (Err BadCounts) a = absurd a
+  says-scan (Err BadLayout) a = absurd a
+  says-scan (Err BadValues) a = absurd a
+  says-scan (Err (BadStep t k)) a = absurd a
 
 -- the check answers exactly what is so
 pub check-says : CheckSays

@@ -11,6 +11,7 @@ use Rattle.format.specs.Format.{task_count, object_count, task_table, task_row}
 use Rattle.format.specs.Format.{base_at, start_at, length_at, ceiling_at, part_at}
 use Rattle.format.specs.Steps.{steps_of}
 use Rattle.format.specs.Roster.{roster_of, base_of, script_of}
+use Rattle.std.proofs.lemmas.Grind.{common_steps}
 use Rattle.words.proofs.TableLaws.{length-tabulate, tabulate-at, tabulate-past}
 
 module _ (s : List ℕ) where
@@ -61,3 +62,6 @@ module _ (s : List ℕ) where
   pub length-read : (t table n : ℕ) → table ≡ task_table s → n ≡ word_at s (table + task_row_size * t + 4) → n ≡ length_at s t
   unfolding length_at task_row
   length-read t table n e f = f ∙ ap (λ (x : ℕ). word_at s (x + task_row_size * t + 4)) e
+
+-- for a reader's proof: what is listed, and what is not
+pub ruleset read_laws = (common_steps, base-listed, base-unlisted, ceiling-listed, ceiling-unlisted, ceiling-count)

@@ -1,4 +1,5 @@
 -- What the form gives, of every roster that passes it: counts, places, values and steps in range.
+use Rattle.std.specs.Prelude.{Ok, Err}
 use mathlib.Core.Path.{◌≡◌, refl, ap, sym, ◌∙◌}
 use mathlib.Core.Bool.{Bool, true, cond, not, ◌&&◌}
 use mathlib.Core.List.{List}
@@ -19,8 +20,10 @@ use Rattle.format.specs.Steps.{a_at, b_at, step_at, step_count, steps_of, step_i
 use Rattle.format.specs.Form.{length_good, mark_good, counts_kept, layout_good, values_good, task_row_good, object_row_good}
 use Rattle.format.specs.Form.{is_step, unused_zero, names_listed, stands_right, step_good, step_form, steps_form}
 use Rattle.format.specs.Form.{script_form, scripts_form, form_of}
-use Rattle.format.specs.declared.Verdict.TheVariants.{Passed, BadLength, BadMark, BadCounts, BadLayout, BadValues, BadStep}
+use Rattle.format.specs.declared.Fault.TheVariants.{BadLength, BadMark, BadCounts, BadLayout, BadValues, BadStep}
 use Rattle.format.proofs.TestLaws.{truth, past, by-test, below_at, first-at}
+use Rattle.std.proofs.lemmas.Grind.{common_steps}
+use Rattle.format.proofs.FormatLaws.{read_laws}
 use Rattle.format.proofs.StepLaws.{steps-at, steps-past}
 use Rattle.format.proofs.FormLaws.{form-6, script-inside, task-row-inside}
 
@@ -31,17 +34,17 @@ pub record Formed (s : List ℕ) : Type 0 where
   pub counts : counts_kept s ≡ true
   pub layout : layout_good s ≡ true
   pub values : values_good s ≡ true
-  pub steps : scripts_form s ≡ Passed
+  pub steps : scripts_form s ≡ Ok tt
 
 module _ (s : List ℕ) where
-  pub formed : form_of s ≡ Passed → Formed s
+  pub formed : form_of s ≡ Ok tt → Formed s
   unfolding form_of
   formed e =
-      let a = past (not (length_good s)) BadLength _ refl e in
-      let b = past (not (mark_good s)) BadMark _ refl a.1 in
-      let d = past (not (counts_kept s)) BadCounts _ refl b.1 in
-      let f = past (not (layout_good s)) BadLayout _ refl d.1 in
-      let g = past (not (values_good s)) BadValues _ refl f.1 in
+      let a = past (not (length_good s)) (Err BadLength) _ refl e in
+      let b = past (not (mark_good s)) (Err BadMark) _ refl a.1 in
+      let d = past (not (counts_kept s)) (Err BadCounts) _ refl b.1 in
+      let f = past (not (layout_good s)) (Err BadLayout) _ refl d.1 in
+      let g = past (not (values_good s)) (Err BadValues) _ refl f.1 in
       record {
         size = not-false _ a.0;
         mark = not-false _ b.0;
@@ -51,10 +54,10 @@ module _ (s : List ℕ) where
         steps = g.1;
       }
 
-  pub formed-passes : Formed s → form_of s ≡ Passed
+  pub formed-passes : Formed s → form_of s ≡ Ok tt
   formed-passes r = sym (form-6 s r.size r.mark r.counts r.layout r.values) ∙ r.steps
 
-module _ (s : List ℕ) (ok : form_of s ≡ Passed) where
+module _ (s : List ℕ) (ok : form_of s ≡ Ok tt) where
   -- 13
   counted : Counted (task_count s) (object_count s)
   unfolding counts_kept
@@ -100,7 +103,7 @@ module _ (s : List ℕ) (ok : form_of s ≡ Passed) where
       let f = first-at (step_form (task_count s) (object_count s) t part) (step_count part) e k g in
       by-test (step_good (task_count s) (object_count s) (eqb (suc k) (step_count part)) (a_at part k) (b_at part k) (step_at part k))
       (λ x. x)
-      (λ x. absurd (truth (sym (ap passed f) ∙ ap (λ (b : Bool). passed (cond b Passed (BadStep t k))) x)))
+      (λ x. absurd (truth (sym (ap passed f) ∙ ap (λ (b : Bool). passed (cond b (Ok tt) (Err (BadStep t k)))) x)))
 
   -- each step's numbers, and those of the script's end
   pub step-listed : (t : ℕ) → t < task_count s → (k : ℕ) →
@@ -122,3 +125,8 @@ module _ (s : List ℕ) (ok : form_of s ≡ Passed) where
       names_listed (task_count s) (object_count s) (step_in (steps_of part) k) ≡ true
   part-listed t part h e k =
       ap (λ (p : List ℕ). names_listed (task_count s) (object_count s) (step_in (steps_of p) k)) e ∙ step-listed t h k
+
+-- for a caller's proof: what a roster that has its form has room for, and where its scripts and rows stand
+pub ruleset few_laws = (read_laws, tasks-few, objects-few)
+
+pub ruleset inside_laws = (common_steps, part-inside, row_inside)

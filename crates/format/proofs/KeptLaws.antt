@@ -1,4 +1,6 @@
 -- The check passes exactly the rosters whose scripts keep the written rules, and what it names is the first fault.
+use Rattle.format.specs.Answers.{Verdict}
+use Rattle.std.specs.Prelude.{Ok}
 use mathlib.Core.Path.{◌≡◌, refl, ap, sym, ◌∙◌}
 use Rattle.rules.specs.Lists.{times_in}
 use mathlib.Core.Bool.{Bool, true, false, cond, not}
@@ -22,8 +24,6 @@ use Rattle.format.specs.Check.{other_task, fault_in}
 use Rattle.format.specs.Kept.{step_for, held_at, Unheld, Covered, Innermost, OwnSets, Keeps}
 use Rattle.format.specs.declared.Step.{Step}
 use Rattle.format.specs.declared.Step.TheVariants.{Enter, Leave, Delay, Work, Suspend, Release, Set, Again, Finish}
-use Rattle.format.specs.declared.Verdict.{Verdict}
-use Rattle.format.specs.declared.Verdict.TheVariants.{Passed}
 use Rattle.format.proofs.TestLaws.{and_yes}
 use Rattle.format.proofs.WalkLaws.{clean, faultless}
 
@@ -225,13 +225,13 @@ module _ (r : Roster) (t k : ℕ) where
   abbrev pub fault_at : Verdict
   fault_at = fault_in r.ceilings (top_at r t) t (script_of r t) k
 
-  pub keeps-of : fault_at ≡ Passed → Keeps r t k
+  pub keeps-of : fault_at ≡ Ok tt → Keeps r t k
   unfolding fault_in
   keeps-of e =
       let c = clean r.ceilings (top_at r t) (held_at r t k) t k (step_for r t k) e in
       record { unheld = unheld-of c.free; covered = covered_of c.high; innermost = innermost-of c.inner; own = own_of c.own }
 
-  pub of-keeps : Keeps r t k → fault_at ≡ Passed
+  pub of-keeps : Keeps r t k → fault_at ≡ Ok tt
   unfolding fault_in
   of-keeps u =
       faultless r.ceilings (top_at r t) (held_at r t k) t k (step_for r t k) (record {

@@ -1,4 +1,5 @@
 -- What a roster that passes gives of each task and step: counts, bases, ceilings and values in range, and the rules at each position.
+use Rattle.std.specs.Prelude.{Ok}
 use mathlib.Core.Path.{◌≡◌, refl, ap, sym, ◌∙◌}
 use mathlib.Core.Bool.{Bool, true, cond}
 use mathlib.Core.List.{List}
@@ -12,7 +13,7 @@ use Rattle.rules.specs.Lists.{all_of}
 use Rattle.rules.specs.declared.Priority.{Priority}
 use Rattle.rules.proofs.Choices.{and-make}
 use Rattle.words.specs.Words.{Bytes, tabulate}
-use Rattle.format.specs.Answers.{passed}
+use Rattle.format.specs.Answers.{passed, Verdict}
 use Rattle.format.specs.Format.{task_count, object_count, base_at, ceiling_at}
 use Rattle.format.specs.Steps.{step_in}
 use Rattle.format.specs.Roster.{Roster, roster_of, setup_of, script_of}
@@ -20,8 +21,6 @@ use Rattle.format.specs.Form.{names_listed, form_of}
 use Rattle.format.specs.Check.{held_before, top_at, fault_in, steps_fault, script_fault, roster_fault, check_of, Passes}
 use Rattle.format.specs.declared.Step.{Step}
 use Rattle.format.specs.declared.Step.TheVariants.{Delay, Set}
-use Rattle.format.specs.declared.Verdict.{Verdict}
-use Rattle.format.specs.declared.Verdict.TheVariants.{Passed}
 use Rattle.format.proofs.TestLaws.{by-test, passed_is, first-at}
 use Rattle.format.proofs.FormatLaws.{script-listed, base-count, ceiling-count, script-count}
 use Rattle.format.proofs.FormedLaws.{tasks-some, tasks-few, objects-few, base-good, ceiling-good, step-listed}
@@ -46,13 +45,13 @@ pub record Orderly (r : Roster) : Type 0 where
   pub sets : (t k u : ℕ) (p : Priority) → step_in (script_of r t) k ≡ Set u p → in_range p.0 ≡ true
 
 module _ (s : List ℕ) (ok : Passes s) where
-  pub passes-form : form_of s ≡ Passed
+  pub passes-form : form_of s ≡ Ok tt
   unfolding check_of
   passes-form =
       by-test (passed (form_of s)) (λ e. passed_is (form_of s) e) (λ e.
-      let k : form_of s ≡ Passed = sym (ap (λ (b : Bool). cond b (roster_fault (roster_of s)) (form_of s)) e) ∙ ok in k)
+      let k : form_of s ≡ (Ok tt) = sym (ap (λ (b : Bool). cond b (roster_fault (roster_of s)) (form_of s)) e) ∙ ok in k)
 
-  passes-rules : roster_fault (roster_of s) ≡ Passed
+  passes-rules : roster_fault (roster_of s) ≡ Ok tt
   unfolding check_of
   passes-rules = sym (ap (λ (v : Verdict). cond (passed v) (roster_fault (roster_of s)) v) passes-form) ∙ ok
 

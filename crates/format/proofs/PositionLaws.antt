@@ -1,4 +1,5 @@
 -- The step that the form or the check names lies within the roster, so that its position is small.
+use Rattle.std.specs.Prelude.{Ok, Err}
 use mathlib.Core.Path.{◌≡◌, ap, sym}
 use mathlib.Core.Bool.{Bool, true, false, cond, not}
 use mathlib.Core.List.{List}
@@ -9,7 +10,7 @@ use lib.Dec.{leb, eqb}
 use lib.ListN.{length, drop, length-take, length-drop}
 use Rattle.rules.proofs.Choices.{and_right}
 use Rattle.rules.specs.Limits.{smallest_roster, largest_roster}
-use Rattle.format.specs.Answers.{passed, position_of, first}
+use Rattle.format.specs.Answers.{passed, position_of, first, Verdict}
 use Rattle.format.specs.Format.{task_count, object_count, start_at, length_at, part_at}
 use Rattle.format.specs.Steps.{a_at, b_at, step_at, step_count, step_in}
 use Rattle.format.specs.Roster.{roster_of, script_of}
@@ -18,9 +19,8 @@ use Rattle.format.specs.Form.{step_good, step_form, steps_form, script_form, scr
 use Rattle.format.specs.Check.{held_before, while_held, low_ceiling, not_innermost, other_task, fault_of, fault_in, top_at}
 use Rattle.format.specs.Check.{steps_fault, script_fault, roster_fault, check_of}
 use Rattle.format.specs.declared.Step.{Step}
-use Rattle.format.specs.declared.Verdict.{Verdict}
-use Rattle.format.specs.declared.Verdict.TheVariants.{Passed, BadLength, BadMark, BadCounts, BadLayout, BadValues}
-use Rattle.format.specs.declared.Verdict.TheVariants.{BadStep, WhileHeld, LowCeiling, NotInnermost, OtherTask}
+use Rattle.format.specs.declared.Fault.TheVariants.{BadLength, BadMark, BadCounts, BadLayout, BadValues}
+use Rattle.format.specs.declared.Fault.TheVariants.{BadStep, WhileHeld, LowCeiling, NotInnermost, OtherTask}
 use Rattle.format.proofs.TestLaws.{by-test}
 use Rattle.format.proofs.StepLaws.{steps-length}
 use Rattle.format.proofs.FormatLaws.{script-listed, script-count}
@@ -45,7 +45,7 @@ part_low s t =
 step-low : (n m t : ℕ) (part : List ℕ) (k : ℕ) → position_of (step_form n m t part k) ≤ k
 unfolding step_form
 step-low n m t part k =
-    either (step_good n m (eqb (suc k) (step_count part)) (a_at part k) (b_at part k) (step_at part k)) Passed (BadStep t k) k
+    either (step_good n m (eqb (suc k) (step_count part)) (a_at part k) (b_at part k) (step_at part k)) (Ok tt) (Err (BadStep t k)) k
     (omega arith) (omega arith)
 
 pub steps_low : (n m t : ℕ) (part : List ℕ) → position_of (steps_form n m t part) ≤ step_count part
@@ -59,19 +59,19 @@ module _ (s : List ℕ) where
   form-low =
       let steps = first-low (script_form s) (task_count s) (length s) (λ t g.
       omega (arith, steps_low (task_count s) (object_count s) t (part_at s t), part_low s t)) in
-      either (not (length_good s)) BadLength _ (length s) (omega arith)
-      (either (not (mark_good s)) BadMark _ (length s) (omega arith)
-      (either (not (counts_kept s)) BadCounts _ (length s) (omega arith)
-      (either (not (layout_good s)) BadLayout _ (length s) (omega arith)
-      (either (not (values_good s)) BadValues _ (length s) (omega arith) steps))))
+      either (not (length_good s)) (Err BadLength) _ (length s) (omega arith)
+      (either (not (mark_good s)) (Err BadMark) _ (length s) (omega arith)
+      (either (not (counts_kept s)) (Err BadCounts) _ (length s) (omega arith)
+      (either (not (layout_good s)) (Err BadLayout) _ (length s) (omega arith)
+      (either (not (values_good s)) (Err BadValues) _ (length s) (omega arith) steps))))
 
   fault-low : (cs : List ℕ) (top : ℕ) (held : List ℕ) (t k : ℕ) (x : Step) → position_of (fault_of cs top held t k x) ≤ k
   unfolding fault_of
   fault-low cs top held t k x =
-      either (while_held held x) (WhileHeld t k) _ k (omega arith)
-      (either (low_ceiling cs top held x) (LowCeiling t k) _ k (omega arith)
-      (either (not_innermost held x) (NotInnermost t k) _ k (omega arith)
-      (either (other_task t x) (OtherTask t k) Passed k (omega arith) (omega arith))))
+      either (while_held held x) (Err (WhileHeld t k)) _ k (omega arith)
+      (either (low_ceiling cs top held x) (Err (LowCeiling t k)) _ k (omega arith)
+      (either (not_innermost held x) (Err (NotInnermost t k)) _ k (omega arith)
+      (either (other_task t x) (Err (OtherTask t k)) (Ok tt) k (omega arith) (omega arith))))
 
   rules-low : position_of (roster_fault (roster_of s)) ≤ length s
   unfolding roster_fault script_fault steps_fault fault_in
@@ -90,7 +90,7 @@ module _ (s : List ℕ) where
   check-low = either (passed (form_of s)) (roster_fault (roster_of s)) (form_of s) (length s) rules-low form-low
 
   -- and so below the largest roster: one that is too long is named at 0, 0
-  short : (v : Verdict) → position_of v ≤ length s → (form_of s ≡ BadLength → v ≡ BadLength) → position_of v ≤ largest_roster
+  short : (v : Verdict) → position_of v ≤ length s → (form_of s ≡ Err BadLength → v ≡ Err BadLength) → position_of v ≤ largest_roster
   unfolding length_good
   short v h g =
       by-test (length_good s)

@@ -1,155 +1,83 @@
--- Laws of the readers of a roster, by the ways of the code: what is found, and what is refused.
+-- Laws of the readers of a roster: what is found, the steps of a script's part, and how many there can be.
+use Rattle.std.specs.Prelude.{Ok, Err}
 use mathlib.Core.Path.{◌≡◌, refl, ap, sym, ◌∙◌}
-use mathlib.Core.Bool.{Bool, true, false, cond}
+use mathlib.Core.Bool.{true}
 use mathlib.Core.List.{List}
-use Prim.Native.Nat.{ℕ, ◌/◌, ◌≤◌, ◌<◌}
+use Prim.Native.Nat.{ℕ, ◌/◌, ◌≤◌}
 use native.Mathlib.Omega.{arith}
-use borrow.Author.Tests.{leb-true, ltb-true, lt-ltb, le-ltb}
-use lib.Dec.{leb, ltb}
+use borrow.Author.Tests.{leb-true}
+use lib.Dec.{leb}
 use lib.ListN.{length}
-use Rattle.rules.specs.Model.{ceiling_of}
 use Rattle.rules.proofs.Choices.{and_right}
-use Rattle.rules.specs.declared.Priority.{Priority}
 use Rattle.rules.specs.Limits.{smallest_roster, largest_roster}
+use Rattle.rules.specs.declared.Priority.{Priority}
 use Rattle.format.specs.Limits.{step_size}
-use Rattle.format.specs.Answers.{passed}
-use Rattle.format.specs.Format.{object_count, part_at}
-use Rattle.format.specs.Steps.{steps_of, step_in}
-use Rattle.format.specs.Roster.{roster_of, base_of, script_of}
-use Rattle.format.specs.Form.{length_good, form_of, script_answer}
-use Rattle.format.specs.Readers.{object_answer, base_found, ceiling_found, count_found, step_found}
-use Rattle.format.specs.declared.Step.{Step}
-use Rattle.format.specs.declared.Verdict.{Verdict}
-use Rattle.format.specs.declared.Verdict.TheVariants.{Passed, NoSuchObject}
-use Rattle.format.specs.declared.PriorityFound.TheVariants as P
-use Rattle.format.specs.declared.CountFound.{CountFound}
-use Rattle.format.specs.declared.CountFound.TheVariants as N
-use Rattle.format.specs.declared.StepFound.TheVariants as S
-use Rattle.format.proofs.TestLaws.{truth, by-test, passed_is}
+use Rattle.format.specs.Answers.{Verdict}
+use Rattle.format.specs.Format.{part_at}
+use Rattle.format.specs.Steps.{steps_of}
+use Rattle.format.specs.Roster.{roster_of, script_of}
+use Rattle.format.specs.Form.{length_good, script_answer}
+use Rattle.format.specs.Readers.{found_by, count_found}
+use Rattle.format.specs.declared.Fault.{Fault}
+use Rattle.std.proofs.lemmas.Grind.{common_steps}
 use Rattle.format.proofs.StepLaws.{steps-length}
 use Rattle.format.proofs.FormatLaws.{script-listed}
-use Rattle.format.proofs.AnswerLaws.{answered-form, answered-task, answered}
+use Rattle.format.proofs.AnswerLaws.{answered-form, answered-task}
 use Rattle.format.proofs.PositionLaws.{part_low}
 use Rattle.format.proofs.FormedLaws.{formed}
 
--- a choice, by its test
-chosen : {A : Type 0} (x : Bool) (y n z : A) → x ≡ true → z ≡ y → z ≡ cond x y n
-chosen x y n z g h = h ∙ sym (ap (λ (c : Bool). cond c y n) g)
+-- what is read, and what is refused
+pub found-priority : (v : Verdict) (n : ℕ) (p : Priority) → Ok tt ≡ v → p.0 ≡ n → Ok p ≡ found_by v (record { 0 = n })
+found-priority v n p e f = ap (λ (m : ℕ). Ok (record { 0 = m })) f ∙ ap (λ (w : Verdict). found_by w (record { 0 = n })) e
 
-other : {A : Type 0} (x : Bool) (y n z : A) → x ≡ false → z ≡ n → z ≡ cond x y n
-other x y n z g h = h ∙ sym (ap (λ (c : Bool). cond c y n) g)
+pub found-fault : {A : Type 0} (v : Verdict) (f : Fault) (x : A) → Err f ≡ v → Err f ≡ found_by v x
+found-fault v f x e = ap (λ (w : Verdict). found_by w x) e
+
+-- .. and what that says of the answer
+pub found-ok : {A : Type 0} (v : Verdict) (x y : A) → Ok y ≡ found_by v x → (Ok tt ≡ v) × (y ≡ x)
+found-ok (Ok done) x y e = (refl, cc)
+found-ok (Err f) x y e = absurd (let z : ◌≡◌ {A = ℕ} 0 1 = cc in omega arith)
+
+pub found-err : {A : Type 0} (v : Verdict) (f : Fault) (x : A) → Err f ≡ found_by v x → Err f ≡ v
+found-err (Ok done) f x e = absurd (let z : ◌≡◌ {A = ℕ} 0 1 = cc in omega arith)
+found-err (Err g) f x e = (let z : f ≡ g = cc in ap Err z)
 
 module _ (s : List ℕ) where
-  -- an object, as script_answer of a task
-  pub object-form : (o : ℕ) (v : Verdict) (b : Bool) → v ≡ form_of s → b ≡ passed v → b ≡ false → v ≡ object_answer s o
-  unfolding object_answer
-  object-form o v b e f g = other (passed (form_of s)) _ _ _ (ap passed (sym e) ∙ (sym f ∙ g)) e
+  -- the steps of the part that is a task's script
+  pub part-steps : (t : ℕ) (part : List ℕ) → script_answer s t ≡ Ok tt → part ≡ part_at s t →
+      steps_of part ≡ script_of (roster_of s) t
+  part-steps t part e h = ap steps_of h ∙ sym (script-listed s t (answered-task s t e))
 
-  object-then : (o : ℕ) → form_of s ≡ Passed → object_answer s o ≡ cond (ltb o (object_count s)) Passed NoSuchObject
-  unfolding object_answer
-  object-then o e = ap (λ (x : Verdict). cond (passed x) (cond (ltb o (object_count s)) Passed NoSuchObject) x) e
+  pub part-count : (t : ℕ) (part : List ℕ) → script_answer s t ≡ Ok tt → part ≡ part_at s t →
+      length part / step_size ≡ length (script_of (roster_of s) t)
+  part-count t part e h = sym (steps-length part) ∙ ap length (part-steps t part e h)
 
-  pub object-listed : (o n : ℕ) → form_of s ≡ Passed → n ≡ object_count s → o < n → Passed ≡ object_answer s o
-  object-listed o n e f h =
-      sym (object-then o e ∙ ap (λ (x : Bool). cond x Passed NoSuchObject) (lt-ltb o (object_count s) (omega arith)))
-
-  pub object-none : (o n : ℕ) → form_of s ≡ Passed → n ≡ object_count s → n ≤ o → NoSuchObject ≡ object_answer s o
-  object-none o n e f h =
-      sym (object-then o e ∙ ap (λ (x : Bool). cond x Passed NoSuchObject) (le-ltb o (object_count s) (omega arith)))
-
-  module _ (o : ℕ) (v : Verdict) (b : Bool) (e : v ≡ object_answer s o) (f : b ≡ passed v) where
-    object-ok : b ≡ true → passed (object_answer s o) ≡ true
-    object-ok g = ap passed (sym e) ∙ (sym f ∙ g)
-
-    pub object-formed : b ≡ true → form_of s ≡ Passed
-    unfolding object_answer
-    object-formed g =
-        by-test (passed (form_of s)) (λ h. passed_is (form_of s) h) (λ h.
-        absurd (truth (sym (object-ok g) ∙
-        (ap (λ (x : Bool). passed (cond x (cond (ltb o (object_count s)) Passed NoSuchObject) (form_of s))) h ∙ h))))
-
-    pub object-below : b ≡ true → o < object_count s
-    object-below g =
-        by-test (ltb o (object_count s)) (λ h. ltb-true o (object_count s) h) (λ h.
-        absurd (truth (sym (object-ok g) ∙
-        ap passed (object-then o (object-formed g) ∙ ap (λ (x : Bool). cond x Passed NoSuchObject) h))))
-
-    pub ceiling-found : (p : Priority) → b ≡ true → p.0 ≡ ceiling_of (roster_of s).ceilings o → P.Found p ≡ ceiling_found s o
-    unfolding ceiling_found
-    ceiling-found p g h =
-        chosen (passed (object_answer s o)) _ _ _ (object-ok g) (ap (λ (n : ℕ). P.Found (record { 0 = n })) h)
-
-    pub ceiling-refused : b ≡ false → P.Refused v ≡ ceiling_found s o
-    unfolding ceiling_found
-    ceiling-refused g = other (passed (object_answer s o)) _ _ _ (ap passed (sym e) ∙ (sym f ∙ g)) (ap P.Refused e)
-
-  module _ (t : ℕ) (v : Verdict) (b : Bool) (e : v ≡ script_answer s t) (f : b ≡ passed v) where
-    ok : b ≡ true → passed (script_answer s t) ≡ true
-    ok g = answered s t v b e f g
-
-    no : b ≡ false → passed (script_answer s t) ≡ false
-    no g = ap passed (sym e) ∙ (sym f ∙ g)
-
-    pub base-found : (p : Priority) → b ≡ true → p.0 ≡ base_of (roster_of s) t → P.Found p ≡ base_found s t
-    unfolding base_found
-    base-found p g h = chosen (passed (script_answer s t)) _ _ _ (ok g) (ap (λ (n : ℕ). P.Found (record { 0 = n })) h)
-
-    pub base-refused : b ≡ false → P.Refused v ≡ base_found s t
-    unfolding base_found
-    base-refused g = other (passed (script_answer s t)) _ _ _ (no g) (ap P.Refused e)
-
-    -- the steps of the part that is the script
-    part-steps : (part : List ℕ) → b ≡ true → part ≡ part_at s t → steps_of part ≡ script_of (roster_of s) t
-    part-steps part g h = ap steps_of h ∙ sym (script-listed s t (answered-task s t (ok g)))
-
-    pub count-found : (part : List ℕ) (n : ℕ) → b ≡ true → part ≡ part_at s t → n ≡ length part / step_size → N.Found n ≡ count_found s t
-    unfolding count_found
-    count-found part n g h i =
-        chosen (passed (script_answer s t)) _ _ _ (ok g)
-        (ap N.Found (i ∙ (sym (steps-length part) ∙ ap length (part-steps part g h))))
-
-    pub count-refused : b ≡ false → N.Refused v ≡ count_found s t
-    unfolding count_found
-    count-refused g = other (passed (script_answer s t)) _ _ _ (no g) (ap N.Refused e)
-
-    pub step-found : (part : List ℕ) (k : ℕ) (x : Step) → b ≡ true → part ≡ part_at s t → x ≡ step_in (steps_of part) k →
-        S.Found x ≡ step_found s t k
-    unfolding step_found
-    step-found part k x g h i =
-        chosen (passed (script_answer s t)) _ _ _ (ok g)
-        (ap S.Found (i ∙ ap (λ (l : List Step). step_in l k) (part-steps part g h)))
-
-    pub step-refused : (k : ℕ) → b ≡ false → S.Refused v ≡ step_found s t k
-    unfolding step_found
-    step-refused k g = other (passed (script_answer s t)) _ _ _ (no g) (ap S.Refused e)
-
--- how many steps there can be
-count_in : CountFound → ℕ
-count_in (N.Found n) = n
-count_in (N.Refused v) = 0
-
-module _ (s : List ℕ) (t : ℕ) where
+  -- how many steps there can be
   size_low : length_good s ≡ true → length s ≤ largest_roster
   unfolding length_good
   size_low e =
       leb-true (length s) largest_roster (and_right (leb smallest_roster (length s)) (leb (length s) largest_roster) e)
 
-  steps_low : passed (script_answer s t) ≡ true → length (script_of (roster_of s) t) ≤ largest_roster
-  steps_low g =
+  steps_low : (t : ℕ) → script_answer s t ≡ Ok tt → length (script_of (roster_of s) t) ≤ largest_roster
+  steps_low t e =
       omega (
         arith,
-        ap length (script-listed s t (answered-task s t g)),
+        ap length (script-listed s t (answered-task s t e)),
         steps-length (part_at s t),
         part_low s t,
-        size_low (formed s (answered-form s t g)).size,
+        size_low (formed s (answered-form s t e)).size,
       )
 
-  chosen-low : (b : Bool) → passed (script_answer s t) ≡ b →
-      count_in (cond b (N.Found (length (script_of (roster_of s) t))) (N.Refused (script_answer s t))) ≤ largest_roster
-  unfolding count_in
-  chosen-low true g = steps_low g
-  chosen-low false g = omega arith
+  pub part-few : (t : ℕ) (part : List ℕ) → script_answer s t ≡ Ok tt → part ≡ part_at s t → length part / step_size ≤ largest_roster
+  part-few t part e h = omega (arith, part-count t part e h, steps_low t e)
 
-  pub count_small : (n : ℕ) → count_found s t ≡ N.Found n → n ≤ largest_roster
-  unfolding count_found count_in
-  count_small n e = rw (sym (ap count_in e)) (chosen-low (passed (script_answer s t)) refl)
+  found-low : (v : Verdict) (m n : ℕ) → (v ≡ Ok tt → m ≤ largest_roster) → found_by v m ≡ Ok n → n ≤ largest_roster
+  found-low (Ok done) m n h e = omega (arith, h refl, (let k : m ≡ n = cc in k))
+  found-low (Err f) m n h e = absurd (let z : ◌≡◌ {A = ℕ} 0 1 = cc in omega arith)
+
+  pub count_small : (t n : ℕ) → count_found s t ≡ Ok n → n ≤ largest_roster
+  unfolding count_found
+  count_small t n e = found-low (script_answer s t) (length (script_of (roster_of s) t)) n (steps_low t) e
+
+-- for a reader's proof
+pub ruleset part_laws = (common_steps, part-steps, part-count)

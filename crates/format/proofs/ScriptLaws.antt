@@ -7,11 +7,10 @@ use native.Mathlib.Omega.{arith}
 use lib.Dec.{eqb}
 use lib.ListN.{take, drop, get_or-eq_default, length-take}
 use lib.Seq.{get_or-take, get_or-drop}
+use Rattle.std.specs.Prelude.{None, Option, Some}
 use Rattle.rules.specs.Limits.{last_delay}
 use Rattle.rules.specs.Priorities.{in_range, checked_of}
 use Rattle.rules.specs.declared.Priority.{Priority}
-use Rattle.rules.specs.declared.Checked.{Checked}
-use Rattle.rules.specs.declared.Checked.TheVariants.{Good, OutOfRange}
 use Rattle.rules.proofs.Choices.{compare, both_ways}
 use Rattle.words.specs.Words.{byte_at, Bytes, word_at}
 use Rattle.format.specs.Limits.{step_size, enter_code, leave_code, delay_code, work_code, suspend_code, release_code, set_code, again_code}
@@ -38,7 +37,7 @@ Shape b Finish = Unit
 set-shape : (a b : ℕ) → Shape b (set_step a (checked_of b))
 unfolding set_step
 set-shape a b =
-    both_ways (λ (v : Checked). Shape b (set_step a v)) (in_range b) (Good (record { 0 = b })) OutOfRange (λ e. e) (λ e. tt)
+    both_ways (λ (v : Option Priority). Shape b (set_step a v)) (in_range b) (Some (record { 0 = b })) None (λ e. e) (λ e. tt)
 
 shape : (code a b : ℕ) → Shape b (step_of code a b)
 unfolding step_of

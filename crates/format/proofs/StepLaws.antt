@@ -1,16 +1,15 @@
 -- Laws of steps: reading one from its bytes.
-use mathlib.Core.Path.{◌≡◌, ap}
+use mathlib.Core.Path.{◌≡◌}
 use mathlib.Core.List.{List}
-use Prim.Native.Nat.{ℕ, ◌≤◌, ◌<◌}
+use Prim.Native.Nat.{ℕ, ◌+◌, ◌*◌, ◌≤◌, ◌<◌}
 use borrow.Author.Tests.{ne_eqb}
 use lib.ListN.{length, get_or-eq_default}
 use Rattle.rules.proofs.Choices.{compare}
-use Rattle.rules.specs.declared.Priority.{Priority}
-use Rattle.rules.specs.declared.Checked.{Checked}
-use Rattle.rules.specs.declared.Checked.TheVariants.{Good, OutOfRange}
-use Rattle.format.specs.Steps.{set_step, step_of, step_at, step_count, steps_of, step_in}
+use Rattle.words.specs.Words.{byte_at, word_at}
+use Rattle.format.specs.Limits.{step_size}
+use Rattle.format.specs.Steps.{step_of, code_at, a_at, b_at, step_at, step_count, steps_of, step_in}
 use Rattle.format.specs.declared.Step.{Step}
-use Rattle.format.specs.declared.Step.TheVariants.{Set, Finish}
+use Rattle.format.specs.declared.Step.TheVariants.{Finish}
 use Rattle.words.proofs.TableLaws.{length-tabulate, tabulate-at, tabulate-past}
 
 module _ (n a b : ℕ) where
@@ -30,15 +29,6 @@ pub steps-past : (part : List ℕ) (k : ℕ) → step_count part ≤ k → step_
 unfolding steps_of
 steps-past part k h = tabulate-past (step_count part) (step_at part) k Finish h
 
--- a Set, by what the checked constructor found
-pub set-good : (a : ℕ) (v : Checked) (p : Priority) → v ≡ Good p → set_step a v ≡ Set a p
-unfolding set_step
-set-good a v p e = ap (set_step a) e
-
-pub set-bad : (a : ℕ) (v : Checked) → v ≡ OutOfRange → set_step a v ≡ Finish
-unfolding set_step
-set-bad a v e = ap (set_step a) e
-
 pub steps-length : (part : List ℕ) → length (steps_of part) ≡ step_count part
 unfolding steps_of
 steps-length part = length-tabulate (step_count part) (step_at part)
@@ -46,3 +36,13 @@ steps-length part = length-tabulate (step_count part) (step_at part)
 -- a step that is not the script's end stands in the script
 pub in-script : (steps : List Step) (k : ℕ) → (step_in steps k ≡ Finish → ⊥) → k < length steps
 in-script steps k n = compare (length steps) k (λ h. absurd (n (get_or-eq_default steps Finish {n = k} h))) (λ h. h)
+
+-- as the code reads it
+pub step-read : (part : List ℕ) (k : ℕ) → k < step_count part →
+    step_in (steps_of part) k ≡
+    step_of (byte_at part (step_size * k)) (byte_at part (step_size * k + 1)) (word_at part (step_size * k + 2))
+unfolding step_at code_at a_at b_at
+step-read part k h = steps-at part k h
+
+-- for a reader's proof: a step that is there, and one past the last
+pub ruleset read_laws = (step-read, steps-past)

@@ -1,5 +1,7 @@
 -- Laws of tests: conjunctions, tests of every number below one, and the first of several verdicts that is not Passed.
 use mathlib.Core.Path.{◌≡◌, refl, ap, sym, ◌∙◌}
+use Rattle.std.specs.Prelude.{None, Option, Some, Ok, Err}
+use Rattle.std.specs.List.{list_all, range_with_len}
 use Rattle.rules.specs.Lists.{all_of, below}
 use mathlib.Core.Bool.{Bool, true, false, cond, ◌&&◌}
 use mathlib.Core.List.{List, [], ◌∷◌}
@@ -12,14 +14,9 @@ use lib.Dec.{eqb}
 use lib.ListN.{length, get_or}
 use Rattle.rules.specs.Priorities.{in_range, checked_of}
 use Rattle.rules.specs.declared.Priority.{Priority}
-use Rattle.rules.specs.declared.Checked.{Checked}
-use Rattle.rules.specs.declared.Checked.TheVariants.{Good, OutOfRange}
 use Rattle.rules.proofs.Choices.{and_left, and_right}
-use Rattle.format.specs.Answers.{passed, first}
-use Rattle.format.specs.declared.Verdict.{Verdict}
-use Rattle.format.specs.declared.Verdict.TheVariants.{Passed, NoSuchTask, NoSuchObject, BadLength, BadMark, BadCounts}
-use Rattle.format.specs.declared.Verdict.TheVariants.{BadLayout, BadValues}
-use Rattle.format.specs.declared.Verdict.TheVariants.{BadStep, WhileHeld, LowCeiling, NotInnermost, OtherTask}
+use Rattle.format.specs.Answers.{Verdict, passed, first}
+use Rattle.format.specs.declared.Fault.{Fault}
 
 pub truth : true ≡ false → ⊥
 truth e = let z : ◌≡◌ {A = ℕ} 0 1 = cc in omega arith
@@ -46,24 +43,17 @@ pub by-test : {A : Type 0} (b : Bool) → (b ≡ true → A) → (b ≡ false �
 by-test true f g = f refl
 by-test false f g = g refl
 
--- a choice, by a name for its test
-pub when_true : (b d : Bool) (v w : Verdict) → b ≡ d → b ≡ true → v ≡ cond d v w
-when_true b d v w e f = sym (ap (λ (x : Bool). cond x v w) (sym e ∙ f))
-
-pub when_false : (b d : Bool) (v w : Verdict) → b ≡ d → b ≡ false → w ≡ cond d v w
-when_false b d v w e f = sym (ap (λ (x : Bool). cond x v w) (sym e ∙ f))
-
 -- what the checked constructor finds tells the range
-pub good-in : (n : ℕ) (v : Checked) (p : Priority) → v ≡ checked_of n → v ≡ Good p → true ≡ in_range n
+pub good-in : (n : ℕ) (v : Option Priority) (p : Priority) → v ≡ checked_of n → v ≡ Some p → true ≡ in_range n
 good-in n v p e f =
     by-test (in_range n) (λ h. sym h) (λ h.
-    let g : checked_of n ≡ OutOfRange = ap (λ (b : Bool). cond b (Good (record { 0 = n })) OutOfRange) h in
+    let g : checked_of n ≡ None = ap (λ (b : Bool). cond b (Some (record { 0 = n })) None) h in
     absurd (let z : ◌≡◌ {A = ℕ} 0 1 = cc in omega arith))
 
-pub bad-out : (n : ℕ) (v : Checked) → v ≡ checked_of n → v ≡ OutOfRange → false ≡ in_range n
+pub bad-out : (n : ℕ) (v : Option Priority) → v ≡ checked_of n → v ≡ None → false ≡ in_range n
 bad-out n v e f =
     by-test (in_range n) (λ h.
-    let g : checked_of n ≡ Good (record { 0 = n }) = ap (λ (b : Bool). cond b (Good (record { 0 = n })) OutOfRange) h in
+    let g : checked_of n ≡ Some (record { 0 = n }) = ap (λ (b : Bool). cond b (Some (record { 0 = n })) None) h in
     absurd (let z : ◌≡◌ {A = ℕ} 0 1 = cc in omega arith)) (λ h. sym h)
 
 module _ (f : ℕ → Bool) where
@@ -116,48 +106,49 @@ below-list f [] = refl
 below-list f (x ∷ l) =
     below-front (λ i. f (get_or (x ∷ l) i 0)) (length l) ∙ ap (λ (b : Bool). f x && b) (below-list f l)
 
--- Passed is the only verdict of number 0
-pub passed_is : (v : Verdict) → passed v ≡ true → v ≡ Passed
-passed_is Passed e = refl
-passed_is NoSuchTask e = absurd (truth (sym e))
-passed_is NoSuchObject e = absurd (truth (sym e))
-passed_is BadLength e = absurd (truth (sym e))
-passed_is BadMark e = absurd (truth (sym e))
-passed_is BadCounts e = absurd (truth (sym e))
-passed_is BadLayout e = absurd (truth (sym e))
-passed_is BadValues e = absurd (truth (sym e))
-passed_is (BadStep t k) e = absurd (truth (sym e))
-passed_is (WhileHeld t k) e = absurd (truth (sym e))
-passed_is (LowCeiling t k) e = absurd (truth (sym e))
-passed_is (NotInnermost t k) e = absurd (truth (sym e))
-passed_is (OtherTask t k) e = absurd (truth (sym e))
+-- a test of every number of a range
+below-from : (f : ℕ → Bool) (a n : ℕ) → list_all f (range_with_len a n) ≡ below n (λ i. f (a + i))
+unfolding below
+below-from f a zero = refl
+below-from f a (suc n) =
+    ap (λ (b : Bool). f a && b)
+    (below-from f (a + 1) n ∙ below-same (λ i. f (a + 1 + i)) (λ i. f (a + suc i)) n (λ i h. ap f (omega arith))) ∙
+    sym (below-front (λ i. f (a + i)) n ∙ ap (λ (k : ℕ). f k && below n (λ i. f (a + suc i))) (let z : a + 0 ≡ a = omega arith in z))
+
+pub below-range : (f : ℕ → Bool) (n m : ℕ) → n ≡ m → list_all f (range_with_len 0 n) ≡ below m f
+below-range f n m e = below-from f 0 n ∙ (below-same (λ i. f (0 + i)) f n (λ i h. ap f (omega arith)) ∙ ap (λ (k : ℕ). below k f) e)
+
+-- what passes is Ok
+pub passed_is : (v : Verdict) → passed v ≡ true → v ≡ Ok tt
+passed_is (Ok done) e = refl
+passed_is (Err f) e = absurd (truth (sym e))
 
 -- a choice that passes took its second way, its first being a fault
-pub past : (b : Bool) (v w : Verdict) → passed v ≡ false → cond b v w ≡ Passed → (b ≡ false) × (w ≡ Passed)
+pub past : (b : Bool) (v w : Verdict) → passed v ≡ false → cond b v w ≡ Ok tt → (b ≡ false) × (w ≡ Ok tt)
 past true v w f e = absurd (truth (sym (ap passed e) ∙ f))
 past false v w f e = (refl, e)
 
 module _ (f : ℕ → Verdict) where
   -- one more that passes, and one that does not
-  pub first_more : (n : ℕ) → first n f ≡ Passed → f n ≡ Passed → first (suc n) f ≡ Passed
+  pub first_more : (n : ℕ) → first n f ≡ Ok tt → f n ≡ Ok tt → first (suc n) f ≡ Ok tt
   unfolding first
   first_more n e g = ap (λ (v : Verdict). cond (passed v) (f n) v) e ∙ g
 
-  pub first-new : (n : ℕ) → first n f ≡ Passed → first (suc n) f ≡ f n
+  pub first-new : (n : ℕ) → first n f ≡ Ok tt → first (suc n) f ≡ f n
   unfolding first
   first-new n e = ap (λ (v : Verdict). cond (passed v) (f n) v) e
 
   -- the last and all before it
-  pub first_below : (n : ℕ) → first (suc n) f ≡ Passed → (first n f ≡ Passed) × (f n ≡ Passed)
+  pub first_below : (n : ℕ) → first (suc n) f ≡ Ok tt → (first n f ≡ Ok tt) × (f n ≡ Ok tt)
   unfolding first
   first_below n e =
       by-test (passed (first n f))
       (λ g. (passed_is (first n f) g, sym (ap (λ (b : Bool). cond b (f n) (first n f)) g) ∙ e))
       (λ g.
-      let k : first n f ≡ Passed = sym (ap (λ (b : Bool). cond b (f n) (first n f)) g) ∙ e in
+      let k : first n f ≡ (Ok tt) = sym (ap (λ (b : Bool). cond b (f n) (first n f)) g) ∙ e in
       absurd (truth (sym (ap passed k) ∙ g)))
 
-  pub first-at : (n : ℕ) → first n f ≡ Passed → (i : ℕ) → i < n → f i ≡ Passed
+  pub first-at : (n : ℕ) → first n f ≡ Ok tt → (i : ℕ) → i < n → f i ≡ Ok tt
   first-at zero e i h = absurd (not-suc-le-zero h)
   first-at (suc n) e i h =
       let b = first_below n e in
@@ -165,7 +156,7 @@ module _ (f : ℕ → Verdict) where
       (λ g. ap f (eqb-true i n g) ∙ b.1)
       (λ g. first-at n b.0 i (let d : i ≡ n → ⊥ = eqb-false i n g in omega arith))
 
-  pub first-all : (n : ℕ) → ((i : ℕ) → i < n → f i ≡ Passed) → first n f ≡ Passed
+  pub first-all : (n : ℕ) → ((i : ℕ) → i < n → f i ≡ Ok tt) → first n f ≡ Ok tt
   unfolding first
   first-all zero h = refl
   first-all (suc n) h = first_more n (first-all n (λ i g. h i (omega arith))) (h n (omega arith))
@@ -179,7 +170,7 @@ module _ (f : ℕ → Verdict) where
       ap (λ (v : Verdict). cond (passed (first n g)) v (first n g)) (h n (omega arith))
 
   -- a fault that is named stands somewhere, and nothing before it is one
-  pub first-names : (n : ℕ) → passed (first n f) ≡ false → (i : ℕ) × (i < n) × (f i ≡ first n f) × (first i f ≡ Passed)
+  pub first-names : (n : ℕ) → passed (first n f) ≡ false → (i : ℕ) × (i < n) × (f i ≡ first n f) × (first i f ≡ Ok tt)
   unfolding first
   first-names zero e = absurd (truth e)
   first-names (suc n) e =
@@ -202,32 +193,18 @@ module _ (f : ℕ → Verdict) where
       let k = first-stays i n (omega arith) e in
       ap (λ (b : Bool). cond b (f n) (first n f)) (ap passed k ∙ e) ∙ k)
 
-  pub first_found : (n i : ℕ) → i < n → first i f ≡ Passed → passed (f i) ≡ false → first n f ≡ f i
+  pub first_found : (n i : ℕ) → i < n → first i f ≡ Ok tt → passed (f i) ≡ false → first n f ≡ f i
   first_found n i h e g =
       let k = first-new i e in
       first-stays (suc i) n (omega arith) (ap passed k ∙ g) ∙ k
 
--- a loop that tests each number below m: a turn that fails, one that goes on, and the end
-module _ (f : ℕ → Bool) where
-  pub turn-fails : (n m i : ℕ) (b : Bool) → n ≡ m → i < n → b ≡ f i → b ≡ false → false ≡ below m f
-  turn-fails n m i b e h g k = below_fails f m i (omega arith) (sym g ∙ k)
-
-  pub turn_on : (i : ℕ) (b : Bool) → below i f ≡ true → b ≡ f i → b ≡ true → below (i + 1) f ≡ true
-  turn_on i b e g k = ap (λ (n : ℕ). below n f) (add-one i) ∙ below_more f i e (sym g ∙ k)
-
-  pub turns-end : (n m i : ℕ) → n ≡ m → i ≤ n → n ≤ i → below i f ≡ true → true ≡ below m f
-  turns-end n m i e h g k = sym k ∙ ap (λ (n : ℕ). below n f) (let z : i ≡ m = omega arith in z)
-
 -- a loop that looks for the first fault: a turn that finds it, one that goes on, and the end
 module _ (f : ℕ → Verdict) where
-  pub turn-finds : (n m i : ℕ) (v : Verdict) (b : Bool) → n ≡ m → i < n → first i f ≡ Passed → v ≡ f i → b ≡ passed v → b ≡ false →
-      v ≡ first m f
-  turn-finds n m i v b e h k g p q =
-      g ∙ sym (first_found f m i (omega arith) k (ap passed (sym g) ∙ (sym p ∙ q)))
+  pub turn-finds : (m i : ℕ) (e : Fault) → i < m → first i f ≡ Ok tt → Err e ≡ f i → Err e ≡ first m f
+  turn-finds m i e h k g = g ∙ sym (first_found f m i h k (ap passed (sym g)))
 
-  pub turn-passes : (i : ℕ) (v : Verdict) (b : Bool) → first i f ≡ Passed → v ≡ f i → b ≡ passed v → b ≡ true → first (i + 1) f ≡ Passed
-  turn-passes i v b k g p q =
-      ap (λ (n : ℕ). first n f) (add-one i) ∙ first_more f i k (sym g ∙ passed_is v (sym p ∙ q))
+  pub turn-passes : (i : ℕ) → first i f ≡ Ok tt → Ok tt ≡ f i → first (i + 1) f ≡ Ok tt
+  turn-passes i k g = ap (λ (n : ℕ). first n f) (add-one i) ∙ first_more f i k (sym g)
 
-  pub turns-pass : (n m i : ℕ) → n ≡ m → i ≤ n → n ≤ i → first i f ≡ Passed → Passed ≡ first m f
-  turns-pass n m i e h g k = sym k ∙ ap (λ (n : ℕ). first n f) (let z : i ≡ m = omega arith in z)
+  pub turns-pass : (m i : ℕ) → i ≡ m → first i f ≡ Ok tt → Ok tt ≡ first m f
+  turns-pass m i e k = sym k ∙ ap (λ (n : ℕ). first n f) e

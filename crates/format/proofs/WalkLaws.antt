@@ -1,4 +1,5 @@
 -- Laws of a script's walk: what a step without a fault says, and that what is held stays distinct and listed.
+use Rattle.std.specs.Prelude.{Ok, Err}
 use mathlib.Core.Path.{◌≡◌, refl, ap}
 use mathlib.Core.Bool.{true, false, not}
 use mathlib.Core.List.{List, [], ◌∷◌, ◌++◌}
@@ -18,7 +19,7 @@ use Rattle.format.specs.Check.{is_held, held_after, held_before, while_held, low
 use Rattle.format.specs.Check.{not_innermost, other_task, fault_of, fault_in}
 use Rattle.format.specs.declared.Step.{Step}
 use Rattle.format.specs.declared.Step.TheVariants.{Enter, Leave, Delay, Work, Suspend, Release, Set, Again, Finish}
-use Rattle.format.specs.declared.Verdict.TheVariants.{Passed, WhileHeld, LowCeiling, NotInnermost, OtherTask}
+use Rattle.format.specs.declared.Fault.TheVariants.{WhileHeld, LowCeiling, NotInnermost, OtherTask}
 use Rattle.format.proofs.TestLaws.{past, first_below}
 
 -- a step without a fault breaks none of the rules
@@ -29,16 +30,16 @@ pub record Clean (cs : List ℕ) (top : ℕ) (held : List ℕ) (t : ℕ) (x : St
   pub own : other_task t x ≡ false
 
 module _ (cs : List ℕ) (top : ℕ) (held : List ℕ) (t k : ℕ) (x : Step) where
-  pub clean : fault_of cs top held t k x ≡ Passed → Clean cs top held t x
+  pub clean : fault_of cs top held t k x ≡ Ok tt → Clean cs top held t x
   unfolding fault_of
   clean e =
-      let a = past (while_held held x) (WhileHeld t k) _ refl e in
-      let b = past (low_ceiling cs top held x) (LowCeiling t k) _ refl a.1 in
-      let d = past (not_innermost held x) (NotInnermost t k) _ refl b.1 in
-      let f = past (other_task t x) (OtherTask t k) _ refl d.1 in
+      let a = past (while_held held x) (Err (WhileHeld t k)) _ refl e in
+      let b = past (low_ceiling cs top held x) (Err (LowCeiling t k)) _ refl a.1 in
+      let d = past (not_innermost held x) (Err (NotInnermost t k)) _ refl b.1 in
+      let f = past (other_task t x) (Err (OtherTask t k)) _ refl d.1 in
       record { free = a.0; high = b.0; inner = d.0; own = f.0 }
 
-  pub faultless : Clean cs top held t x → fault_of cs top held t k x ≡ Passed
+  pub faultless : Clean cs top held t x → fault_of cs top held t k x ≡ Ok tt
   unfolding fault_of
   faultless r = simp (r.free, r.high, r.inner, r.own)
 
@@ -72,7 +73,7 @@ distinct-after n m cs top held t Again d r e = d
 distinct-after n m cs top held t Finish d r e = d
 
 module _ (n m : ℕ) (cs : List ℕ) (top t : ℕ) (steps : List Step) (listed : (k : ℕ) → names_listed n m (step_in steps k) ≡ true) where
-  distinct-before : (k : ℕ) → first k (fault_in cs top t steps) ≡ Passed → Distinct m (held_before steps k)
+  distinct-before : (k : ℕ) → first k (fault_in cs top t steps) ≡ Ok tt → Distinct m (held_before steps k)
   unfolding held_before fault_in distinct all_of
   distinct-before zero e = record { once = refl; low = refl }
   distinct-before (suc k) e =
@@ -82,5 +83,5 @@ module _ (n m : ℕ) (cs : List ℕ) (top t : ℕ) (steps : List Step) (listed :
       (listed k)
 
   -- so that they have room
-  pub held-room : (k : ℕ) → first k (fault_in cs top t steps) ≡ Passed → length (held_before steps k) ≤ m
+  pub held-room : (k : ℕ) → first k (fault_in cs top t steps) ≡ Ok tt → length (held_before steps k) ≤ m
   held-room k e = let d = distinct-before k e in held-most m (held_before steps k) d.low d.once

@@ -1,9 +1,9 @@
 -- What it means that the form passes and that 16 names a step, told for each task and step and not by a scan.
-use Rattle.std.specs.Prelude.{◌≡◌, ◌↔◌, Bool, true, false, List, ℕ, suc, ◌<◌, eqb}
+use Rattle.std.specs.Prelude.{◌≡◌, ◌↔◌, Bool, true, false, List, ℕ, suc, ◌<◌, eqb, Ok, Err}
 use Rattle.format.specs.Format.{task_count, object_count, part_at}
 use Rattle.format.specs.Steps.{a_at, b_at, step_at, step_count}
 use Rattle.format.specs.Form.{length_good, mark_good, counts_kept, layout_good, values_good, step_good, form_of}
-use Rattle.format.specs.declared.Verdict.TheVariants.{Passed, BadStep}
+use Rattle.format.specs.declared.Fault.TheVariants.{BadStep}
 
 -- the step at position k of task t breaks no line of the form
 abbrev pub step_unbroken : List ℕ → ℕ → ℕ → Bool
@@ -34,8 +34,8 @@ pub record AllUnbroken (s : List ℕ) : Type 0 where
 -- the form passes exactly where 11 to 15 are kept and no step is broken; it answers 16 exactly where 11 to 15 are kept and a step is
 -- broken, and names the first
 pub record FormExact (s : List ℕ) : Type 0 where
-  pub passes : (form_of s ≡ Passed) ↔ (Laid s × AllUnbroken s)
-  pub names : (t k : ℕ) → (form_of s ≡ BadStep t k) ↔ (Laid s × FirstBroken s t k)
+  pub passes : (form_of s ≡ Ok tt) ↔ (Laid s × AllUnbroken s)
+  pub names : (t k : ℕ) → (form_of s ≡ Err (BadStep t k)) ↔ (Laid s × FirstBroken s t k)
 
 abbrev pub FormSays : Type 0
 FormSays = (s : List ℕ) → FormExact s

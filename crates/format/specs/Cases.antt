@@ -1,15 +1,12 @@
 -- Rosters worked out: document 01's whole case, and rosters with one fault or several, each with what the check answers.
-use Rattle.std.specs.Prelude.{◌≡◌, List, [], ◌∷◌, ◌++◌, map, ℕ, ◌+◌, ◌<◌, length, set, replicate}
+use Rattle.std.specs.Prelude.{◌≡◌, List, [], ◌∷◌, ◌++◌, map, ℕ, ◌+◌, ◌<◌, length, set, replicate, Ok, Err}
 use Rattle.format.specs.Answers.{number_of, task_of, position_of}
 use Rattle.format.specs.Form.{script_answer, script_part}
 use Rattle.format.specs.Readers.{base_found, ceiling_found, count_found, step_found}
 use Rattle.format.specs.Check.{check_of}
 use Rattle.rules.specs.declared.Priority.{Priority}
 use Rattle.format.specs.declared.Step.TheVariants.{Delay, Finish}
-use Rattle.format.specs.declared.PriorityFound.TheVariants as P
-use Rattle.format.specs.declared.CountFound.TheVariants as N
-use Rattle.format.specs.declared.StepFound.TheVariants as S
-use Rattle.format.specs.declared.Verdict.TheVariants.{NoSuchTask, NoSuchObject, BadLength, BadMark}
+use Rattle.format.specs.declared.Fault.TheVariants.{NoSuchTask, NoSuchObject, BadLength, BadMark}
 
 -- "Whole case, roster of 46 bytes", with a ceiling: two scripts, the task table, the object table, the trailer
 abbrev pub whole_case : ℕ → List ℕ
@@ -142,7 +139,7 @@ Judged = map (λ (c : Case). answered c.roster) cases ≡ map (λ (c : Case). c.
 
 -- 11 "roster up to 60,000 bytes" (2026-07)
 abbrev pub LongRosterRefused : Type 0
-LongRosterRefused = (s : List ℕ) → 60000 < length s → check_of s ≡ BadLength
+LongRosterRefused = (s : List ℕ) → 60000 < length s → check_of s ≡ Err BadLength
 
 -- a roster, a task, and the number and the part that its script's reader gives
 pub record Lookup : Type 0 where
@@ -169,17 +166,18 @@ abbrev pub found : ℕ → Priority
 found p = record { 0 = p }
 
 pub record Read : Type 0 where
-  pub base : base_found (whole_case 20) 1 ≡ P.Found (found 20)
-  pub no_task : base_found (whole_case 20) 2 ≡ P.Refused NoSuchTask
-  pub no_form : base_found (set plain 18 53) 9 ≡ P.Refused BadMark
-  pub ceiling : ceiling_found (whole_case 19) 0 ≡ P.Found (found 19)
-  pub no_object : ceiling_found (whole_case 20) 1 ≡ P.Refused NoSuchObject
-  pub form_first : ceiling_found (set plain 18 53) 9 ≡ P.Refused BadMark
-  pub count : count_found (whole_case 20) 1 ≡ N.Found 3
-  pub count_of_none : count_found (whole_case 20) 2 ≡ N.Refused NoSuchTask
-  pub step : step_found (whole_case 20) 1 0 ≡ S.Found (Delay 5)
-  pub at_the_end : step_found (whole_case 20) 1 3 ≡ S.Found Finish
-  pub step_of_none : step_found (whole_case 20) 2 0 ≡ S.Refused NoSuchTask
+  pub base : base_found (whole_case 20) 1 ≡ Ok (found 20)
+  pub no_task : base_found (whole_case 20) 2 ≡ Err NoSuchTask
+  pub no_form : base_found (set plain 18 53) 9 ≡ Err BadMark
+  pub ceiling : ceiling_found (whole_case 19) 0 ≡ Ok (found 19)
+  pub second_ceiling : ceiling_found plain 1 ≡ Ok (found 20)
+  pub no_object : ceiling_found (whole_case 20) 1 ≡ Err NoSuchObject
+  pub form_first : ceiling_found (set plain 18 53) 9 ≡ Err BadMark
+  pub count : count_found (whole_case 20) 1 ≡ Ok 3
+  pub count_of_none : count_found (whole_case 20) 2 ≡ Err NoSuchTask
+  pub step : step_found (whole_case 20) 1 0 ≡ Ok (Delay 5)
+  pub at_the_end : step_found (whole_case 20) 1 3 ≡ Ok Finish
+  pub step_of_none : step_found (whole_case 20) 2 0 ≡ Err NoSuchTask
 
 -- the reader gives so
 abbrev pub Looked : Type 0

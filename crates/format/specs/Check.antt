@@ -1,16 +1,16 @@
 -- The check of a roster: answers 17 to 20, each rule a definition that says where it is broken.
-use Rattle.std.specs.Prelude.{◌≡◌, Bool, false, cond, not, ◌&&◌, List, [], ◌∷◌, ◌++◌, ℕ, zero, suc, ◌-◌, max, eqb, ltb, length, get_or}
+use Rattle.std.specs.Prelude.{Ok}
+use Rattle.std.specs.Prelude.{◌≡◌, Bool, false, cond, not, ◌&&◌, List, [], ◌∷◌, ◌++◌, ℕ, zero, suc, ◌-◌, max, eqb, ltb, length, get_or, Err}
 use Rattle.std.specs.Prelude.{take}
 use Rattle.rules.specs.Model.{ceiling_of, highest_of}
 use Rattle.rules.specs.Lists.{times_in}
-use Rattle.format.specs.Answers.{passed, first}
+use Rattle.format.specs.Answers.{passed, first, Verdict}
 use Rattle.format.specs.Steps.{step_in}
 use Rattle.format.specs.Roster.{Roster, roster_of, base_of, script_of}
 use Rattle.format.specs.Form.{form_of}
 use Rattle.format.specs.declared.Step.{Step}
 use Rattle.format.specs.declared.Step.TheVariants.{Enter, Leave, Delay, Work, Suspend, Release, Set, Again, Finish}
-use Rattle.format.specs.declared.Verdict.{Verdict}
-use Rattle.format.specs.declared.Verdict.TheVariants.{Passed, WhileHeld, LowCeiling, NotInnermost, OtherTask}
+use Rattle.format.specs.declared.Fault.TheVariants.{WhileHeld, LowCeiling, NotInnermost, OtherTask}
 
 -- lists of held objects, outermost first: something is held; an object is held; it is the innermost
 abbrev pub something : List ℕ → Bool
@@ -107,11 +107,11 @@ other_task t Finish = false
 -- "in one step the lowest wins": of the step x at position k of task t
 unfoldable pub fault_of : List ℕ → ℕ → List ℕ → ℕ → ℕ → Step → Verdict
 fault_of ceilings top held t k x =
-    cond (while_held held x) (WhileHeld t k)
-    (cond (low_ceiling ceilings top held x) (LowCeiling t k)
-    (cond (not_innermost held x) (NotInnermost t k)
-    (cond (other_task t x) (OtherTask t k)
-    Passed)))
+    cond (while_held held x) (Err (WhileHeld t k))
+    (cond (low_ceiling ceilings top held x) (Err (LowCeiling t k))
+    (cond (not_innermost held x) (Err (NotInnermost t k))
+    (cond (other_task t x) (Err (OtherTask t k))
+    (Ok tt))))
 
 unfoldable pub fault_in : List ℕ → ℕ → ℕ → List Step → ℕ → Verdict
 fault_in ceilings top t steps k = fault_of ceilings top (held_before steps k) t k (step_in steps k)
@@ -137,4 +137,4 @@ check_of s = cond (passed (form_of s)) (roster_fault (roster_of s)) (form_of s)
 
 -- a roster that passes
 abbrev pub Passes : List ℕ → Type 0
-Passes s = check_of s ≡ Passed
+Passes s = check_of s ≡ Ok tt

@@ -1,19 +1,18 @@
 -- The form of a roster: answers 11 to 16, each rule a definition that says that it is kept.
-use Rattle.std.specs.Prelude.{Bool, true, false, cond, not, ◌&&◌, List, [], ℕ, zero, suc, ◌+◌, ◌%◌, eqb, ltb, length}
+use Rattle.std.specs.Prelude.{Bool, true, false, cond, not, ◌&&◌, List, [], ℕ, zero, suc, ◌+◌, ◌%◌, eqb, ltb, length, Ok, Err}
 use Rattle.rules.specs.Priorities.{in_range}
 use Rattle.rules.specs.Limits.{counts_good, size_good}
 use Rattle.rules.specs.Lists.{below}
 use Rattle.format.specs.Limits.{first_mark, second_mark, step_size}
-use Rattle.format.specs.Answers.{passed, first}
+use Rattle.format.specs.Answers.{passed, first, Verdict}
 use Rattle.words.specs.Words.{byte_at}
 use Rattle.format.specs.Format.{trailer, task_count, object_count, task_table, object_table}
 use Rattle.format.specs.Format.{task_row, object_row, base_at, ceiling_at, start_at, length_at, part_at}
 use Rattle.format.specs.Steps.{a_at, b_at, step_at, step_count}
 use Rattle.format.specs.declared.Step.{Step}
 use Rattle.format.specs.declared.Step.TheVariants.{Enter, Leave, Delay, Work, Suspend, Release, Set, Again, Finish}
-use Rattle.format.specs.declared.Verdict.{Verdict}
-use Rattle.format.specs.declared.Verdict.TheVariants.{Passed, NoSuchTask, BadLength, BadMark}
-use Rattle.format.specs.declared.Verdict.TheVariants.{BadCounts, BadLayout, BadValues, BadStep}
+use Rattle.format.specs.declared.Fault.TheVariants.{NoSuchTask, BadLength, BadMark}
+use Rattle.format.specs.declared.Fault.TheVariants.{BadCounts, BadLayout, BadValues, BadStep}
 
 -- 11 "length"
 unfoldable pub length_good : List ℕ → Bool
@@ -113,7 +112,7 @@ step_good n m last a b x = is_step x && unused_zero a b x && names_listed n m x 
 -- the step at position k of task t's script, of n tasks and m objects
 unfoldable pub step_form : ℕ → ℕ → ℕ → List ℕ → ℕ → Verdict
 step_form n m t part k =
-    cond (step_good n m (eqb (suc k) (step_count part)) (a_at part k) (b_at part k) (step_at part k)) Passed (BadStep t k)
+    cond (step_good n m (eqb (suc k) (step_count part)) (a_at part k) (b_at part k) (step_at part k)) (Ok tt) (Err (BadStep t k))
 
 unfoldable pub steps_form : ℕ → ℕ → ℕ → List ℕ → Verdict
 steps_form n m t part = first (step_count part) (step_form n m t part)
@@ -128,16 +127,16 @@ scripts_form s = first (task_count s) (script_form s)
 -- "11 to 15: lowest wins."
 unfoldable pub form_of : List ℕ → Verdict
 form_of s =
-    cond (not (length_good s)) BadLength
-    (cond (not (mark_good s)) BadMark
-    (cond (not (counts_kept s)) BadCounts
-    (cond (not (layout_good s)) BadLayout
-    (cond (not (values_good s)) BadValues
+    cond (not (length_good s)) (Err BadLength)
+    (cond (not (mark_good s)) (Err BadMark)
+    (cond (not (counts_kept s)) (Err BadCounts)
+    (cond (not (layout_good s)) (Err BadLayout)
+    (cond (not (values_good s)) (Err BadValues)
     (scripts_form s)))))
 
 -- "its number comes from a call of its own on the same input (here 11 to 16, then 1)"
 unfoldable pub script_answer : List ℕ → ℕ → Verdict
-script_answer s t = cond (passed (form_of s)) (cond (ltb t (task_count s)) Passed NoSuchTask) (form_of s)
+script_answer s t = cond (passed (form_of s)) (cond (ltb t (task_count s)) (Ok tt) (Err NoSuchTask)) (form_of s)
 
 -- "a refusal gives an empty part"
 unfoldable pub script_part : List ℕ → ℕ → List ℕ

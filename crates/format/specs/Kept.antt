@@ -1,6 +1,7 @@
 -- What it means that scripts keep the written rules 17 to 20, told for each task and step and not by a scan: what is held before a step
 -- is what the steps before it left (held_before).
-use Rattle.std.specs.Prelude.{◌≡◌, List, [], ◌∷◌, ◌++◌, ℕ, ◌≤◌, ◌<◌, length}
+use Rattle.format.specs.Answers.{Verdict}
+use Rattle.std.specs.Prelude.{◌≡◌, List, [], ◌∷◌, ◌++◌, ℕ, ◌≤◌, ◌<◌, length, Ok, Err}
 use Rattle.rules.specs.Lists.{times_in}
 use Rattle.rules.specs.Model.{ceiling_of}
 use Rattle.rules.specs.declared.Priority.{Priority}
@@ -10,10 +11,9 @@ use Rattle.format.specs.Form.{form_of}
 use Rattle.format.specs.Check.{held_before, check_of}
 use Rattle.format.specs.declared.Step.{Step}
 use Rattle.format.specs.declared.Step.TheVariants.{Enter, Leave, Delay, Suspend, Set, Again, Finish}
-use Rattle.format.specs.declared.Verdict.{Verdict}
-use Rattle.format.specs.declared.Verdict.TheVariants.{Passed, NoSuchTask, NoSuchObject, BadLength, BadMark, BadCounts}
-use Rattle.format.specs.declared.Verdict.TheVariants.{BadLayout, BadValues}
-use Rattle.format.specs.declared.Verdict.TheVariants.{BadStep, WhileHeld, LowCeiling, NotInnermost, OtherTask}
+use Rattle.format.specs.declared.Fault.TheVariants.{NoSuchTask, NoSuchObject, BadLength, BadMark, BadCounts}
+use Rattle.format.specs.declared.Fault.TheVariants.{BadLayout, BadValues}
+use Rattle.format.specs.declared.Fault.TheVariants.{BadStep, WhileHeld, LowCeiling, NotInnermost, OtherTask}
 
 -- the step at position k of task t, and what is held before it
 abbrev pub step_for : Roster → ℕ → ℕ → Step
@@ -68,19 +68,19 @@ pub record NoneBefore (r : Roster) (t k : ℕ) : Type 0 where
 
 -- what each verdict of the check says of a roster; "in one step the lowest wins". The verdicts of the form are none of the check's
 abbrev pub Says : Roster → Verdict → Type 0
-Says r Passed = AllKeep r
-Says r (WhileHeld t k) = NoneBefore r t k × (Unheld r t k → ⊥)
-Says r (LowCeiling t k) = NoneBefore r t k × Unheld r t k × (Covered r t k → ⊥)
-Says r (NotInnermost t k) = NoneBefore r t k × Unheld r t k × Covered r t k × (Innermost r t k → ⊥)
-Says r (OtherTask t k) = NoneBefore r t k × Unheld r t k × Covered r t k × Innermost r t k × (OwnSets r t k → ⊥)
-Says r NoSuchTask = ⊥
-Says r NoSuchObject = ⊥
-Says r BadLength = ⊥
-Says r BadMark = ⊥
-Says r BadCounts = ⊥
-Says r BadLayout = ⊥
-Says r BadValues = ⊥
-Says r (BadStep t k) = ⊥
+Says r (Ok done) = AllKeep r
+Says r (Err (WhileHeld t k)) = NoneBefore r t k × (Unheld r t k → ⊥)
+Says r (Err (LowCeiling t k)) = NoneBefore r t k × Unheld r t k × (Covered r t k → ⊥)
+Says r (Err (NotInnermost t k)) = NoneBefore r t k × Unheld r t k × Covered r t k × (Innermost r t k → ⊥)
+Says r (Err (OtherTask t k)) = NoneBefore r t k × Unheld r t k × Covered r t k × Innermost r t k × (OwnSets r t k → ⊥)
+Says r (Err NoSuchTask) = ⊥
+Says r (Err NoSuchObject) = ⊥
+Says r (Err BadLength) = ⊥
+Says r (Err BadMark) = ⊥
+Says r (Err BadCounts) = ⊥
+Says r (Err BadLayout) = ⊥
+Says r (Err BadValues) = ⊥
+Says r (Err (BadStep t k)) = ⊥
 
 -- of a roster that has its form the check answers exactly what is so
 pub record CheckExact (s : List ℕ) : Type 0 where
@@ -88,4 +88,4 @@ pub record CheckExact (s : List ℕ) : Type 0 where
   pub only : (v : Verdict) → Says (roster_of s) v → check_of s ≡ v
 
 abbrev pub CheckSays : Type 0
-CheckSays = (s : List ℕ) → form_of s ≡ Passed → CheckExact s
+CheckSays = (s : List ℕ) → form_of s ≡ Ok tt → CheckExact s

@@ -1,8 +1,7 @@
 -- The steps of a script, from its bytes.
-use Rattle.std.specs.Prelude.{cond, List, ℕ, ◌+◌, ◌*◌, ◌/◌, eqb, length, get_or}
+use Rattle.std.specs.Prelude.{cond, List, ℕ, ◌+◌, ◌*◌, ◌/◌, eqb, length, get_or, None, Option, Some}
 use Rattle.rules.specs.Priorities.{checked_of}
-use Rattle.rules.specs.declared.Checked.{Checked}
-use Rattle.rules.specs.declared.Checked.TheVariants.{Good, OutOfRange}
+use Rattle.rules.specs.declared.Priority.{Priority}
 use Rattle.words.specs.Words.{tabulate}
 use Rattle.format.specs.Limits.{step_size, enter_code, leave_code, delay_code, work_code, suspend_code, release_code, set_code, again_code}
 use Rattle.words.specs.Words.{byte_at, word_at}
@@ -10,9 +9,9 @@ use Rattle.format.specs.declared.Step.{Step}
 use Rattle.format.specs.declared.Step.TheVariants.{Enter, Leave, Delay, Work, Suspend, Release, Set, Again, Finish}
 
 -- "7 Set a, b": a value outside 1 to 32 is no base to set
-unfoldable pub set_step : ℕ → Checked → Step
-set_step a (Good p) = Set a p
-set_step a OutOfRange = Finish
+unfoldable pub set_step : ℕ → Option Priority → Step
+set_step a (Some p) = Set a p
+set_step a None = Finish
 
 -- "Codes: 1 Enter a; 2 Leave a; 3 Delay b; 4 Work; 5 Suspend; 6 Release a; 7 Set a, b; 8 Again"; what is none of these reads as
 -- Finish, which is no step of a script: is_step in Form.antt

@@ -1,10 +1,11 @@
 // The kinds of the roster file: its sizes, its steps and their codes, and what its form and check answer. Their meaning is in specs/.
 #![tactic(auto)]
 
-ghost use Rattle.std.specs.Prelude.{◌≡◌};
-ghost use Rattle.format.specs.Answers.{number_of, task_of, position_of, passed};
+ghost use Rattle.std.specs.Prelude.{◌≡◌, ℕ};
+ghost use Rattle.rules.specs.Answers.{number_by};
+ghost use Rattle.format.specs.Answers.{fault_number, fault_task, fault_position};
 
-use rules::Priority;
+use rules::{Numbered, Priority};
 
 // The sizes of a roster file's parts and its mark, all of this kind; how large it may be is said by Roster of the rules.
 #[derive(Clone, Copy)]
@@ -38,6 +39,7 @@ pub enum Step {
     Finish,
 }
 
+// The codes are bytes of the file, which are read as steps in one place: an enum of them would list the steps a second time.
 impl Step {
     pub const ENTER: u8 = 1;
 
@@ -56,10 +58,9 @@ impl Step {
     pub const AGAIN: u8 = 8;
 }
 
-// What the form, the check and a reader answer, a fault of a step with its task and step.
-#[derive(Clone, Copy)]
-pub enum Verdict {
-    Passed,
+// What is wrong with a roster or with what is asked of one; a fault of a step with its task and step.
+#[derive(Clone, Copy, PartialEq, Eq)]
+pub enum Fault {
     NoSuchTask,
     NoSuchObject,
     BadLength,
@@ -74,91 +75,88 @@ pub enum Verdict {
     OtherTask(u8, usize),
 }
 
-// What the readers of a roster find, or why they find nothing.
-#[derive(Clone, Copy)]
-pub enum PriorityFound {
-    Found(Priority),
-    Refused(Verdict),
-}
+// What the form, the check and a reader answer.
+pub type Verdict = Result<(), Fault>;
 
-#[derive(Clone, Copy)]
-pub enum CountFound {
-    Found(usize),
-    Refused(Verdict),
-}
+impl Numbered for Fault {
+    ghost number = { fault_number };
 
-#[derive(Clone, Copy)]
-pub enum StepFound {
-    Found(Step),
-    Refused(Verdict),
-}
-
-impl Verdict {
-    pub fn passed(self) -> bool
-        ensures { result ≡ passed self }
-    {
-        self.number() == 0
-    }
-
-    pub fn number(self) -> u8
-        ensures { result ≡ number_of self }
-    {
+    fn number(self) -> u8 {
         match self {
-            Verdict::Passed => 0,
-            Verdict::NoSuchTask => 1,
-            Verdict::NoSuchObject => 2,
-            Verdict::BadLength => 11,
-            Verdict::BadMark => 12,
-            Verdict::BadCounts => 13,
-            Verdict::BadLayout => 14,
-            Verdict::BadValues => 15,
-            Verdict::BadStep(_, _) => 16,
-            Verdict::WhileHeld(_, _) => 17,
-            Verdict::LowCeiling(_, _) => 18,
-            Verdict::NotInnermost(_, _) => 19,
-            Verdict::OtherTask(_, _) => 20,
+            Fault::NoSuchTask => 1,
+            Fault::NoSuchObject => 2,
+            Fault::BadLength => 11,
+            Fault::BadMark => 12,
+            Fault::BadCounts => 13,
+            Fault::BadLayout => 14,
+            Fault::BadValues => 15,
+            Fault::BadStep(_, _) => 16,
+            Fault::WhileHeld(_, _) => 17,
+            Fault::LowCeiling(_, _) => 18,
+            Fault::NotInnermost(_, _) => 19,
+            Fault::OtherTask(_, _) => 20,
+        }
+    }
+}
+
+// What has a number, and a task and a step, which it names by its position in the script: 0 and 0 where it is about none.
+pub trait Placed: Numbered {
+    ghost task: { Self → ℕ };
+
+    ghost position: { Self → ℕ };
+
+    fn task(self) -> u8
+        ensures { result ≡ task self };
+
+    fn position(self) -> usize
+        ensures { result ≡ position self };
+}
+
+impl Placed for Fault {
+    ghost task = { fault_task };
+
+    ghost position = { fault_position };
+
+    fn task(self) -> u8 {
+        match self {
+            Fault::BadStep(t, _)
+            | Fault::WhileHeld(t, _)
+            | Fault::LowCeiling(t, _)
+            | Fault::NotInnermost(t, _)
+            | Fault::OtherTask(t, _) => t,
+            _ => 0,
         }
     }
 
-    // The task of the fault.
-    pub fn task(self) -> u8
-        ensures { result ≡ task_of self }
-    {
+    fn position(self) -> usize {
         match self {
-            Verdict::Passed => 0,
-            Verdict::NoSuchTask => 0,
-            Verdict::NoSuchObject => 0,
-            Verdict::BadLength => 0,
-            Verdict::BadMark => 0,
-            Verdict::BadCounts => 0,
-            Verdict::BadLayout => 0,
-            Verdict::BadValues => 0,
-            Verdict::BadStep(t, _) => t,
-            Verdict::WhileHeld(t, _) => t,
-            Verdict::LowCeiling(t, _) => t,
-            Verdict::NotInnermost(t, _) => t,
-            Verdict::OtherTask(t, _) => t,
+            Fault::BadStep(_, k)
+            | Fault::WhileHeld(_, k)
+            | Fault::LowCeiling(_, k)
+            | Fault::NotInnermost(_, k)
+            | Fault::OtherTask(_, k) => k,
+            _ => 0,
+        }
+    }
+}
+
+// Ok is at 0, 0.
+impl<E: Placed> Placed for Result<(), E> {
+    ghost task = { number_by E.task };
+
+    ghost position = { number_by E.position };
+
+    fn task(self) -> u8 {
+        match self {
+            Ok(()) => 0,
+            Err(e) => e.task(),
         }
     }
 
-    // The step of the fault, by its position in the script.
-    pub fn position(self) -> usize
-        ensures { result ≡ position_of self }
-    {
+    fn position(self) -> usize {
         match self {
-            Verdict::Passed => 0,
-            Verdict::NoSuchTask => 0,
-            Verdict::NoSuchObject => 0,
-            Verdict::BadLength => 0,
-            Verdict::BadMark => 0,
-            Verdict::BadCounts => 0,
-            Verdict::BadLayout => 0,
-            Verdict::BadValues => 0,
-            Verdict::BadStep(_, k) => k,
-            Verdict::WhileHeld(_, k) => k,
-            Verdict::LowCeiling(_, k) => k,
-            Verdict::NotInnermost(_, k) => k,
-            Verdict::OtherTask(_, k) => k,
+            Ok(()) => 0,
+            Err(e) => e.position(),
         }
     }
 }

@@ -9,11 +9,12 @@ use borrow.Author.Tests.{eq-eqb, ne_eqb}
 use lib.Bits.{bit_and, bit_or, and_zero_r, and_le_l, and_le_r, and_high, or_zero_r, or_add_and, or_shr, or_mod}
 use lib.Dec.{eqb}
 use lib.ListN.{get_or}
+use Rattle.std.specs.Prelude.{is_some}
 use Rattle.rules.specs.Lists.{below}
 use Rattle.rules.proofs.Choices.{split, compare}
-use Rattle.trace.specs.Inputs.{decode, is_good, kind_at, operand_at, value_at, decoded_at, event_good}
+use Rattle.trace.specs.Inputs.{decode, kind_at, operand_at, value_at, decoded_at, event_good}
 use Rattle.trace.proofs.InputLaws.{fields-are, decode-none}
-use Rattle.inputs.specs.Masks.{FieldsOf, unused_bits, unknown_kinds, fault_in}
+use Rattle.inputs.specs.Masks.{unused_bits, unknown_kinds, fault_in}
 
 -- a number is 0 where another is, or where two others are
 zero_same : (x z : ℕ) → (x ≡ 0 → z ≡ 0) → (z ≡ 0 → x ≡ 0) → eqb x 0 ≡ eqb z 0
@@ -116,7 +117,7 @@ module _ (all : ℕ) (fits : all < 2 ^ 64) where
       and-false true = refl
       and-false false = refl
 
-  pub fault-good : (eqb (fault_in all) 0 && eqb (high all) 0) ≡ is_good (decode (all % 256) (all / 256 % 256) (all / 65536))
+  pub fault-good : (eqb (fault_in all) 0 && eqb (high all) 0) ≡ is_some (decode (all % 256) (all / 256 % 256) (all / 65536))
   unfolding unused_bits unknown_kinds
   fault-good =
       let k = all % 256 in
@@ -128,13 +129,19 @@ module _ (all : ℕ) (fits : all < 2 ^ 64) where
       split k 4
       (λ e.
       known all 4 0 true e (omega arith) refl refl (ap (λ (n : ℕ). eqb n 0) (and_zero_r all)) ∙ sym (good 4 e ∙ fields-are 4 a v)) (λ h4.
-      unknown h1 h2 h3 h4 ∙ sym (ap is_good (decode-none k a v h1 h2 h3 h4))))))
+      unknown h1 h2 h3 h4 ∙ sym (ap is_some (decode-none k a v h1 h2 h3 h4))))))
     where
       good : (j : ℕ) → all % 256 ≡ j →
-          is_good (decode (all % 256) (all / 256 % 256) (all / 65536)) ≡ is_good (decode j (all / 256 % 256) (all / 65536))
-      good j e = ap (λ (n : ℕ). is_good (decode n (all / 256 % 256) (all / 65536))) e
+          is_some (decode (all % 256) (all / 256 % 256) (all / 65536)) ≡ is_some (decode j (all / 256 % 256) (all / 65536))
+      good j e = ap (λ (n : ℕ). is_some (decode n (all / 256 % 256) (all / 65536))) e
 
--- the fields of a record of these bytes
+-- "kind, a, value (6)", little-endian
+pub record FieldsOf (all k o v : ℕ) : Type 0 where
+  pub kind : all % 256 ≡ k
+  pub a : all / 256 % 256 ≡ o
+  pub value : all / 65536 ≡ v
+
+-- .. of these bytes
 pub fields-of : (all k a v : ℕ) → k < 256 → a < 256 → all ≡ k + 256 * a + 65536 * v → FieldsOf all k a v
 fields-of all k a v h g e =
     let d : all / 256 ≡ a + 256 * v = omega arith in

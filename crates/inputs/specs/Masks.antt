@@ -1,12 +1,6 @@
 -- A record of eight bytes as one number, and what is wrong with it.
-use Rattle.std.specs.Prelude.{◌≡◌, List, [], ◌∷◌, ℕ, ◌-◌, ◌/◌, ◌%◌, ◌^◌, get_or}
+use Rattle.std.specs.Prelude.{List, [], ◌∷◌, ℕ, ◌-◌, ◌%◌, ◌^◌, get_or}
 use Rattle.std.specs.Int.Bits.{bit_and, bit_or}
-
--- "kind, a, value (6)", little-endian
-pub record FieldsOf (all k o v : ℕ) : Type 0 where
-  pub kind : all % 256 ≡ k
-  pub a : all / 256 % 256 ≡ o
-  pub value : all / 65536 ≡ v
 
 -- by kind, the bits that have to be 0: of a Clock a, of a Release the value, of a Step both, of a Set nothing
 unfoldable pub unused_bits : List ℕ

@@ -1,4 +1,5 @@
 -- An event of the rules, refused or done: what two Models with the same view make of it, and one of which nothing is seen.
+use Rattle.std.specs.Prelude.{Err, Ok}
 use mathlib.Core.Path.{◌≡◌, refl, ap, ◌∙◌, sym, subst}
 use mathlib.Core.Bool.{Bool, true, cond}
 use Prim.Native.Nat.{ℕ, ◌<◌}
@@ -13,7 +14,7 @@ use Rattle.rules.specs.Refusals.{table, lowest, applies_at, no_such_task, no_suc
 use Rattle.rules.specs.Refusals.{inside_action, above_ceiling, not_innermost}
 use Rattle.rules.specs.declared.Event as asked
 use Rattle.rules.specs.declared.Event.TheVariants as event
-use Rattle.rules.specs.declared.Answer.TheVariants.{Done, NoSuchTask, BadReading}
+use Rattle.rules.specs.declared.Refusal.TheVariants.{NoSuchTask, BadReading}
 use Rattle.rules.proofs.Pending.{Pending, Good}
 use Rattle.rules.proofs.Kept.{pending_done}
 use Rattle.rules.proofs.Effects.{done-model}
@@ -27,16 +28,16 @@ use Rattle.isolation.proofs.Dispatching.{dispatch-both}
 pub clock-answers : (m n : Model) (x : ℕ) → m.now ≡ n.now → (apply m (event.Clock x)).answer ≡ (apply n (event.Clock x)).answer
 unfolding lowest table no_such_task no_such_object bad_priority bad_clock nobody_runs ended_task inside_action above_ceiling not_innermost
 clock-answers m n x e =
-    answers m (event.Clock x) ∙ ap (λ (now : ℕ). cond (bad_reading now x) BadReading Done) e ∙ sym (answers n (event.Clock x))
+    answers m (event.Clock x) ∙ ap (λ (now : ℕ). cond (bad_reading now x) (Err BadReading) (Ok tt)) e ∙ sym (answers n (event.Clock x))
 
 pub release-answers : (m n : Model) (t : ℕ) → no_task m t ≡ no_task n t →
     (apply m (event.Release t)).answer ≡ (apply n (event.Release t)).answer
 unfolding lowest table no_such_task no_such_object bad_priority bad_clock nobody_runs ended_task inside_action above_ceiling not_innermost
 release-answers m n t e =
-    answers m (event.Release t) ∙ ap (λ (b : Bool). cond b NoSuchTask Done) e ∙ sym (answers n (event.Release t))
+    answers m (event.Release t) ∙ ap (λ (b : Bool). cond b (Err NoSuchTask) (Ok tt)) e ∙ sym (answers n (event.Release t))
 
 -- a release that is done is of a task that there is
-pub release-in : (m : Model) (t : ℕ) → (apply m (event.Release t)).answer ≡ Done → t < length m.tasks
+pub release-in : (m : Model) (t : ℕ) → (apply m (event.Release t)).answer ≡ Ok tt → t < length m.tasks
 unfolding applies_at table no_such_task
 release-in m t d = leb-false (length m.tasks) t (done-only-when m (event.Release t) d 0)
 
@@ -60,7 +61,7 @@ module _ (p : ℕ) (high : ℕ → Bool) where
   -- an event of the rules that both answer alike; one of which nothing is seen
   pub both-event : (m n : Model) (x : asked.Event) → delay_fits x ≡ true → Good true m → Good true n →
       (apply m x).answer ≡ (apply n x).answer → Layer p high (apply m x).model → Layer p high (apply n x).model → View p high m n →
-      ((apply m x).answer ≡ Done → View p high (effect m x) (effect n x)) → View p high (apply m x).model (apply n x).model
+      ((apply m x).answer ≡ Ok tt → View p high (effect m x) (effect n x)) → View p high (apply m x).model (apply n x).model
   both-event m n x i g h e k l v f =
       by_answer (apply m x).answer
       (λ d. both_end (apply m x).model (apply n x).model (effect m x) (effect n x) (done-model m x d) (done-model n x (sym e ∙ d))
@@ -68,7 +69,7 @@ module _ (p : ℕ) (high : ℕ → Bool) where
       (λ z. view-is p high m n (apply m x).model (apply n x).model (refused-same m x z) (refused-same n x (λ d. z (e ∙ d))) v)
 
   pub one-event : (m : Model) (x : asked.Event) → delay_fits x ≡ true → Good true m → Layer p high m → Layer p high (apply m x).model →
-      View p high m m → ((apply m x).answer ≡ Done → View p high m (effect m x)) → View p high m (apply m x).model
+      View p high m m → ((apply m x).answer ≡ Ok tt → View p high m (effect m x)) → View p high m (apply m x).model
   one-event m x i g k l self f =
       by_answer (apply m x).answer
       (λ d. one_end m (apply m x).model (effect m x) g k (done-model m x d) (pending_done m x i g d) l (λ a. f d))

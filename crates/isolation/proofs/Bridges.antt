@@ -4,11 +4,10 @@ use mathlib.Core.List.{List, [], ◌∷◌, ◌++◌}
 use Prim.Native.Nat.{ℕ, ◌<◌}
 use native.Mathlib.Omega.{arith}
 use lib.ListN.{length}
+use Rattle.std.specs.Prelude.{None, Option, Some, ℕ}
 use Rattle.rules.specs.Answers.{number_of}
 use Rattle.rules.specs.Model.{Model}
-use Rattle.rules.specs.declared.Runner.{Runner}
-use Rattle.rules.specs.declared.Runner.TheVariants.{Nobody, Task}
-use Rattle.rules.specs.declared.Answer.{Answer}
+use Rattle.rules.specs.Answers.{Answer}
 use Rattle.format.specs.Roster.{Roster, roster_of}
 use Rattle.trace.specs.Limits.{nobody_byte}
 use Rattle.trace.specs.Config.{Config}
@@ -25,12 +24,12 @@ use Rattle.isolation.proofs.Sorting.{listed_above}
 use Rattle.isolation.proofs.Theorem.{first-orderly, unseen-isolated, isolated}
 
 -- the byte of a runner names the task t exactly if that task runs
-byte-named : (w : Runner) (t : ℕ) → t < nobody_byte → running_byte w ≡ t → w ≡ Task t
+byte-named : (w : Option ℕ) (t : ℕ) → t < nobody_byte → running_byte w ≡ t → w ≡ Some t
 unfolding running_byte
-byte-named Nobody t h e = absurd (omega (arith, h, e))
-byte-named (Task u) t h e = ap Task e
+byte-named None t h e = absurd (omega (arith, h, e))
+byte-named (Some u) t h e = ap Some e
 
-named-byte : (w : Runner) (t : ℕ) → w ≡ Task t → running_byte w ≡ t
+named-byte : (w : Option ℕ) (t : ℕ) → w ≡ Some t → running_byte w ≡ t
 unfolding running_byte
 named-byte w t e = ap running_byte e
 

@@ -5,15 +5,13 @@ use mathlib.Core.List.{List}
 use Prim.Native.Nat.{ℕ, ◌<◌}
 use native.Mathlib.Omega.{arith}
 use lib.ListN.{length, get_or, set}
+use Rattle.std.specs.Prelude.{None, Option, Some, ℕ, Ok}
 use Rattle.rules.specs.Model.{task_at}
 use Rattle.rules.specs.Moves.{dispatch}
 use Rattle.rules.specs.Events.{apply}
 use Rattle.rules.specs.Effect.{effect}
 use Rattle.rules.specs.Histories.{delay_fits}
 use Rattle.rules.specs.declared.Event.TheVariants as event
-use Rattle.rules.specs.declared.Runner.{Runner}
-use Rattle.rules.specs.declared.Runner.TheVariants.{Nobody, Task}
-use Rattle.rules.specs.declared.Answer.TheVariants.{Done}
 use Rattle.rules.proofs.Choices.{cond-true}
 use Rattle.rules.proofs.TaskLaws.{at_other}
 use Rattle.rules.proofs.Pending.{Good}
@@ -103,7 +101,7 @@ module _ (p : ℕ) (high : ℕ → Bool) (r : Roster) (c : Config) (u : Course p
       (λ d. release-low p high c.model c.model self t h (release-in c.model t d) now-firm (task_at c.model t).place))
 
   -- a step of the running task t, which is x
-  module _ (t : ℕ) (e : c.model.running ≡ Task t) (x : Step) (is : next_step r t (position_at c t) ≡ x) where
+  module _ (t : ℕ) (e : c.model.running ≡ Some t) (x : Step) (is : next_step r t (position_at c t) ≡ x) where
     low : t < length r.bases
     low = task-in p high r u.orderly u.sorts c u.reckoning u.inv u.floors t e
 
@@ -121,10 +119,10 @@ module _ (p : ℕ) (high : ℕ → Bool) (r : Roster) (c : Config) (u : Course p
       );
     }
 
-    done : (perform c.model x).answer ≡ Done
+    done : (perform c.model x).answer ≡ Ok tt
     unfolding step_by advance
     done =
-        sym (ap (λ (y : Step). (perform c.model y).answer) is) ∙ sym (ap (λ (w : Runner). (step_by r c w).answer) e) ∙
+        sym (ap (λ (y : Step). (perform c.model y).answer) is) ∙ sym (ap (λ (w : Option ℕ). (step_by r c w).answer) e) ∙
         step-done r u.orderly c u.reckoning u.inv t e
 
     pub took : Taken c.model (step_effect c.model t x) (perform c.model x).model
@@ -133,12 +131,12 @@ module _ (p : ℕ) (high : ℕ → Bool) (r : Roster) (c : Config) (u : Course p
     pub step-model : (next step).model ≡ dispatch (step_effect c.model t x)
     unfolding happen input_of step_by advance
     step-model =
-        ap (λ (w : Runner). (step_by r c w).config.model) e ∙ ap (λ (y : Step). (perform c.model y).model) is ∙ took.model
+        ap (λ (w : Option ℕ). (step_by r c w).config.model) e ∙ ap (λ (y : Step). (perform c.model y).model) is ∙ took.model
 
     pub step-places : (next step).positions ≡ set c.positions t (position_after (position_at c t) x)
     unfolding happen input_of step_by advance
     step-places =
-        ap (λ (w : Runner). (step_by r c w).config.positions) e ∙
+        ap (λ (w : Option ℕ). (step_by r c w).config.positions) e ∙
         ap (λ (y : Step). (advance c t (position_after (position_at c t) y) (perform c.model y)).config.positions) is ∙
         cond-true (is_done (perform c.model x).answer) (set c.positions t (position_after (position_at c t) x)) c.positions
         (ap is_done done)
@@ -152,7 +150,7 @@ module _ (p : ℕ) (high : ℕ → Bool) (r : Roster) (c : Config) (u : Course p
       go false i = refl
 
   -- of a low task, or with nobody running: not seen
-  low_step : (t : ℕ) → c.model.running ≡ Task t → high t ≡ false → View p high c.model (next step).model
+  low_step : (t : ℕ) → c.model.running ≡ Some t → high t ≡ false → View p high c.model (next step).model
   low_step t e h =
       let x : Step = next_step r t (position_at c t) in
       let y : Under p r t = u.sorts.below t h (low t e x refl) in
@@ -161,26 +159,26 @@ module _ (p : ℕ) (high : ℕ → Bool) (r : Roster) (c : Config) (u : Course p
       (λ f. low-effect p high c.model t good e h self x (ruled t e x refl)
       (λ v i. not-high v (y.releases (position_at c t) v i)) now-firm f)
 
-  nobody-step : c.model.running ≡ Nobody → next step ≡ c
+  nobody-step : c.model.running ≡ None → next step ≡ c
   unfolding happen input_of step_by
-  nobody-step e = ap (λ (w : Runner). (step_by r c w).config) e
+  nobody-step e = ap (λ (w : Option ℕ). (step_by r c w).config) e
 
-  pub step-unseen : seen high c.model.running ≡ Nobody →
+  pub step-unseen : seen high c.model.running ≡ None →
       View p high c.model (next step).model × ((v : ℕ) → high v ≡ true → position_at (next step) v ≡ position_at c v)
   step-unseen n = by c.model.running refl
     where
-      by : (w : Runner) → c.model.running ≡ w →
+      by : (w : Option ℕ) → c.model.running ≡ w →
           View p high c.model (next step).model × ((v : ℕ) → high v ≡ true → position_at (next step) v ≡ position_at c v)
-      by Nobody e = (
+      by None e = (
         subst (λ (d : Config). View p high c.model d.model) (sym (nobody-step e)) self,
         λ v h. ap (λ (d : Config). position_at d v) (nobody-step e),
       )
-      by (Task t) e = go (high t) refl
+      by (Some t) e = go (high t) refl
         where
           go : (d : Bool) → high t ≡ d →
               View p high c.model (next step).model × ((v : ℕ) → high v ≡ true → position_at (next step) v ≡ position_at c v)
           go true h =
-              absurd (let x : Task t ≡ Nobody = sym (seen-high high t h) ∙ sym (ap (seen high) e) ∙ n in
+              absurd (let x : Some t ≡ None = sym (seen-high high t h) ∙ sym (ap (seen high) e) ∙ n in
               let z : ◌≡◌ {A = ℕ} 0 1 = cc in omega arith)
           go false h = (
             low_step t e h,
@@ -189,10 +187,10 @@ module _ (p : ℕ) (high : ℕ → Bool) (r : Roster) (c : Config) (u : Course p
           )
 
   -- where no task above runs, none is seen to run
-  none_seen : Unseen p r c step → (w : Runner) → c.model.running ≡ w → seen high w ≡ Nobody
+  none_seen : Unseen p r c step → (w : Option ℕ) → c.model.running ≡ w → seen high w ≡ None
   unfolding Unseen seen
-  none_seen n Nobody e = refl
-  none_seen n (Task t) e = seen_low high t (not-high t (λ a. n t a e))
+  none_seen n None e = refl
+  none_seen n (Some t) e = seen_low high t (not-high t (λ a. n t a e))
 
   -- an event that is not seen changes nothing above p
   pub unseen-event : (e : Event) → Unseen p r c e →

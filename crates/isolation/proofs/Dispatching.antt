@@ -8,12 +8,11 @@ use native.Mathlib.Omega.{arith}
 use borrow.Author.Tests.{eqb-false, ne_eqb, leb-false, lt-leb}
 use lib.Dec.{eqb, leb}
 use lib.ListN.{length, get_or}
+use Rattle.std.specs.Prelude.{None, Option, Some, ℕ}
 use Rattle.rules.specs.Limits.{task_limit, last_priority}
 use Rattle.rules.specs.Model.{Model, active}
 use Rattle.rules.specs.Moves.{highest_to, highest, stopped, preempt, start, dispatch}
 use Rattle.rules.specs.Sound.{runs}
-use Rattle.rules.specs.declared.Runner.{Runner}
-use Rattle.rules.specs.declared.Runner.TheVariants.{Nobody, Task}
 use Rattle.rules.proofs.Choices.{compare}
 use Rattle.rules.proofs.Levels.{highest-top}
 use Rattle.rules.proofs.TaskLaws.{runs-named}
@@ -42,11 +41,11 @@ top-same p qs rs f (suc n) h = by (top-same p qs rs f n)
         go (eqb (length (get_or qs n [])) 0) h k)
         (λ i. absurd (omega (arith, i, h, highest-top qs (suc n))))
 
-none_named : (m : Model) → m.running ≡ Nobody → (u : ℕ) → runs m.running u ≡ 0
+none_named : (m : Model) → m.running ≡ None → (u : ℕ) → runs m.running u ≡ 0
 unfolding runs
-none_named m e u = ap (λ (w : Runner). runs w u) e
+none_named m e u = ap (λ (w : Option ℕ). runs w u) e
 
-preempt-nobody : (m : Model) (t : ℕ) → (preempt m t).running ≡ Nobody
+preempt-nobody : (m : Model) (t : ℕ) → (preempt m t).running ≡ None
 unfolding preempt stopped
 preempt-nobody m t = refl
 
@@ -60,7 +59,7 @@ module _ (p : ℕ) (high : ℕ → Bool) where
     core : Core true from task_limit
     layer : Layer p high from
     top : Highest from i
-    nobody : from.running ≡ Nobody
+    nobody : from.running ≡ None
     is : dispatch m ≡ start from i
 
   both-cleared : (m n x y : Model) (i : ℕ) → Cleared m x i → Cleared n y i → p < i → View p high x y → View p high (dispatch m) (dispatch n)
@@ -74,7 +73,7 @@ module _ (p : ℕ) (high : ℕ → Bool) where
       (start-low p high m x v i g h (head-low p high x i a.core a.top (none_named x a.nobody) a.layer h) a.nobody)
 
   module _ (m : Model) (c : Core true m task_limit) (l : Layer p high m) (i : ℕ) (same : highest m ≡ i) where
-    cleared-nobody : m.running ≡ Nobody → (i ≡ 0 → ⊥) → Cleared m m i
+    cleared-nobody : m.running ≡ None → (i ≡ 0 → ⊥) → Cleared m m i
     cleared-nobody e n = record {
       core = c;
       layer = l;
@@ -83,7 +82,7 @@ module _ (p : ℕ) (high : ℕ → Bool) where
       is = dispatch-start m e (ne_eqb (highest m) 0 (λ z. n (sym same ∙ z))) ∙ ap (start m) same;
     }
 
-    cleared-task : (t : ℕ) → m.running ≡ Task t → active m t < i → Cleared m (preempt m t) i
+    cleared-task : (t : ℕ) → m.running ≡ Some t → active m t < i → Cleared m (preempt m t) i
     cleared-task t e g =
         let r = runs-named m.running t e in
         let top = highest-is m (λ z. omega (arith, z, same, g)) in
@@ -98,13 +97,13 @@ module _ (p : ℕ) (high : ℕ → Bool) where
 
   -- a running low task is seen as nobody, and so is nobody
   unseen : (m : Model) → Core true m task_limit → Layer p high m → View p high m m → (i : ℕ) → highest m ≡ i → p < i →
-      seen high m.running ≡ Nobody → (x : Model) × Cleared m x i × View p high m x
+      seen high m.running ≡ None → (x : Model) × Cleared m x i × View p high m x
   unfolding seen
   unseen m c l self i same g s = go m.running refl
     where
-      go : (w : Runner) → m.running ≡ w → (x : Model) × Cleared m x i × View p high m x
-      go Nobody e = (m, cleared-nobody m c l i same e (λ z. omega (arith, z, g)), self)
-      go (Task t) e =
+      go : (w : Option ℕ) → m.running ≡ w → (x : Model) × Cleared m x i × View p high m x
+      go None e = (m, cleared-nobody m c l i same e (λ z. omega (arith, z, g)), self)
+      go (Some t) e =
           let t-in = runner-in m c t (runs-named m.running t e) in
           let low : high t ≡ false = not_seen (high t) refl in
           let under = l.down t low t-in in (
@@ -115,7 +114,7 @@ module _ (p : ℕ) (high : ℕ → Bool) where
         where
           not_seen : (b : Bool) → high t ≡ b → b ≡ false
           not_seen true f =
-              absurd (let x : Task t ≡ Nobody = sym (seen-high high t f) ∙ sym (ap (seen high) e) ∙ s in
+              absurd (let x : Some t ≡ None = sym (seen-high high t f) ∙ sym (ap (seen high) e) ∙ s in
               let z : ◌≡◌ {A = ℕ} 0 1 = cc in omega arith)
           not_seen false f = refl
 
@@ -123,15 +122,15 @@ module _ (p : ℕ) (high : ℕ → Bool) where
   quiet : (m : Model) → Core true m task_limit → Layer p high m → View p high m m → highest m ≤ p → View p high m (dispatch m)
   quiet m c l self g = go m.running refl
     where
-      go : (w : Runner) → m.running ≡ w → View p high m (dispatch m)
-      go Nobody e = by (eqb (highest m) 0) refl
+      go : (w : Option ℕ) → m.running ≡ w → View p high m (dispatch m)
+      go None e = by (eqb (highest m) 0) refl
         where
           by : (b : Bool) → eqb (highest m) 0 ≡ b → View p high m (dispatch m)
           by true z = subst (View p high m) (sym (dispatch-idle m e z)) self
           by false z =
               let n = eqb-false (highest m) 0 z in
               low-cleared m m (highest m) (cleared-nobody m c l (highest m) refl e n) (omega (arith, n)) g self
-      go (Task t) e = by (leb (highest m) (active m t)) refl
+      go (Some t) e = by (leb (highest m) (active m t)) refl
         where
           by : (b : Bool) → leb (highest m) (active m t) ≡ b → View p high m (dispatch m)
           by true z = subst (View p high m) (sym (dispatch-stay m t e z)) self
@@ -143,7 +142,7 @@ module _ (p : ℕ) (high : ℕ → Bool) where
 
   module _ (m n : Model) (v : View p high m n) (f : Firm p high m) (g : Firm p high n) where
     -- a queue above p, and a high runner
-    loud-high : p < highest m → (t : ℕ) → high t ≡ true → m.running ≡ Task t → n.running ≡ Task t → View p high (dispatch m) (dispatch n)
+    loud-high : p < highest m → (t : ℕ) → high t ≡ true → m.running ≡ Some t → n.running ≡ Some t → View p high (dispatch m) (dispatch n)
     loud-high a t h e d = by (leb (highest m) (active m t)) refl
       where
         same : highest n ≡ highest m
@@ -163,7 +162,7 @@ module _ (p : ℕ) (high : ℕ → Bool) where
             (cleared-task n g.pending.core g.layer (highest m) same t d (omega (arith, above, act))) a
             (preempt-both p high m n v t h act)
 
-    loud-low : p < highest m → seen high m.running ≡ Nobody → View p high (dispatch m) (dispatch n)
+    loud-low : p < highest m → seen high m.running ≡ None → View p high (dispatch m) (dispatch n)
     loud-low a s =
         let self = view-left p high m n v in
         let other = view-left p high n m (view-sym p high m n v) in
@@ -176,9 +175,9 @@ module _ (p : ℕ) (high : ℕ → Bool) where
     unfolding seen
     loud a = go m.running refl
       where
-        go : (w : Runner) → m.running ≡ w → View p high (dispatch m) (dispatch n)
-        go Nobody e = loud-low a (ap (seen high) e)
-        go (Task t) e = by (high t) refl
+        go : (w : Option ℕ) → m.running ≡ w → View p high (dispatch m) (dispatch n)
+        go None e = loud-low a (ap (seen high) e)
+        go (Some t) e = by (high t) refl
           where
             by : (b : Bool) → high t ≡ b → View p high (dispatch m) (dispatch n)
             by true h =

@@ -7,8 +7,9 @@ use native.Mathlib.Omega.{arith}
 use borrow.Author.Tests.{le-leb}
 use lib.Dec.{eqb}
 use lib.ListN.{length, take, length-set}
+use Rattle.std.specs.Prelude.{None, Option, Some, ℕ, Ok}
 use Rattle.rules.specs.Limits.{task_limit, last_delay}
-use Rattle.rules.specs.Model.{Model, TaskRecord, NextBase, none, waits, blank, with_place, with_base, with_waiting, with_permit, with_held}
+use Rattle.rules.specs.Model.{Model, TaskRecord, blank, with_place, with_base, with_waiting, with_permit, with_held}
 use Rattle.rules.specs.Model.{task_at, with_task, active_of, active}
 use Rattle.rules.specs.Moves.{become_ready, stopped, dispatch}
 use Rattle.rules.specs.Events.{inside, take_hold, give_up, settle, put_off, rest, end, permit_on, release_from, requeue, rebase, apply}
@@ -20,9 +21,6 @@ use Rattle.rules.specs.declared.Event.{Event}
 use Rattle.rules.specs.declared.Event.TheVariants as event
 use Rattle.rules.specs.declared.Place.{Place}
 use Rattle.rules.specs.declared.Place.TheVariants.{Running, Ready, Delayed, Suspended, Ended}
-use Rattle.rules.specs.declared.Runner.{Runner}
-use Rattle.rules.specs.declared.Runner.TheVariants.{Task}
-use Rattle.rules.specs.declared.Answer.TheVariants.{Done}
 use Rattle.rules.proofs.TaskLaws.{at-keeps}
 use Rattle.rules.proofs.Core.{act-low}
 use Rattle.rules.proofs.DispatchLaws.{runner-place, running-place}
@@ -56,24 +54,25 @@ pub record Taken (m n after : Model) : Type 0 where
   pub pending : Pending true n
 
 -- an event of the rules that is done and has the effect n
-by-rule : (m n : Model) (x : Event) → Good true m → effect m x ≡ n → delay_fits x ≡ true → (apply m x).answer ≡ Done →
+by-rule : (m n : Model) (x : Event) → Good true m → effect m x ≡ n → delay_fits x ≡ true → (apply m x).answer ≡ Ok tt →
     Taken m n (apply m x).model
 by-rule m n x h i f d = record { model = done-model m x d ∙ ap dispatch i; pending = subst (Pending true) i (pending_done m x f h d) }
 
 -- a step that is done
-pub taken : (m : Model) (t : ℕ) (x : Step) → Good true m → m.running ≡ Task t → ((d : ℕ) → x ≡ Delay d → d ≤ last_delay) →
-    (perform m x).answer ≡ Done → Taken m (step_effect m t x) (perform m x).model
+pub taken : (m : Model) (t : ℕ) (x : Step) → Good true m → m.running ≡ Some t → ((d : ℕ) → x ≡ Delay d → d ≤ last_delay) →
+    (perform m x).answer ≡ Ok tt → Taken m (step_effect m t x) (perform m x).model
 unfolding perform answer_to event_of step_effect effect for_runner delay_fits
-taken m t (Enter o) h e f d = by-rule m _ (event.Enter o) h (ap (λ (w : Runner). for_runner m w (take_hold m o)) e) refl d
-taken m t (Leave o) h e f d = by-rule m _ (event.Leave o) h (ap (λ (w : Runner). for_runner m w (λ u. settle (give_up m u) u)) e) refl d
+taken m t (Enter o) h e f d = by-rule m _ (event.Enter o) h (ap (λ (w : Option ℕ). for_runner m w (take_hold m o)) e) refl d
+taken m t (Leave o) h e f d = by-rule m _ (event.Leave o) h (ap (λ (w : Option ℕ). for_runner m w (λ u. settle (give_up m u) u)) e) refl d
 taken m t (Delay b) h e f d =
-    by-rule m _ (event.Delay b) h (ap (λ (w : Runner). for_runner m w (λ u. put_off (stopped m) u b)) e) (le-leb b last_delay (f b refl)) d
+    by-rule m _ (event.Delay b) h
+    (ap (λ (w : Option ℕ). for_runner m w (λ u. put_off (stopped m) u b)) e) (le-leb b last_delay (f b refl)) d
 taken m t Work h e f d = by-rule m _ event.Work h refl refl d
-taken m t Suspend h e f d = by-rule m _ event.Suspend h (ap (λ (w : Runner). for_runner m w (rest m)) e) refl d
+taken m t Suspend h e f d = by-rule m _ event.Suspend h (ap (λ (w : Option ℕ). for_runner m w (rest m)) e) refl d
 taken m t (Release u) h e f d = by-rule m _ (event.Release u) h refl refl d
 taken m t (Set u q) h e f d = by-rule m _ (event.Set u q) h refl refl d
 taken m t Again h e f d = record { model = sym (still m t h e); pending = h.pending }
-taken m t Finish h e f d = by-rule m _ event.Finish h (ap (λ (w : Runner). for_runner m w (end m)) e) refl d
+taken m t Finish h e f d = by-rule m _ event.Finish h (ap (λ (w : Option ℕ). for_runner m w (end m)) e) refl d
 
 -- what the check asks of a step of task t
 pub record Ruled (ts : List TaskRecord) (t : ℕ) (x : Step) : Type 0 where
@@ -150,7 +149,7 @@ module _ (p : ℕ) (high : ℕ → Bool) where
           release-low x n (view-sym p high n x left) u h j g (task_at n u).place
 
   -- a low task t of m runs
-  module _ (m : Model) (t : ℕ) (good : Good true m) (e : m.running ≡ Task t) (h : high t ≡ false) (self : View p high m m) where
+  module _ (m : Model) (t : ℕ) (good : Good true m) (e : m.running ≡ Some t) (h : high t ≡ false) (self : View p high m m) where
     running-at : (task_at m t).place ≡ Running
     running-at = running-place (task_at m t).place (runner-place m t good.pending.core e)
 
@@ -161,7 +160,7 @@ module _ (p : ℕ) (high : ℕ → Bool) where
     off = stopped-low p high m m self t h e
 
     -- it leaves the processor with a new record and goes to a tail
-    low_again : (n : Model) → View p high m n → n.running ≡ Task t → length n.tasks ≡ length m.tasks → (k : TaskRecord) →
+    low_again : (n : Model) → View p high m n → n.running ≡ Some t → length n.tasks ≡ length m.tasks → (k : TaskRecord) →
         Firm p high (become_ready (stopped (with_task n t k)) t) → View p high m (become_ready (stopped (with_task n t k)) t)
     unfolding stopped
     low_again n v w c k f =
@@ -178,12 +177,12 @@ module _ (p : ℕ) (high : ℕ → Bool) where
         v : View p high m n
         v = task-low p high m m self t h _
 
-        due : (w : NextBase) → (task_at n t).waiting ≡ w → inside (task_at n t) ≡ false → View p high m (settle n t)
-        due none w z = subst (View p high m) (sym (settle-none n t z w)) v
-        due (waits q) w z =
+        due : (w : Option ℕ) → (task_at n t).waiting ≡ w → inside (task_at n t) ≡ false → View p high m (settle n t)
+        due None w z = subst (View p high m) (sym (settle-none n t z w)) v
+        due (Some q) w z =
             let is = settle-due n t q z w in
             subst (View p high m) (sym is)
-            (low_again n v e (length-set m.tasks t _) (with_waiting (with_base (task_at n t) q) none) (subst (Firm p high) is f))
+            (low_again n v e (length-set m.tasks t _) (with_waiting (with_base (task_at n t) q) None) (subst (Firm p high) is f))
 
         by : (b : Bool) → inside (task_at n t) ≡ b → View p high m (settle n t)
         by true z = subst (View p high m) (sym (settle-inside n t z)) v
@@ -235,7 +234,7 @@ module _ (p : ℕ) (high : ℕ → Bool) where
     low-effect Finish r a g f = task-low p high m (stopped m) off t h _
 
   -- the same high task t runs in m and n
-  module _ (m n : Model) (t : ℕ) (good : Good true m) (fine : Good true n) (e : m.running ≡ Task t) (d : n.running ≡ Task t)
+  module _ (m n : Model) (t : ℕ) (good : Good true m) (fine : Good true n) (e : m.running ≡ Some t) (d : n.running ≡ Some t)
       (h : high t ≡ true) (v : View p high m n) where
     same : task_at m t ≡ task_at n t
     same = v.tasks t h
@@ -271,15 +270,15 @@ module _ (p : ℕ) (high : ℕ → Bool) where
         at : task_at x t ≡ task_at y t
         at = w.tasks t h
 
-        due : (a : NextBase) → (task_at x t).waiting ≡ a → inside (task_at x t) ≡ false → View p high (settle x t) (settle y t)
-        due none i z =
+        due : (a : Option ℕ) → (task_at x t).waiting ≡ a → inside (task_at x t) ≡ false → View p high (settle x t) (settle y t)
+        due None i z =
             view-is p high x y (settle x t) (settle y t) (settle-none x t z i)
             (settle-none y t (sym (ap inside at) ∙ z) (sym (ap (λ (k : TaskRecord). k.waiting) at) ∙ i)) w
-        due (waits q) i z =
+        due (Some q) i z =
             let is = settle-due x t q z i in
             view-is p high _ _ (settle x t) (settle y t) is
             (settle-due y t q (sym (ap inside at) ∙ z) (sym (ap (λ (k : TaskRecord). k.waiting) at) ∙ i))
-            (both-again x y w _ _ (ap (λ (k : TaskRecord). with_waiting (with_base k q) none) at) (subst (Firm p high) is f))
+            (both-again x y w _ _ (ap (λ (k : TaskRecord). with_waiting (with_base k q) None) at) (subst (Firm p high) is f))
 
         by : (b : Bool) → inside (task_at x t) ≡ b → View p high (settle x t) (settle y t)
         by true z = view-is p high x y (settle x t) (settle y t) (settle-inside x t z) (settle-inside y t (sym (ap inside at) ∙ z)) w
@@ -327,7 +326,7 @@ module _ (p : ℕ) (high : ℕ → Bool) where
         by : (b : Bool) → inside (task_at m t) ≡ b → View p high (rebase m t q) (rebase n t q)
         by true z =
             view-is p high _ _ (rebase m t q) (rebase n t q) (rebase-inside m t q z) (rebase-inside n t q (sym (ap inside same) ∙ z))
-            (task-both p high m n v t h _ _ (ap (λ (x : TaskRecord). with_waiting x (waits q)) same))
+            (task-both p high m n v t h _ _ (ap (λ (x : TaskRecord). with_waiting x (Some q)) same))
         by false z =
             let is : rebase m t q ≡ become_ready (stopped (with_task m t k)) t =
             rebase-outside m t q z ∙ ap (requeue (with_task m t k) t (active m t)) runs-left in

@@ -6,11 +6,10 @@ use Prim.Native.Nat.{ℕ}
 use native.Mathlib.Omega.{arith}
 use borrow.Author.Tests.{lt-leb}
 use lib.ListN.{length, get_or}
+use Rattle.std.specs.Prelude.{None, Option, Some, ℕ}
 use Rattle.rules.specs.Effect.{effect}
 use Rattle.rules.specs.Histories.{delay_fits}
 use Rattle.rules.specs.declared.Event.TheVariants as event
-use Rattle.rules.specs.declared.Runner.{Runner}
-use Rattle.rules.specs.declared.Runner.TheVariants.{Nobody, Task}
 use Rattle.rules.proofs.Choices.{split}
 use Rattle.rules.proofs.TaskLaws.{at_same, at_other}
 use Rattle.format.specs.Steps.{step_in}
@@ -79,7 +78,7 @@ module _ (p : ℕ) (high : ℕ → Bool) (r s : Roster) (scripts : (t : ℕ) →
           (view_then p high c.model d.model (right (release t)).model v (release-unseen p high s d w t h))
 
   -- a step of the same high task
-  high-step : (t : ℕ) → high t ≡ true → c.model.running ≡ Task t → d.model.running ≡ Task t → Both p high (left step) (right step)
+  high-step : (t : ℕ) → high t ≡ true → c.model.running ≡ Some t → d.model.running ≡ Some t → Both p high (left step) (right step)
   high-step t h e f = record {
     view = both_end p high (left step).model (right step).model _ _ (step-model p high r c u t e n refl)
         (step-model p high s d w t f n same) (took p high r c u t e n refl).pending (took p high s d w t f n same).pending
@@ -107,7 +106,7 @@ module _ (p : ℕ) (high : ℕ → Bool) (r s : Roster) (scripts : (t : ℕ) →
           sym (at_other (λ (z : ℕ). z) 0 d.positions t _ i j)) ∙
           sym (ap (λ (q : List ℕ). get_or q i 0) (step-places p high s d w t f n same))
 
-  unseen-steps : seen high c.model.running ≡ Nobody → Both p high (left step) (right step)
+  unseen-steps : seen high c.model.running ≡ None → Both p high (left step) (right step)
   unseen-steps n =
       let f = step-unseen p high r c u n in
       let g = step-unseen p high s d w (sym v.runner ∙ n) in
@@ -118,16 +117,16 @@ module _ (p : ℕ) (high : ℕ → Bool) (r s : Roster) (scripts : (t : ℕ) →
       }
 
   -- who is high and runs in one runs in the other
-  pub other-runs : (t : ℕ) → high t ≡ true → c.model.running ≡ Task t → d.model.running ≡ Task t
+  pub other-runs : (t : ℕ) → high t ≡ true → c.model.running ≡ Some t → d.model.running ≡ Some t
   other-runs t h e = (seen-is high d.model.running t (sym v.runner ∙ ap (seen high) e ∙ seen-high high t h)).0
 
   both-step : Both p high (left step) (right step)
   unfolding seen
   both-step = by c.model.running refl
     where
-      by : (z : Runner) → c.model.running ≡ z → Both p high (left step) (right step)
-      by Nobody e = unseen-steps (ap (seen high) e)
-      by (Task t) e = go (high t) refl
+      by : (z : Option ℕ) → c.model.running ≡ z → Both p high (left step) (right step)
+      by None e = unseen-steps (ap (seen high) e)
+      by (Some t) e = go (high t) refl
         where
           go : (f : Bool) → high t ≡ f → Both p high (left step) (right step)
           go true h = high-step t h e (other-runs t h e)

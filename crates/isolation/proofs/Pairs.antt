@@ -8,15 +8,14 @@ use native.Mathlib.Omega.{arith}
 use borrow.Author.Tests.{leb-true, leb-false}
 use lib.Dec.{leb}
 use lib.ListN.{length, get_or}
+use Rattle.std.specs.Prelude.{None, Option, Some, ℕ}
 use Rattle.rules.specs.Limits.{task_limit}
 use Rattle.rules.specs.Lists.{times_in}
 use Rattle.rules.specs.Model.{Model, task_at, queue, active}
 use Rattle.rules.specs.Events.{no_task, apply}
 use Rattle.rules.specs.Sound.{is_ready, queued}
 use Rattle.rules.specs.declared.Place.TheVariants.{Ready}
-use Rattle.rules.specs.declared.Runner.{Runner}
-use Rattle.rules.specs.declared.Answer.{Answer}
-use Rattle.rules.specs.declared.Runner.TheVariants.{Nobody, Task}
+use Rattle.rules.specs.Answers.{Answer}
 use Rattle.rules.proofs.Choices.{compare, clash}
 use Rattle.rules.proofs.Counts.{queued-at, Row, row-of}
 use Rattle.rules.proofs.TaskLaws.{ready, out_of}
@@ -167,11 +166,11 @@ module _ (p : ℕ) (r s : Roster) (k : Orderly r) (l : Orderly s) (g : Agree p r
     is-above : (t : ℕ) → Above p r t → high t ≡ true
     is-above t h = above-high p high r a t h
 
-    runs-too : (t : ℕ) → Above p r t → c.model.running ≡ Task t → d.model.running ≡ Task t
+    runs-too : (t : ℕ) → Above p r t → c.model.running ≡ Some t → d.model.running ≡ Some t
     runs-too t h e =
         other-runs p high r s (λ t h. (alike t h).1) c d now.first now.second now.both t (is-above t h) e
 
-    runs-back : (t : ℕ) → Above p r t → d.model.running ≡ Task t → c.model.running ≡ Task t
+    runs-back : (t : ℕ) → Above p r t → d.model.running ≡ Some t → c.model.running ≡ Some t
     runs-back t h e =
         other-runs p high s r (λ t h. sym (alike t h).1) d c now.second now.first
         (record { view = view-sym p high _ _ now.both.view; places = λ u i. sym (now.both.places u i) }) t (is-above t h) e
@@ -211,22 +210,22 @@ module _ (p : ℕ) (r s : Roster) (k : Orderly r) (l : Orderly s) (g : Agree p r
         by false true e f = absurd (n (inl (leb-false (length r.bases) t e, out (length s.bases) f)))
         by false false e f = e ∙ sym f
 
-    step-answer : (t : ℕ) → Above p r t → c.model.running ≡ Task t → one step ≡ two step
+    step-answer : (t : ℕ) → Above p r t → c.model.running ≡ Some t → one step ≡ two step
     unfolding happen input_of
     step-answer t h e =
         step-done r k c now.first.reckoning now.first.inv t e ∙
         sym (step-done s l d now.second.reckoning now.second.inv t (runs-too t h e))
 
     -- a step that is not excepted is one of a task above p
-    by-runner : (Excepted p r s c step → ⊥) → (w : Runner) → c.model.running ≡ w → one step ≡ two step
+    by-runner : (Excepted p r s c step → ⊥) → (w : Option ℕ) → c.model.running ≡ w → one step ≡ two step
     unfolding Excepted
-    by-runner n Nobody e = absurd (n (λ t h f. let x : Nobody ≡ Task t = sym e ∙ f in let z : ◌≡◌ {A = ℕ} 0 1 = cc in omega arith))
-    by-runner n (Task t) e = go (high t) refl
+    by-runner n None e = absurd (n (λ t h f. let x : None ≡ Some t = sym e ∙ f in let z : ◌≡◌ {A = ℕ} 0 1 = cc in omega arith))
+    by-runner n (Some t) e = go (high t) refl
       where
         go : (b : Bool) → high t ≡ b → one step ≡ two step
         go true h = step-answer t (a.above t h) e
         go false h = absurd (n (λ u i f.
-            let x : Task t ≡ Task u = sym e ∙ f in
+            let x : Some t ≡ Some u = sym e ∙ f in
             let y : t ≡ u = cc in
             clash (sym (is-above u i) ∙ sym (ap high y) ∙ h)))
 

@@ -11,11 +11,10 @@ use borrow.Author.Tests.{eqb-true, ltb-true, ltb-false}
 use lib.Dec.{eqb, ltb}
 use lib.ListN.{length, get_or, get_or-eq_default, get_or-map}
 use lib.Seq.{set_out}
-use Rattle.rules.specs.Model.{NextBase, none, waits, task_at, ceiling_of, highest_of, active_of, active}
+use Rattle.std.specs.Prelude.{None, Option, Some, ℕ}
+use Rattle.rules.specs.Model.{task_at, ceiling_of, highest_of, active_of, active}
 use Rattle.rules.specs.Lists.{times_in, without}
 use Rattle.rules.specs.declared.Priority.{Priority}
-use Rattle.rules.specs.declared.Runner.{Runner}
-use Rattle.rules.specs.declared.Runner.TheVariants.{Nobody, Task}
 use Rattle.rules.proofs.Choices.{split, compare, both_ways}
 use Rattle.rules.proofs.Counts.{times-same, times-other, times-cons, times-append, times-take}
 use Rattle.rules.proofs.TaskLaws.{at_same, at_other}
@@ -148,7 +147,7 @@ top-under p t b (x ∷ steps) h f =
 -- the base and the waiting base of a task stay above p
 pub record Floor (p : ℕ) (a : Status) : Type 0 where
   pub base : p < a.base
-  pub waiting : (q : ℕ) → a.waiting ≡ waits q → p < q
+  pub waiting : (q : ℕ) → a.waiting ≡ Some q → p < q
 
 abbrev pub Floors : ℕ → (ℕ → Bool) → Reckoning → Type 0
 Floors p high b = (u : ℕ) → high u ≡ true → Floor p (status_at b u)
@@ -166,7 +165,7 @@ module _ (p : ℕ) (high : ℕ → Bool) where
   floor-of : (a c : Status) → a.base ≡ c.base → a.waiting ≡ c.waiting → Floor p a → Floor p c
   floor-of a c e d f = record { base = omega (arith, e, f.base); waiting = λ q i. f.waiting q (d ∙ i) }
 
-  floor-based : (a : Status) (q : ℕ) → p < q → Floor p (based_on a q none)
+  floor-based : (a : Status) (q : ℕ) → p < q → Floor p (based_on a q None)
   floor-based a q h = record { base = h; waiting = λ v i. absurd (let z : ◌≡◌ {A = ℕ} 0 1 = cc in omega arith) }
 
   floor-released : (a : Status) (x : Away) → Floor p a → Floor p (released a x)
@@ -176,10 +175,10 @@ module _ (p : ℕ) (high : ℕ → Bool) where
   floor-released a resting f = floor-of a (goes a here) refl refl f
   floor-released a gone f = floor-of a (permitted a true) refl refl f
 
-  floor-becomes : (a : Status) (w : NextBase) → a.waiting ≡ w → Floor p a → Floor p (becomes_base a w)
+  floor-becomes : (a : Status) (w : Option ℕ) → a.waiting ≡ w → Floor p a → Floor p (becomes_base a w)
   unfolding becomes_base
-  floor-becomes a none e f = f
-  floor-becomes a (waits q) e f = floor-based a q (f.waiting q e)
+  floor-becomes a None e f = f
+  floor-becomes a (Some q) e f = floor-based a q (f.waiting q e)
 
   floors-release : (b : Reckoning) → Floors p high b → (t : ℕ) → Floors p high (released_in b t)
   floors-release b f t = floor-set b f t _ (λ h. floor-released (status_at b t) (status_at b t).away (f t h))
@@ -211,20 +210,20 @@ module _ (p : ℕ) (high : ℕ → Bool) where
   floors-step b f t (Set u q) g =
       let a : Status = status_at b u in
       floor-set b f u (after_set a q.0) (λ h.
-      both_ways (Floor p) (eqb (length a.inside) 0) (based_on a q.0 none) (based_on a a.base (waits q.0))
+      both_ways (Floor p) (eqb (length a.inside) 0) (based_on a q.0 None) (based_on a a.base (Some q.0))
       (λ e. floor-based a q.0 (g u q refl h))
       (λ e. record { base = (f u h).base; waiting = λ v i. let y : q.0 ≡ v = cc in omega (arith, y, g u q refl h) }))
   floors-step b f t Again g = f
   floors-step b f t Finish g = floor-set b f t _ (λ h. floor-of (status_at b t) _ refl refl (f t h))
 
   module _ (r : Roster) (k : Orderly r) (s : Sorts p high r) (c : Config) (b : Reckoning) (i : Inv r c b) (f : Floors p high b) where
-    pub task-in : (t : ℕ) → c.model.running ≡ Task t → t < length r.bases
+    pub task-in : (t : ℕ) → c.model.running ≡ Some t → t < length r.bases
     task-in t e = omega (arith, t-in c.model t i.good e, i.agree.size, i.size)
 
-    floors-took : (w : Runner) → c.model.running ≡ w → Floors p high (took r b w)
+    floors-took : (w : Option ℕ) → c.model.running ≡ w → Floors p high (took r b w)
     unfolding took
-    floors-took Nobody e = f
-    floors-took (Task t) e =
+    floors-took None e = f
+    floors-took (Some t) e =
         let a : Status = status_at b t in
         let x : Step = step_due r t a in
         let low = task-in t e in

@@ -5,8 +5,9 @@ use mathlib.Core.List.{[]}
 use Prim.Native.Nat.{ℕ, zero, suc, ◌+◌, ◌≤◌, ◌<◌}
 use native.Mathlib.Omega.{arith}
 use lib.ListN.{length}
+use Rattle.std.specs.Prelude.{None, Some}
 use Rattle.rules.specs.Limits.{task_limit}
-use Rattle.rules.specs.Model.{Model, TaskRecord, none, waits, highest_of, active_of, active}
+use Rattle.rules.specs.Model.{Model, TaskRecord, highest_of, active_of, active}
 use Rattle.rules.specs.Moves.{become_ready}
 use Rattle.rules.specs.Fresh.{new_task, unstarted, join_from, fresh_model}
 use Rattle.rules.proofs.Core.{act-low}
@@ -60,7 +61,7 @@ module _ (r : Roster) (k : Orderly r) where
           waiting = λ q e.
               let w = ap (λ (x : Status). x.waiting) at in
               let n = ap (λ (x : TaskRecord). x.waiting) new in
-              let i : none ≡ waits q = sym n ∙ sym w ∙ e in
+              let i : None ≡ Some q = sym n ∙ sym w ∙ e in
               absurd (let z : ◌≡◌ {A = ℕ} 0 1 = cc in omega arith);
         }
 

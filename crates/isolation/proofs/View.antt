@@ -8,34 +8,33 @@ use Prim.Native.Nat.{ℕ, ◌-◌, ◌≤◌, ◌<◌}
 use native.Mathlib.Omega.{arith}
 use lib.ListN.{length, get_or, set, drop, length-set}
 use lib.Seq.{set_out}
+use Rattle.std.specs.Prelude.{None, Option, Some, ℕ}
 use Rattle.rules.specs.Model.{Model, TaskRecord, blank, ceiling_of, with_place, task_at, with_task, queue, active}
 use Rattle.rules.specs.Moves.{become_ready, stopped, preempt, head_of, start}
 use Rattle.rules.specs.declared.Place.TheVariants.{Running, Ready}
-use Rattle.rules.specs.declared.Runner.{Runner}
-use Rattle.rules.specs.declared.Runner.TheVariants.{Nobody, Task}
 use Rattle.rules.proofs.Choices.{split, compare, clash, cond-true, cond-false}
 use Rattle.rules.proofs.TaskLaws.{entry, at_same, at_other, row_same, row_other}
 
 -- the runner if it is high
-unfoldable pub seen : (ℕ → Bool) → Runner → Runner
-seen high Nobody = Nobody
-seen high (Task t) = cond (high t) (Task t) Nobody
+unfoldable pub seen : (ℕ → Bool) → Option ℕ → Option ℕ
+seen high None = None
+seen high (Some t) = cond (high t) (Some t) None
 
-pub seen_low : (high : ℕ → Bool) (t : ℕ) → high t ≡ false → seen high (Task t) ≡ Nobody
+pub seen_low : (high : ℕ → Bool) (t : ℕ) → high t ≡ false → seen high (Some t) ≡ None
 unfolding seen
-seen_low high t e = cond-false (high t) (Task t) Nobody e
+seen_low high t e = cond-false (high t) (Some t) None e
 
-pub seen-high : (high : ℕ → Bool) (t : ℕ) → high t ≡ true → seen high (Task t) ≡ Task t
+pub seen-high : (high : ℕ → Bool) (t : ℕ) → high t ≡ true → seen high (Some t) ≡ Some t
 unfolding seen
-seen-high high t e = cond-true (high t) (Task t) Nobody e
+seen-high high t e = cond-true (high t) (Some t) None e
 
 -- who is seen to run does run, and is high
-pub seen-is : (high : ℕ → Bool) (w : Runner) (t : ℕ) → seen high w ≡ Task t → (w ≡ Task t) × (high t ≡ true)
+pub seen-is : (high : ℕ → Bool) (w : Option ℕ) (t : ℕ) → seen high w ≡ Some t → (w ≡ Some t) × (high t ≡ true)
 unfolding seen
-seen-is high Nobody t e = absurd (let z : ◌≡◌ {A = ℕ} 0 1 = cc in omega arith)
-seen-is high (Task u) t e = go (high u) refl e
+seen-is high None t e = absurd (let z : ◌≡◌ {A = ℕ} 0 1 = cc in omega arith)
+seen-is high (Some u) t e = go (high u) refl e
   where
-    go : (b : Bool) → high u ≡ b → cond b (Task u) Nobody ≡ Task t → (Task u ≡ Task t) × (high t ≡ true)
+    go : (b : Bool) → high u ≡ b → cond b (Some u) None ≡ Some t → (Some u ≡ Some t) × (high t ≡ true)
     go true f g = let i : u ≡ t = cc in (g, sym (ap high i) ∙ f)
     go false f g = absurd (let z : ◌≡◌ {A = ℕ} 0 1 = cc in omega arith)
 
@@ -215,7 +214,7 @@ module _ (p : ℕ) (high : ℕ → Bool) where
   unfolding start
   start-both m n v i g h = record {
     now = v.now;
-    runner = ap (λ (x : ℕ). seen high (Task x)) head;
+    runner = ap (λ (x : ℕ). seen high (Some x)) head;
     tasks = subst (λ (x : ℕ). Tasks high (set m.tasks (head_of m i) (with_place (task_at m (head_of m i)) Running))
         (set n.tasks x (with_place (task_at n x) Running))) head
         (tasks-both m.tasks n.tasks (head_of m i) _ _ v.tasks (v.listed (head_of m i) h).0 (v.listed (head_of m i) h).1
@@ -261,7 +260,7 @@ module _ (p : ℕ) (high : ℕ → Bool) where
     }
 
     -- that runs
-    pub stopped-low : n.running ≡ Task t → View p high m (stopped n)
+    pub stopped-low : n.running ≡ Some t → View p high m (stopped n)
     unfolding stopped seen
     stopped-low e = record {
       now = v.now;
@@ -273,7 +272,7 @@ module _ (p : ℕ) (high : ℕ → Bool) where
       ceilings = v.ceilings;
     }
 
-    pub preempt-low : n.running ≡ Task t → 1 ≤ active n t → active n t ≤ p → View p high m (preempt n t)
+    pub preempt-low : n.running ≡ Some t → 1 ≤ active n t → active n t ≤ p → View p high m (preempt n t)
     unfolding preempt stopped seen
     preempt-low e a b = record {
       now = v.now;
@@ -286,7 +285,7 @@ module _ (p : ℕ) (high : ℕ → Bool) where
     }
 
   -- a low head of a low queue runs in the right Model, where nobody ran
-  pub start-low : (m n : Model) → View p high m n → (i : ℕ) → 1 ≤ i → i ≤ p → high (head_of n i) ≡ false → n.running ≡ Nobody →
+  pub start-low : (m n : Model) → View p high m n → (i : ℕ) → 1 ≤ i → i ≤ p → high (head_of n i) ≡ false → n.running ≡ None →
       View p high m (start n i)
   unfolding start seen
   start-low m n v i a b h e = record {

@@ -1,13 +1,12 @@
 -- The claim of what two runs write, and of two callers that fold the dispatcher's methods.
-use Rattle.std.specs.Prelude.{◌≡◌, ◌↔◌, List, ◌∷◌, ◌++◌, map, ℕ, ◌+◌, ◌*◌, length, get_or}
-use Rattle.rules.specs.declared.Answer.{Answer}
+use Rattle.std.specs.Prelude.{◌≡◌, ◌↔◌, List, ◌∷◌, ◌++◌, map, ℕ, ◌+◌, ◌*◌, length, get_or, Ok}
+use Rattle.rules.specs.Answers.{Answer}
 use Rattle.words.specs.Words.{Bytes}
 use Rattle.format.specs.Roster.{Roster, roster_of}
 use Rattle.trace.specs.Limits.{reply_size}
 use Rattle.trace.specs.Config.{Config, start_of}
 use Rattle.trace.specs.Inputs.{inputs_of}
 use Rattle.trace.specs.Run.{answer_of, buffer_of}
-use Rattle.trace.specs.declared.RunAnswer.TheVariants.{Done}
 use Rattle.dispatch.specs.State.{view}
 use Rattle.safety.specs.History.{Event, input_of, after}
 use Rattle.safety.specs.Host.{Host, host, call}
@@ -28,7 +27,7 @@ pub record WroteAlike (p : ℕ) (r s : Roster) (one two : List ℕ) (es : List E
 abbrev pub RunsWriteAlike : Type 0
 RunsWriteAlike =
     (p : ℕ) (a b ev x y : List ℕ) (es : List Event) → Bytes a → Bytes b → Agree p (roster_of a) (roster_of b) →
-    answer_of a ev (length x) ≡ Done → answer_of b ev (length y) ≡ Done → inputs_of ev ≡ map input_of es →
+    answer_of a ev (length x) ≡ Ok tt → answer_of b ev (length y) ≡ Ok tt → inputs_of ev ≡ map input_of es →
     WroteAlike p (roster_of a) (roster_of b) (buffer_of a ev x) (buffer_of b ev y) es
 
 -- what a caller of the methods holds: what its State means, and the script positions; and what its next call answers

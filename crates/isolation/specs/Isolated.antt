@@ -1,11 +1,10 @@
 -- The claim: after every list of events, what the tasks above a level share in the runs of two rosters that agree above it.
-use Rattle.std.specs.Prelude.{◌≡◌, ◌↔◌, ◌⊎◌, List, ℕ, ◌≤◌, ◌<◌}
+use Rattle.std.specs.Prelude.{◌≡◌, ◌↔◌, ◌⊎◌, List, ℕ, ◌≤◌, ◌<◌, Some}
 use Rattle.rules.specs.Limits.{first_priority}
 use Rattle.rules.specs.Lists.{times_in}
 use Rattle.rules.specs.Model.{Model, task_at, queue, active}
 use Rattle.rules.specs.declared.Place.TheVariants.{Ready}
-use Rattle.rules.specs.declared.Runner.TheVariants.{Task}
-use Rattle.rules.specs.declared.Answer.{Answer}
+use Rattle.rules.specs.Answers.{Answer}
 use Rattle.format.specs.Roster.{Roster, roster_of}
 use Rattle.trace.specs.Config.{Config, position_at, happen}
 use Rattle.safety.specs.History.{Event, clock, release, step, input_of, after}
@@ -20,7 +19,7 @@ pub record Same (p : ℕ) (r : Roster) (c d : Config) : Type 0 where
   pub task : (t : ℕ) → Above p r t → task_at c.model t ≡ task_at d.model t
   pub priority : (t : ℕ) → Above p r t → active c.model t ≡ active d.model t
   pub queues : (q : ℕ) → p < q → queue c.model q ≡ queue d.model q
-  pub runs : (t : ℕ) → Above p r t → (c.model.running ≡ Task t) ↔ (d.model.running ≡ Task t)
+  pub runs : (t : ℕ) → Above p r t → (c.model.running ≡ Some t) ↔ (d.model.running ≡ Some t)
 
 -- those queues are theirs: only tasks above p stand in a queue above p; one that is ready stands in that for its active priority, once;
 -- and none stands in a queue at p or lower
@@ -31,7 +30,7 @@ pub record Apart (p : ℕ) (r : Roster) (m : Model) : Type 0 where
 
 -- "none of them runs"
 abbrev pub NoneRuns : ℕ → Roster → Config → Type 0
-NoneRuns p r c = (t : ℕ) → Above p r t → c.model.running ≡ Task t → ⊥
+NoneRuns p r c = (t : ℕ) → Above p r t → c.model.running ≡ Some t → ⊥
 
 -- "Answers to steps taken while none of them runs, and to releases of a task that only one roster has, may differ"
 unfoldable pub Excepted : ℕ → Roster → Roster → Config → Event → Type 0

@@ -1,13 +1,14 @@
 -- Bytes that a fresh start and events move stand for the states that the methods give: a caller that holds bytes is where one that
 -- holds the state by value is.
-use mathlib.Core.Path.{◌≡◌, refl, ap, ◌∙◌}
+use mathlib.Core.Path.{◌≡◌, refl, ap, sym, ◌∙◌}
 use mathlib.Core.Bool.{Bool, true, false, cond}
-use mathlib.Core.List.{List, ◌++◌, map}
-use Prim.Native.Nat.{ℕ, ◌≤◌, ◌<◌}
+use mathlib.Core.List.{List, [], ◌∷◌, ◌++◌, map, flat_map}
+use Prim.Native.Nat.{ℕ, suc, ◌*◌, ◌≤◌, ◌<◌}
 use native.Mathlib.Omega.{arith}
 use borrow.Author.Tests.{le-ltb}
 use lib.Dec.{eqb, ltb}
-use lib.ListN.{length, get_or, drop, get_or-eq_default, get_or-map}
+use native.Mathlib.Nat.{zero-mul, suc-mul}
+use lib.ListN.{length-append, length-replicate, length, get_or, drop, get_or-eq_default, get_or-map}
 use Rattle.rules.specs.Limits.{task_limit}
 use Rattle.rules.specs.Answers.{number_of}
 use Rattle.rules.specs.Model.{Model, blank, task_at}
@@ -24,21 +25,26 @@ use Rattle.rules.proofs.SoundLaws.{sound-is}
 use Rattle.rules.proofs.Soundness.{sound-kept}
 use Rattle.rules.proofs.FreshLaws.{fresh-sound}
 use Rattle.marks.proofs.MarkLaws.{marks-fit}
-use Rattle.memory.specs.Tasks.{due_of, blank_task}
-use Rattle.dispatch.specs.State.{view, waiting_for, task_for, padded, encode}
+use Rattle.memory.specs.Memory.{blank_task, waiting_for, task_for}
+use Rattle.memory.specs.Rows.{row_for, held_width, queue_width}
+use Rattle.loading.specs.Loading.{padded, held_lists}
+use Rattle.loading.proofs.FlatLaws.{Short}
+use Rattle.dispatch.proofs.Known.{Shaped}
+use Rattle.dispatch.specs.State.{view, encode}
 use Rattle.dispatch.specs.Sound.{sound_of}
 use Rattle.dispatch.specs.Methods.{answered, unsound, applied_of, fresh_of}
 use Rattle.dispatch.specs.declared.State.{State}
 use Rattle.dispatch.specs.declared.Stepped.{Stepped}
 use Rattle.dispatch.proofs.MethodLaws.{view-sound}
-use Rattle.dispatch.proofs.ListLaws.{padded-at}
+use Rattle.loading.proofs.PaddedLaws.{padded-at, held-count}
 use Rattle.cells.specs.Sizes.{state_size}
 use Rattle.cells.specs.Decode.{state_of_bytes}
 use Rattle.cells.specs.InRange.{readable}
-use Rattle.cells.specs.Encode.{bytes_of_state, with_state, number_values, Fits}
+use Rattle.cells.specs.Encode.{due_of, bytes_of_state, with_state, number_values, Fits}
 use Rattle.layout.specs.Events.{event_number, event_bytes, fresh_bytes}
 use Rattle.cells.proofs.BackLaws.{state-back}
-use Rattle.cells.proofs.CellLaws.{shaped}
+use Rattle.dispatch.proofs.EncodeLaws.{held-short, queue-short}
+use Rattle.cells.proofs.StateLaws.{held_is, queues_are, shaped}
 use Rattle.cells.proofs.RangeLaws.{read_answer, read-long, written-readable}
 
 -- the due time of a place that is not delayed is 0
@@ -49,10 +55,31 @@ due-small (Delayed d) f = f d refl
 due-small Suspended f = omega arith
 due-small Ended f = omega arith
 
+-- lists in rows, each with room for itself: as many cells as the rows have
+row-length : (w : ℕ) (l : List ℕ) → length l < w → length (row_for w l) ≡ w
+unfolding row_for
+row-length w l h = simp (length-append, length-replicate) (omega arith)
+
+flat-length : (w : ℕ) (ls : List (List ℕ)) → Short w ls → length (flat_map (row_for w) ls) ≡ length ls * w
+unfolding flat_map
+flat-length w [] s = sym (zero-mul w)
+flat-length w (l ∷ ls) s =
+    let k = row-length w l (s 0) in
+    let rest = flat-length w ls (λ i. s (suc i)) in
+    simp length-append (omega (arith, k, rest, suc-mul (length ls) w))
+
 -- the state for a sound Model has the lengths and numbers that bytes have room for
 module _ (m : Model) (s : sound m ≡ true) where
   sizes : Numbers m
   sizes = (sound-is m s).numbers
+
+  shape : Shaped (encode m)
+  shape =
+      let held = ap length (held_is m) ∙ flat-length held_width (held_lists m) (held-short m s) ∙
+      ap (λ (n : ℕ). n * held_width) (held-count m sizes.count) in
+      let queues =
+      ap length (queues_are m) ∙ flat-length queue_width m.ready (queue-short m s) ∙ ap (λ (n : ℕ). n * queue_width) sizes.queues in
+      shaped m sizes.count sizes.objects held queues
 
   record-at : (t : ℕ) → get_or (padded task_limit (map task_for m.tasks) blank_task) t blank_task ≡ task_for (task_at m t)
   unfolding waiting_for
@@ -80,7 +107,7 @@ module _ (m : Model) (s : sound m ≡ true) where
   written_back b h =
       let after = bytes_of_state (encode m) ++ drop state_size b in
       ap state_of_bytes (cond-false (ltb (length b) state_size) b after (le-ltb (length b) state_size h)) ∙
-      state-back (encode m) (drop state_size b) (shaped m s) fits
+      state-back (encode m) (drop state_size b) shape fits
 
   few : (encode m).task_count ≤ task_limit
   unfolding encode
@@ -91,7 +118,7 @@ module _ (m : Model) (s : sound m ≡ true) where
   written_read b h =
       let after = bytes_of_state (encode m) ++ drop state_size b in
       ap readable (cond-false (ltb (length b) state_size) b after (le-ltb (length b) state_size h)) ∙
-      written-readable (encode m) (drop state_size b) (shaped m s) fits few
+      written-readable (encode m) (drop state_size b) shape fits few
 
 -- after a fresh start
 pub fresh-readable : (s : Setup) (b : List ℕ) → state_size ≤ length b → readable (fresh_bytes s b) ≡ true

@@ -1,14 +1,13 @@
 -- What a fresh start and an event make of a state in lent bytes: the number of the answer, the bytes afterwards, and an event's report.
-use Rattle.std.specs.Prelude.{cond, List, ℕ, eqb, ltb, length}
+use Rattle.std.specs.Prelude.{cond, List, ℕ, eqb, ltb, length, None, Option, Some, Err}
 use Rattle.rules.specs.Answers.{number_of, report_number}
 use Rattle.rules.specs.declared.Event.{Event}
-use Rattle.rules.specs.declared.Runner.{Runner}
-use Rattle.rules.specs.declared.Runner.TheVariants.{Nobody, Task}
 use Rattle.rules.specs.declared.Report.TheVariants.{Unchanged}
-use Rattle.rules.specs.declared.Answer.TheVariants.{Unsound}
+use Rattle.rules.specs.declared.Refusal.TheVariants.{Unsound}
+use Rattle.rules.specs.Model.{Model}
 use Rattle.dispatch.specs.Sound.{sound_of}
 use Rattle.rules.specs.Fresh.{Setup}
-use Rattle.dispatch.specs.Methods.{applied_of, fresh_of}
+use Rattle.dispatch.specs.Methods.{applied_of, fresh_of, loaded_of}
 use Rattle.dispatch.specs.declared.State.{State}
 use Rattle.cells.specs.Sizes.{nobody_code, state_size}
 use Rattle.cells.specs.Decode.{state_of_bytes}
@@ -17,11 +16,15 @@ use Rattle.cells.specs.Encode.{with_state}
 
 -- too few bytes for a state answer 10
 abbrev pub unless_short : List ℕ → ℕ → ℕ
-unless_short b n = cond (ltb (length b) state_size) (number_of Unsound) n
+unless_short b n = cond (ltb (length b) state_size) (number_of (Err Unsound)) n
 
 -- a state that is written beside the answer 0, "Any refusal returns the state unchanged."
 abbrev pub if_done : ℕ → State → List ℕ → List ℕ
 if_done n s b = cond (eqb n 0) (with_state s b) b
+
+-- the Model of bytes that are a sound state's
+unfoldable pub loaded_from : List ℕ → Option Model
+loaded_from b = cond (readable b) (loaded_of (state_of_bytes b)) None
 
 -- an event
 unfoldable pub event_number : List ℕ → Event → ℕ
@@ -43,12 +46,12 @@ fresh_bytes s b = with_state (fresh_of s).state b
 
 -- 0, or 10 for an unsound state
 unfoldable pub sound_number : List ℕ → ℕ
-sound_number b = unless_unreadable b (cond (sound_of (state_of_bytes b)) 0 (number_of Unsound))
+sound_number b = unless_unreadable b (cond (sound_of (state_of_bytes b)) 0 (number_of (Err Unsound)))
 
 -- who runs; 255 is nobody, and so is a number that is none of n tasks
-unfoldable pub listed_code : ℕ → Runner → ℕ
-listed_code n Nobody = nobody_code
-listed_code n (Task t) = cond (ltb t n) t nobody_code
+abbrev pub listed_code : ℕ → Option ℕ → ℕ
+listed_code n None = nobody_code
+listed_code n (Some t) = cond (ltb t n) t nobody_code
 
 unfoldable pub running_number : List ℕ → ℕ
 running_number b = cond (readable b) (listed_code (state_of_bytes b).task_count (state_of_bytes b).running) nobody_code

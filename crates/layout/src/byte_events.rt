@@ -1,18 +1,29 @@
 // A fresh start and the events, on a state in lent bytes.
-ghost use Rattle.std.specs.Prelude.{◌≡◌};
+ghost use Rattle.std.specs.Prelude.{◌≡◌, [], cond, None, Some};
+ghost use Rattle.rules.specs.Fresh.{unstarted};
 ghost use Rattle.layout.specs.Events.{event_number, event_bytes, event_report, fresh_number, fresh_bytes, sound_number, listed_code};
-ghost use Rattle.layout.specs.Events.{running_number};
+ghost use Rattle.layout.specs.Events.{loaded_from, running_number};
 
-use cells::decode::runner_from;
-use cells::row_ranges::readable;
 use cells::sizes::{MARKS_AT, NOBODY, RUNNING_AT, STATE_SIZE, TASK_COUNT_AT};
-use cells::slices::{load, loadable, store};
+use cells::{load, loadable, readable, runner_from, store};
 use dispatch::State;
-use memory::rulings;
-use memory::sizes::{HELD_CELLS, QUEUE_CELLS, TASK_CELLS};
-use rules::{Answer, Event, Report, Roster, Runner};
+use memory::Memory;
+use rules::{Event, Numbered, Refusal, Report};
 use state_bytes::write;
 use words::long_at;
+
+// Whether the bytes are a sound state's, and then a new memory comes to be that of it: in place, since a memory that is handed back is
+// copied.
+fn loaded(bytes: &[u8], memory: &mut Memory) -> bool
+    requires { memory.old ≡ unstarted (record { bases = []; ceilings = [] }) }
+    ensures { cond result (Some memory.new) None ≡ loaded_from bytes.now }
+{
+    if !loadable(bytes) {
+        return false;
+    }
+    load(bytes, memory);
+    soundness::sound(memory, long_at(bytes, MARKS_AT))
+}
 
 // The state goes on by an event: its bytes are written anew, unless the event is refused. The report is written each time.
 pub fn apply(bytes: &mut [u8], event: Event, report: &mut u8) -> u8
@@ -21,32 +32,18 @@ pub fn apply(bytes: &mut [u8], event: Event, report: &mut u8) -> u8
     ensures report_after { report.new ≡ event_report bytes.old event }
 {
     *report = Report::Unchanged.number();
-    if !loadable(bytes) {
-        return Answer::Unsound.number();
+    let mut memory = Memory::new();
+    if !loaded(bytes, &mut memory) {
+        return Refusal::Unsound.number();
     }
-    let mut tasks = [0u64; TASK_CELLS];
-    let mut held = [0u8; HELD_CELLS];
-    let mut ceilings = [0u8; Roster::OBJECTS];
-    let mut queues = [0u8; QUEUE_CELLS];
-    let mut head = load(bytes, &mut tasks, &mut held, &mut ceilings, &mut queues);
-    let marks = long_at(bytes, MARKS_AT);
-    if !soundness::sound(&head, &tasks, &held, &ceilings, &queues, marks) {
-        return Answer::Unsound.number();
-    }
-    let ruling = engine::apply(
-        &mut head,
-        &mut tasks,
-        &mut held,
-        &ceilings,
-        &mut queues,
-        event,
-    );
-    *report = rulings::report_number(ruling);
-    let number = rulings::number(ruling);
+    let ruling = engine::apply(&mut memory, event);
+    *report = ruling.report_number();
+    // The number is handed back as it is, so it is also what is tested: the answer would be a second match of the twelve rulings.
+    let number = ruling.number();
     if number != 0 {
         return number;
     }
-    store(bytes, &head, &tasks, &held, &ceilings, &queues);
+    store(bytes, &memory);
     0
 }
 
@@ -57,42 +54,30 @@ pub fn fresh(bases: &[u8], ceilings: &[u8], bytes: &mut [u8]) -> u8
         fresh_bytes (record { bases = bases.now; ceilings = ceilings.now }) bytes.old }
 {
     if bytes.len() < STATE_SIZE {
-        return Answer::Unsound.number();
+        return Refusal::Unsound.number();
     }
     let start = State::fresh(bases, ceilings);
-    let state = start.state;
-    write(state, bytes);
-    let answer = start.answer;
-    answer.number()
+    write(start.state, bytes);
+    start.answer.number()
 }
 
 // Whether the state is sound: 0, or 10.
 pub fn sound(bytes: &[u8]) -> u8
     ensures { result ≡ sound_number bytes.now }
 {
-    if !loadable(bytes) {
-        return Answer::Unsound.number();
+    let mut memory = Memory::new();
+    if loaded(bytes, &mut memory) {
+        0
+    } else {
+        Refusal::Unsound.number()
     }
-    let mut tasks = [0u64; TASK_CELLS];
-    let mut held = [0u8; HELD_CELLS];
-    let mut ceilings = [0u8; Roster::OBJECTS];
-    let mut queues = [0u8; QUEUE_CELLS];
-    let head = load(bytes, &mut tasks, &mut held, &mut ceilings, &mut queues);
-    let marks = long_at(bytes, MARKS_AT);
-    if soundness::sound(&head, &tasks, &held, &ceilings, &queues, marks) {
-        return 0;
-    }
-    Answer::Unsound.number()
 }
 
 // The number of a runner that is one of n tasks, or 255.
-fn listed_code(n: u8, running: Runner) -> u8
+fn listed_code(n: u8, running: Option<u8>) -> u8
     ensures { result ≡ listed_code n running }
 {
-    match running {
-        Runner::Nobody => NOBODY,
-        Runner::Task(t) => if t < n { t } else { NOBODY },
-    }
+    running.filter(|&t| t < n).unwrap_or(NOBODY)
 }
 
 // Who runs, 255 being nobody.
@@ -102,6 +87,5 @@ pub fn running(bytes: &[u8]) -> u8
     if !readable(bytes) {
         return NOBODY;
     }
-    let runner = runner_from(bytes[RUNNING_AT]);
-    listed_code(bytes[TASK_COUNT_AT], runner)
+    listed_code(bytes[TASK_COUNT_AT], runner_from(bytes[RUNNING_AT]))
 }

@@ -4,43 +4,38 @@ use mathlib.Core.Bool.{Bool, true, false, cond, not, ◌&&◌}
 use mathlib.Core.List.{List, [], ◌++◌}
 use Prim.Native.Nat.{ℕ, ◌*◌, ◌/◌, ◌%◌, ◌≤◌}
 use native.Mathlib.Omega.{arith}
-use borrow.Author.Tests.{ltb-false, le-leb, leb-true, eq-eqb, ne_eqb}
+use borrow.Author.Tests.{ltb-false, le-leb, leb-true}
 use lib.Dec.{eqb, leb, ltb}
+use Rattle.std.specs.Prelude.{Ok, Err}
 use lib.ListN.{length, take, drop, length-append}
 use lib.Seq.{take-append_seam}
 use Rattle.rules.specs.Lists.{below}
-use Rattle.format.specs.Answers as Roster
+use Rattle.format.specs.Answers.{Verdict}
 use Rattle.format.specs.Check.{check_of}
 use Rattle.rules.proofs.Choices.{and_left, and_right}
 use Rattle.format.proofs.TestLaws.{truth, by-test}
 use Rattle.trace.specs.Limits.{event_size, largest_events, reply_size}
 use Rattle.trace.specs.Inputs.{event_count, event_good, events_good}
-use Rattle.trace.specs.Answers.{number_of, task_of, position_of, ran}
-use Rattle.trace.specs.Run.{answer_of, replies_of, buffer_of}
-use Rattle.lines.specs.Lines.{refused_line, passed_lines, lines_of, room_for, lines_buffer, lines_size}
+use Rattle.trace.specs.Answers.{RunAnswer, error_number, error_task, error_position, ran}
+use Rattle.trace.specs.Run.{after_check, answer_of, replies_of, buffer_of}
+use Rattle.lines.specs.Lines.{refused_line, lines_of, room_for, lines_buffer, lines_size}
 use Rattle.lines.specs.Printed.{replies_written, printed_buffer, printed_size, replies_enough, lines_enough, printed}
-use Rattle.trace.specs.declared.RunAnswer.{RunAnswer}
-use Rattle.trace.specs.declared.RunAnswer.TheVariants.{Done, BadRoster, BadEvents}
-use Rattle.trace.proofs.RunLaws.{replies-length, answer-roster, answer-events, answer-short, answer-done}
+use Rattle.trace.specs.declared.RunError.{RunError}
+use Rattle.trace.specs.declared.RunError.TheVariants.{BadRoster, BadEvents, ShortBuffer}
+use Rattle.trace.proofs.RunLaws.{replies-length, answer-roster, answer-events, answer-done}
 
 -- a run that is done had room for its replies
 pub done-room : (roster events : List ℕ) (size : ℕ) → ran (answer_of roster events size) ≡ true → reply_size * event_count events ≤ size
-done-room roster events size h =
-    by-test (Roster.passed (check_of roster))
-    (λ e. by-test (events_good events)
-    (λ f. by-test (ltb size (reply_size * event_count events))
-    (λ g. absurd (truth (sym h ∙ ap ran (answer-short roster events size e f g))))
-    (λ g. ltb-false _ _ g))
-    (λ f. absurd (truth (sym h ∙ ap ran (answer-events roster events size e f)))))
-    (λ e. absurd (truth (sym h ∙ (ap ran (answer-roster roster events size e) ∙ e))))
-
--- how many bytes a run wrote, by its number
-module _ (a : RunAnswer) (events : List ℕ) (number : ℕ) (is : number ≡ number_of a) where
-  pub bytes-done : number ≡ 0 → reply_size * event_count events ≡ cond (ran a) (reply_size * event_count events) 0
-  bytes-done z = sym (ap (λ (b : Bool). cond b (reply_size * event_count events) 0) (eq-eqb _ _ (sym is ∙ z)))
-
-  pub bytes-none : (number ≡ 0 → ⊥) → 0 ≡ cond (ran a) (reply_size * event_count events) 0
-  bytes-none z = sym (ap (λ (b : Bool). cond b (reply_size * event_count events) 0) (ne_eqb _ _ (λ e. z (is ∙ e))))
+unfolding answer_of
+done-room roster events size h = go (check_of roster) (events_good events) (ltb size (reply_size * event_count events)) refl h
+  where
+    go : (v : Verdict) (g short : Bool) → ltb size (reply_size * event_count events) ≡ short →
+        ran (after_check v (cond (not g) (Err BadEvents) (cond short (Err ShortBuffer) (Ok tt)))) ≡ true →
+        reply_size * event_count events ≤ size
+    go (Err f) g short e r = absurd (truth (sym r))
+    go (Ok done) false short e r = absurd (truth (sym r))
+    go (Ok done) true true e r = absurd (truth (sym r))
+    go (Ok done) true false e r = ltb-false _ _ e
 
 -- what the lines are made of: n bytes of the buffer, after a run that answered a
 module _ (roster events replies after : List ℕ) (a : RunAnswer) (n : ℕ)
@@ -130,40 +125,34 @@ module _ (roster events : List ℕ) (size : ℕ) (out : List ℕ) (replies-enoug
       )
 
   -- a refusal's line is of no replies
-  refused : (a : RunAnswer) (text : List ℕ) → answer_of roster events size ≡ a → ran a ≡ false →
-      refused_line (number_of a) (task_of a) (position_of a) ≡ text →
+  refused : (r : RunError) (text : List ℕ) → answer_of roster events size ≡ Err r →
+      refused_line (error_number r) (error_task r) (error_position r) ≡ text →
       (printed_size roster events size out ≡ length text) × (printed_buffer roster events size out ≡ text ++ drop (length text) out)
   unfolding replies_written lines_of room_for
-  refused a text e f t =
-      made a [] text e (ap (λ (b : Bool). cond b (replies_of roster events) []) (ap ran e ∙ f)) (omega arith)
-      (ap (λ (b : Bool). cond b (passed_lines []) (refused_line (number_of a) (task_of a) (position_of a))) f ∙ t)
+  refused r text e t = made (Err r) [] text e (rw e) (omega arith) t
 
   -- the size and the buffer
-  pub printed-enough : (printed_size roster events size out ≡ length (printed roster events)) ×
+  abbrev pub Enough : Type 0
+  Enough = (printed_size roster events size out ≡ length (printed roster events)) ×
       (printed_buffer roster events size out ≡ printed roster events ++ drop (length (printed roster events)) out)
+
+  pub printed-enough : Enough
   unfolding printed replies_written lines_of room_for
-  printed-enough =
-      let v = check_of roster in
-      let failed = refused_line (Roster.number_of v) (Roster.task_of v) (Roster.position_of v) in
-      let done = passed_lines (replies_of roster events) in
-      let later = cond (not (events_good events)) (refused_line 21 0 0) done in
-      by-test (Roster.passed v)
-      (λ e.
-      let on : printed roster events ≡ later = ap (λ (x : Bool). cond (not x) failed later) e in
-      by-test (events_good events)
-      (λ f.
-      let count = few f in
-      let is : answer_of roster events size ≡ Done = answer-done roster events size e f (omega arith) in
-      made Done (replies_of roster events) (printed roster events) is
-      (ap (λ (a : RunAnswer). cond (ran a) (replies_of roster events) []) is)
-      (omega (arith, replies-length roster events))
-      (sym (on ∙ ap (λ (x : Bool). cond (not x) (refused_line 21 0 0) done) f)))
-      (λ f.
-      refused BadEvents (printed roster events) (answer-events roster events size e f) refl
-      (sym (on ∙ ap (λ (x : Bool). cond (not x) (refused_line 21 0 0) done) f))))
-      (λ e.
-      refused (BadRoster v) (printed roster events) (answer-roster roster events size e) e
-      (sym (ap (λ (x : Bool). cond (not x) failed later) e)))
+  printed-enough = go (check_of roster) refl
+    where
+      passes : check_of roster ≡ Ok tt → Enough
+      passes e =
+          by-test (events_good events)
+          (λ f.
+          let count = few f in
+          let is : answer_of roster events size ≡ Ok tt = answer-done roster events size e f (omega arith) in
+          made (Ok tt) (replies_of roster events) (printed roster events) is (rw is)
+          (omega (arith, replies-length roster events)) (sym (rw (e, f))))
+          (λ f. refused BadEvents (printed roster events) (answer-events roster events size e f) (sym (rw (e, f))))
+
+      go : (v : Verdict) → check_of roster ≡ v → Enough
+      go (Ok done) e = passes e
+      go (Err f) e = refused (BadRoster f) (printed roster events) (answer-roster roster events size f e) (sym (rw e))
 
 -- what stands in front of the buffer, as many bytes as the answer says, is what is printed
 pub printed-text : (roster events : List ℕ) (size : ℕ) (out : List ℕ) {r : ℕ} {out' : List ℕ} → r ≡ printed_size roster events size out →

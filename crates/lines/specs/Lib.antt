@@ -1,3 +1,4 @@
 pub mod Lines
 pub mod Printed
 pub mod Cases
+pub mod Page

@@ -1,10 +1,8 @@
 -- The lines that the program prints, as bytes.
-use Rattle.std.specs.Prelude.{◌≡◌, Bool, cond, ◌&&◌, List, [], ◌∷◌, ◌++◌, ℕ, zero, suc, ◌+◌, ◌*◌, ◌/◌, ◌%◌, ◌≤◌, eqb, leb, ltb, length}
+use Rattle.std.specs.Prelude.{Bool, cond, ◌&&◌, List, [], ◌∷◌, ◌++◌, ℕ, zero, suc, ◌+◌, ◌*◌, ◌/◌, ◌%◌, eqb, leb, ltb, length}
 use Rattle.std.specs.Prelude.{drop}
-use Rattle.std.proofs.lemmas.List.Edits.{sets}
 use Rattle.trace.specs.Limits.{reply_size, nobody_byte}
-use Rattle.trace.specs.Answers.{number_of, task_of, position_of, ran}
-use Rattle.trace.specs.declared.RunAnswer.{RunAnswer}
+use Rattle.trace.specs.Answers.{RunAnswer, number_of, task_of, position_of, ran}
 
 -- the characters, in ASCII: "every line ended by one newline", a space, "-", the digit 0
 abbrev pub newline : ℕ
@@ -91,9 +89,3 @@ lines_buffer a replies out =
 
 unfoldable pub lines_size : RunAnswer → List ℕ → List ℕ → ℕ
 lines_size a replies out = cond (leb (room_for replies) (length out)) (length (lines_of a replies)) 0
-
--- a text put into a buffer from `at` on: the bytes afterwards, and where the text ends
-pub record Copied (before : List ℕ) (at : ℕ) (text : List ℕ) (after : List ℕ) (next : ℕ) : Type 0 where
-  pub bytes : after ≡ sets before at text
-  pub end : next ≡ at + length text
-  pub fits : next ≤ length before

@@ -1,19 +1,15 @@
 // The lines that the program prints, made in a lent buffer.
-ghost use Rattle.std.specs.Prelude.{◌≡◌, [], ◌∷◌, ◌+◌, ◌*◌, ◌/◌, ◌≤◌, leb, length};
+ghost use Rattle.std.specs.Prelude.{◌≡◌, ◌+◌, ◌*◌, ◌/◌, ◌≤◌, leb, length};
 ghost use Rattle.trace.specs.Limits.{reply_size};
-ghost use Rattle.lines.specs.Lines.{decimal, running_text, reply_line, reply_lines, place_text, refused_line};
-ghost use Rattle.lines.specs.Lines.{passed_lines, lines_buffer, lines_size, reply_room, other_room, room_for, Copied};
+ghost use Rattle.trace.specs.Answers.{error_number, error_task, error_position};
+ghost use Rattle.lines.specs.Lines.{decimal, running_text, reply_line, reply_lines, has_place, place_text, refused_line};
+ghost use Rattle.lines.specs.Lines.{passed_lines, lines_of, lines_buffer, lines_size, reply_room, other_room, room_for};
+ghost use Rattle.lines.specs.Page.{HasRoom, Added};
 
-use trace::RunAnswer;
+use format::Placed;
+use rules::Numbered;
 use trace::sizes::{NOBODY, REPLY_SIZE};
-
-const NEWLINE: u8 = 10;
-
-const SPACE: u8 = 32;
-
-const DASH: u8 = 45;
-
-const FIRST_DIGIT: u8 = 48;
+use trace::{RunAnswer, RunError};
 
 // The numbers whose place is printed.
 const FIRST_PLACED: u8 = 16;
@@ -25,124 +21,131 @@ pub const REPLY_ROOM: usize = 12;
 
 pub const OTHER_ROOM: usize = 40;
 
-fn put(out: &mut [u8], at: usize, text: &[u8]) -> usize
-    requires { at + length text.now ≤ length out.old }
-    ensures { Copied out.old at text.now out.new result }
+// Whether a fault of this number has a place.
+fn has_place(number: u8) -> bool
+    ensures { result ≡ has_place number }
 {
-    words::put(out, at, text);
-    at + text.len()
+    (FIRST_PLACED..=LAST_PLACED).contains(&number)
 }
 
-fn put_byte(out: &mut [u8], at: usize, byte: u8) -> usize
-    requires { at + 1 ≤ length out.old }
-    ensures { Copied out.old at (byte ∷ []) out.new result }
-{
-    out[at] = byte;
-    at + 1
+// A lent buffer whose first `size` bytes are written.
+#[derive(Drop)]
+struct Page<'a> {
+    out: &'a mut [u8],
+    size: usize,
 }
 
-fn put_number(out: &mut [u8], at: usize, n: usize) -> usize
-    requires { at + length (decimal n) ≤ length out.old }
-    ensures { Copied out.old at (decimal n) out.new result }
-{
-    if n < 10 {
-        return put_byte(out, at, FIRST_DIGIT + n as u8);
+impl Page<'_> {
+    fn put(&mut self, text: &[u8])
+        requires { HasRoom self.old (length text.now) }
+        ensures { Added self.old text.now self.new }
+    {
+        words::put(self.out, self.size, text);
+        self.size += text.len();
     }
-    let next = put_number(out, at, n / 10);
-    put_byte(out, next, FIRST_DIGIT + (n % 10) as u8)
-}
 
-fn put_running(out: &mut [u8], at: usize, r: u8) -> usize
-    requires { at + length (running_text r) ≤ length out.old }
-    ensures { Copied out.old at (running_text r) out.new result }
-{
-    if r == NOBODY {
-        return put_byte(out, at, DASH);
+    // In decimal, by hand: std's contracts let `write!` fail and an `InlineText` be cut, so neither proves what is promised here.
+    #[tactic(auto, using(crate::proofs::LineLaws::decimal_one, crate::proofs::LineLaws::decimal_room))]
+    fn put_number(&mut self, n: usize)
+        requires { HasRoom self.old (length (decimal n)) }
+        ensures { Added self.old (decimal n) self.new }
+    {
+        if n < 10 {
+            self.put(&[b'0' + n as u8]);
+        } else {
+            self.put_number(n / 10);
+            self.put(&[b'0' + (n % 10) as u8]);
+        }
     }
-    put_number(out, at, r as usize)
-}
 
-// The line of an event: its answer a, the running task r and its report w.
-fn put_reply(out: &mut [u8], at: usize, a: u8, r: u8, w: u8) -> usize
-    requires { at + length (reply_line a r w) ≤ length out.old }
-    ensures { Copied out.old at (reply_line a r w) out.new result }
-{
-    let gap = put_number(out, at, a as usize);
-    let second = put_byte(out, gap, SPACE);
-    let next = put_running(out, second, r);
-    let third = put_byte(out, next, SPACE);
-    let end = put_number(out, third, w as usize);
-    put_byte(out, end, NEWLINE)
-}
-
-fn put_replies(out: &mut [u8], at: usize, replies: &[u8]) -> usize
-    requires { at + reply_room * (length replies.now / reply_size) ≤ length out.old }
-    ensures copied { Copied out.old at (reply_lines replies.now) out.new result }
-    ensures upper_bound { result ≤ at + reply_room * (length replies.now / reply_size) }
-{
-    let n = replies.len() / REPLY_SIZE;
-    let mut next = at;
-    let mut i: usize = 0;
-    while i < n {
-        let first = REPLY_SIZE * i;
-        next = put_reply(
-            out,
-            next,
-            replies[first],
-            replies[first + 1],
-            replies[first + 2],
-        );
-        i += 1;
+    #[tactic(auto, using(crate::proofs::LineLaws::running_length))]
+    fn put_running(&mut self, running: u8)
+        requires { HasRoom self.old (length (running_text running)) }
+        ensures { Added self.old (running_text running) self.new }
+    {
+        if running == NOBODY {
+            self.put(b"-");
+        } else {
+            self.put_number(running as usize);
+        }
     }
-    next
-}
 
-fn put_place(out: &mut [u8], at: usize, number: u8, task: u8, position: usize) -> usize
-    requires { at + length (place_text number task position) ≤ length out.old }
-    ensures { Copied out.old at (place_text number task position) out.new result }
-{
-    if number < FIRST_PLACED {
-        return at;
+    // The line of an event.
+    #[tactic(auto, using(crate::proofs::LineLaws::reply_length))]
+    fn put_reply(&mut self, answer: u8, running: u8, report: u8)
+        requires { HasRoom self.old (length (reply_line answer running report)) }
+        ensures { Added self.old (reply_line answer running report) self.new }
+    {
+        self.put_number(answer as usize);
+        self.put(b" ");
+        self.put_running(running);
+        self.put(b" ");
+        self.put_number(report as usize);
+        self.put(b"\n");
     }
-    if LAST_PLACED < number {
-        return at;
+
+    fn put_replies(&mut self, replies: &[u8])
+        requires { HasRoom self.old (reply_room * (length replies.now / reply_size)) }
+        ensures added { Added self.old (reply_lines replies.now) self.new }
+        ensures upper_bound { self.new.size ≤ self.old.size + reply_room * (length replies.now / reply_size) }
+    {
+        for &[answer, running, report] in replies.as_chunks::<REPLY_SIZE>().0 {
+            self.put_reply(answer, running, report);
+        }
     }
-    let first = put_byte(out, at, SPACE);
-    let gap = put_number(out, first, task as usize);
-    let second = put_byte(out, gap, SPACE);
-    put_number(out, second, position)
-}
 
-fn put_refused(out: &mut [u8], number: u8, task: u8, position: usize) -> usize
-    requires { other_room ≤ length out.old }
-    ensures { Copied out.old 0 (refused_line number task position) out.new result }
-{
-    let gap = put(out, 0, b"refused");
-    let first = put_byte(out, gap, SPACE);
-    let place = put_number(out, first, number as usize);
-    let end = put_place(out, place, number, task, position);
-    put_byte(out, end, NEWLINE)
-}
+    // The place of a fault whose number has one.
+    #[tactic(auto, using(crate::proofs::LineLaws::place_length))]
+    fn put_place(&mut self, e: RunError)
+        requires { HasRoom self.old (length (place_text (error_number e) (error_task e) (error_position e))) }
+        ensures { Added self.old (place_text (error_number e) (error_task e) (error_position e)) self.new }
+    {
+        if has_place(e.number()) {
+            self.put(b" ");
+            self.put_number(e.task() as usize);
+            self.put(b" ");
+            self.put_number(e.position());
+        }
+    }
 
-fn put_passed(out: &mut [u8], replies: &[u8]) -> usize
-    requires { room_for replies.now ≤ length out.old }
-    ensures { Copied out.old 0 (passed_lines replies.now) out.new result }
-{
-    let first = put(out, 0, b"passed");
-    let second = put_byte(out, first, NEWLINE);
-    let last = put_replies(out, second, replies);
-    let end = put(out, last, b"end");
-    put_byte(out, end, NEWLINE)
+    #[tactic(auto, using(crate::proofs::LineLaws::byte_short, crate::proofs::LineLaws::place_short))]
+    fn put_refused(&mut self, e: RunError)
+        requires { HasRoom self.old other_room }
+        ensures { Added self.old (refused_line (error_number e) (error_task e) (error_position e)) self.new }
+    {
+        self.put(b"refused ");
+        self.put_number(e.number() as usize);
+        self.put_place(e);
+        self.put(b"\n");
+    }
+
+    #[tactic(auto, unfolding(crate::specs::Lines::room_for))]
+    fn put_passed(&mut self, replies: &[u8])
+        requires { HasRoom self.old (room_for replies.now) }
+        ensures { Added self.old (passed_lines replies.now) self.new }
+    {
+        self.put(b"passed\n");
+        self.put_replies(replies);
+        self.put(b"end\n");
+    }
+
+    #[tactic(auto, unfolding(crate::specs::Lines::room_for, crate::specs::Lines::lines_of))]
+    fn put_lines(&mut self, answer: RunAnswer, replies: &[u8])
+        requires { HasRoom self.old (room_for replies.now) }
+        ensures { Added self.old (lines_of answer replies.now) self.new }
+    {
+        match answer {
+            Ok(()) => self.put_passed(replies),
+            Err(e) => self.put_refused(e),
+        }
+    }
 }
 
 // Written without a product, which could wrap.
 fn has_room(replies: &[u8], room: usize) -> bool
     ensures { result ≡ leb (room_for replies.now) room }
 {
-    if room < OTHER_ROOM {
-        return false;
-    }
-    replies.len() / REPLY_SIZE <= (room - OTHER_ROOM) / REPLY_ROOM
+    OTHER_ROOM <= room && replies.len() / REPLY_SIZE <= (room - OTHER_ROOM) / REPLY_ROOM
 }
 
 // The lines of a run that answered so and wrote these replies, at the start of the buffer: how many bytes they are, or 0 where the
@@ -151,13 +154,10 @@ pub fn lines(answer: RunAnswer, replies: &[u8], out: &mut [u8]) -> usize
     ensures value { result ≡ lines_size answer replies.now out.old }
     ensures out_after { out.new ≡ lines_buffer answer replies.now out.old }
 {
-    let room = out.len();
-    if !has_room(replies, room) {
+    if !has_room(replies, out.len()) {
         return 0;
     }
-    let number = answer.number();
-    if number == 0 {
-        return put_passed(out, replies);
-    }
-    put_refused(out, number, answer.task(), answer.position())
+    let mut page = Page { out, size: 0 };
+    page.put_lines(answer, replies);
+    page.size
 }

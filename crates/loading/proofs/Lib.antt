@@ -1,3 +1,5 @@
+pub mod RowLaws
+pub mod PaddedLaws
 pub mod FlatLaws
 pub mod LoadLaws
-pub mod TestLaws
+pub mod StoreLaws

@@ -1,97 +1,93 @@
--- Laws of the loops that load lists into the engine's rows.
-use mathlib.Core.Path.{◌≡◌, ap, ◌∙◌, sym}
-use mathlib.Core.Bool.{true}
-use mathlib.Core.List.{List, [], ◌∷◌, ◌++◌, append_assoc, append-nil, flat_map}
-use Prim.Native.Nat.{ℕ, suc, ◌+◌, ◌-◌, ◌*◌, ◌≤◌, ◌<◌}
-use native.Mathlib.Nat.{zero-mul, suc-mul, not-suc-le-zero}
-use native.Mathlib.Numerals.{add-one}
-use native.Mathlib.Omega.{arith}
-use borrow.Author.Tests.{ltb-true}
-use lib.Dec.{ltb}
-use lib.ListN.{length, take, get_or, replicate, length-take, length-drop}
-use lib.Seq.{take_at, drop_at, length-take-le}
-use Rattle.rules.proofs.SoundLaws.{below_at}
-use Rattle.memory.specs.Rows.{rows, in_row, row_for, lists}
-use Rattle.memory.proofs.GridLaws.{part, with_part, row_fits, row_at, list_count, cell_at}
-use Rattle.loading.specs.Loading.{lengths_good}
-use Rattle.words.proofs.ListLaws.{drop-replicate, take-replicate}
-use Rattle.words.proofs.CopyLaws.{over}
-use Rattle.loading.proofs.FlatLaws.{short-take, lists-next, flat_append}
-use Rattle.loading.proofs.FlatLaws.{flat-length, lists-front, lengths_short}
+-- Laws of the loops that load a state: one task, one ceiling, one queue more.
+use Rattle.std.proofs.Common.{◌≡◌, refl, ap, ◌∙◌, sym, subst, List, [], ◌∷◌, ◌++◌, ℕ, suc, ◌+◌, ◌-◌, ◌≤◌, ◌<◌}
+use Rattle.std.proofs.Common.{length, take, drop, get_or, set, true, ◌&&◌, zero, arith, add-one, sub-one, length-append, Option}
+use Rattle.std.proofs.Math.Seq.{get_or_at}
+use Rattle.std.proofs.lemmas.List.{get_or_append_left}
+use Rattle.rules.specs.Limits.{task_limit, object_limit, last_priority, counts_good}
+use Rattle.rules.proofs.Choices.{split, and_left, and_right}
+use Rattle.rules.proofs.LimitLaws.{counted-by}
+use Rattle.memory.specs.Rows.{held_width, queue_width}
+use Rattle.loading.specs.Loading.{lengths_good, parts_fit, Each}
+use Rattle.rules.specs.Model.{TaskRecord, Model, with_now, with_running, with_tasks, with_ceilings, with_ready, with_queue}
 
--- a row over zeros
-pub row_loaded : (r : List ℕ) (i : ℕ) → get_or r 0 0 < length r → i ≡ get_or r 0 0 + 1 →
-    over (replicate (length r) 0) r i ≡ row_for (length r) (in_row r)
-unfolding row_for in_row
-row_loaded [] i h e = absurd (not-suc-le-zero h)
-row_loaded (n ∷ cells) i h e =
-    let k : length (take n cells) ≡ n = length-take-le n cells (omega arith) in
-    let rest : suc (length cells) - suc n ≡ length cells - n = omega arith in
-    let zero : ℕ = 0 in
-    rw (e, add-one, drop-replicate n (length cells) zero, k, rest)
+-- what fits: the counts and the lengths
+pub record Fitting (n o : ℕ) (hd qs : List ℕ) : Type 0 where
+  pub count : n ≤ task_limit
+  pub objects : o ≤ object_limit
+  pub held : lengths_good held_width n hd ≡ true
+  pub queues : lengths_good queue_width last_priority qs ≡ true
 
--- the first rows, with zeros behind them as far as size cells go
-abbrev pub lists_over : ℕ → List ℕ → ℕ → ℕ → List ℕ
-lists_over w from i size = flat_map (row_for w) (lists w i from) ++ replicate (size - i * w) 0
+pub told_fits : (n o : ℕ) (held queues : List ℕ) → parts_fit n o held queues ≡ true → Fitting n o held queues
+told_fits n o held queues e =
+    let both = and_left (counts_good n o && lengths_good held_width n held) _ e in
+    let counted = counted-by n o (and_left (counts_good n o) _ both) in
+    record {
+      count = counted.tasks;
+      objects = counted.objects;
+      held = and_right (counts_good n o) _ both;
+      queues = and_right (counts_good n o && lengths_good held_width n held) _ e;
+    }
 
-pub lists-none : (w : ℕ) (from : List ℕ) (size : ℕ) → replicate size 0 ≡ lists_over w from 0 size
-unfolding lists rows flat_map
-lists-none w from size = let e : size - 0 * w ≡ size = omega (arith, zero-mul w) in rw e
+-- the element at i of a list that agrees with another before i
+set-seam : (i : ℕ) (l r : List (List ℕ)) → i < length l → length l ≡ length r →
+    set (take i l ++ drop i r) (suc i - 1) (get_or l i []) ≡ take (suc i) l ++ drop (suc i) r
+set-seam i [] r h e = absurd (omega arith)
+set-seam i (x ∷ l) [] h e = absurd (omega arith)
+set-seam zero (x ∷ l) (y ∷ r) h e = refl
+set-seam (suc i) (x ∷ l) (y ∷ r) h e =
+    rw sub-one (ap (λ (v : List (List ℕ)). x ∷ v) (rw sub-one at (set-seam i l r (omega arith) (omega arith))))
 
-module _ (w n : ℕ) (from : List ℕ) (fits : n * w ≤ length from) (good : lengths_good w n from ≡ true) (i : ℕ) (h : i < n) where
-  first-room : get_or from (i * w) 0 < w
-  first-room = ltb-true (get_or from (i * w) 0) w (below_at n (λ j. ltb (get_or from (j * w) 0) w) good i h)
+-- one element more
+module _ {A : Type 0} (P : ℕ → A → Type 0) (d : A) where
+  pub each-none : (l : List A) → l ≡ [] → Each P d 0 l
+  each-none l e = record { count = ap length e; each = λ i h. absurd (omega arith) }
 
-  from-length : length (part w i from) ≡ w
-  from-length =
-      let most : i * w + w ≤ length from = omega (arith, row_fits i n w h) in
-      simp (length-take, length-drop) (omega arith)
+  pub each-more : (n : ℕ) (l : List A) (x : A) → Each P d n l → P n x → Each P d (n + 1) (l ++ (x ∷ []))
+  each-more n l x e p =
+      record {
+        count = simp length-append (omega (arith, e.count));
+        each = λ i h.
+            split i n
+            (λ q. subst (λ (y : A). P i y) (sym (get_or_at l x [] d i (omega (arith, e.count, q)))) (subst (λ (j : ℕ). P j x) (sym q) p))
+            (λ q.
+            let same = get_or_append_left l (x ∷ []) d i (omega (arith, e.count, q)) in
+            subst (λ (y : A). P i y) (sym same) (e.each i (omega (arith, q))));
+      }
 
-  from_is : part w i from ≡ get_or (rows w n from) i []
-  from_is =
-      let e : i * w + w - i * w ≡ w = omega arith in
-      rw e (sym (row_at w n i from h))
+-- .. in a memory of which nothing else changes
+module _ (m m1 m2 : Model) where
+  pub tasks-rest : (ks : List TaskRecord) → m1 ≡ with_tasks m m1.tasks → m2 ≡ with_tasks m1 ks → m2 ≡ with_tasks m m2.tasks
+  tasks-rest ks e f =
+      f ∙ (ap (λ (n : Model). with_tasks n ks) e ∙ ap (with_tasks m) (sym (ap (λ (n : Model). n.tasks) f)))
 
-  pub from-room : get_or (part w i from) 0 0 < length (part w i from)
-  from-room =
-      let z : i * w + 0 ≡ i * w = omega arith in
-      let first = rw z at (cell_at w n i 0 from h (omega (arith, first-room))) in
-      rw (from-length, from_is) (omega (arith, first, first-room))
+  pub ceilings-rest : (cs : List ℕ) → m1 ≡ with_ceilings m m1.ceilings → m2 ≡ with_ceilings m1 cs → m2 ≡ with_ceilings m m2.ceilings
+  ceilings-rest cs e f =
+      f ∙ (ap (λ (n : Model). with_ceilings n cs) e ∙ ap (with_ceilings m) (sym (ap (λ (n : Model). n.ceilings) f)))
 
-  front : List ℕ
-  front = flat_map (row_for w) (lists w i from)
+-- a memory once its numbers, its tasks, its ceilings and its queues have been set, one after the other
+module _ (m0 m1 m2 m3 m4 m5 : Model) (now : ℕ) (runner : Option ℕ) (qs : List (List ℕ)) (a : m1 ≡ with_now m0 now)
+    (b : m2 ≡ with_running m1 runner) (c : m3 ≡ with_tasks m2 m3.tasks) (d : m4 ≡ with_ceilings m3 m4.ceilings)
+    (e : m5 ≡ with_ready m4 qs) where
+  pub loaded-tasks : m5.tasks ≡ m3.tasks
+  loaded-tasks = ap (λ (m : Model). m.tasks) e ∙ ap (λ (m : Model). m.tasks) d
 
-  front_length : length front ≡ i * w
-  unfolding front
-  front_length =
-      let wide : 0 < w = omega (arith, first-room) in
-      let short = short-take w i (lists w n from) wide (lengths_short w n from wide good) in
-      flat-length w (lists w i from) (rw (lists-front w i n from (omega arith)) short) ∙ rw (list_count w i from)
+  pub loaded-ceilings : m5.ceilings ≡ m4.ceilings
+  loaded-ceilings = ap (λ (m : Model). m.ceilings) e
 
-  module _ (to : List ℕ) (size : ℕ) (most : n * w ≤ size) (e : to ≡ lists_over w from i size) where
-    zeros : List ℕ
-    zeros = replicate (size - i * w) 0
+  pub loaded-numbers : m5 ≡ record { now = now; running = runner; tasks = m5.tasks; ceilings = m5.ceilings; ready = qs }
+  loaded-numbers =
+      let clock = λ (m : Model). m.now in
+      let who = λ (m : Model). m.running in
+      let f : m5.now ≡ now = ap clock e ∙ (ap clock d ∙ (ap clock c ∙ (ap clock b ∙ ap clock a))) in
+      let g : m5.running ≡ runner = ap who e ∙ (ap who d ∙ (ap who c ∙ ap who b)) in
+      let h : m5.ready ≡ qs = ap (λ (m : Model). m.ready) e in
+      ap (λ (x : ℕ). record { now = x; running = m5.running; tasks = m5.tasks; ceilings = m5.ceilings; ready = m5.ready }) f ∙
+      (ap (λ (x : Option ℕ). record { now = now; running = x; tasks = m5.tasks; ceilings = m5.ceilings; ready = m5.ready }) g ∙
+      ap (λ (x : List (List ℕ)). record { now = now; running = runner; tasks = m5.tasks; ceilings = m5.ceilings; ready = x }) h)
 
-    pub to-zeros : part w i to ≡ replicate (length (part w i from)) 0
-    unfolding front zeros
-    to-zeros =
-        let k : i * w + w - i * w ≡ w = omega arith in
-        let enough : w ≤ size - i * w = omega (arith, row_fits i n w h) in
-        let zero : ℕ = 0 in
-        rw (from-length, e, drop_at front zeros (i * w) front_length, k) (take-replicate w (size - i * w) zero enough)
-
-    pub lists-more : (r : List ℕ) → r ≡ row_for (length (part w i from)) (in_row (part w i from)) →
-        with_part w i to r ≡ lists_over w from (i + 1) size
-    unfolding front zeros flat_map
-    lists-more r f =
-        let k : i * w + w - i * w ≡ w = omega arith in
-        let less : size - i * w - w ≡ size - (i * w + w) = omega arith in
-        let zero : ℕ = 0 in
-        let row = row_for w (in_row (get_or (rows w n from) i [])) in
-        let is : r ≡ row = f ∙ rw (from-length, from_is) in
-        let rows_next : flat_map (row_for w) (lists w (suc i) from) ≡ front ++ row =
-        ap (flat_map (row_for w)) (lists-next w n i from h) ∙
-        (flat_append (row_for w) (lists w i from) _ ∙ ap (λ (v : List ℕ). front ++ v) (append-nil row)) in
-        rw (e, take_at front zeros (i * w) front_length, drop_at front zeros (i * w) front_length, k)
-        (rw (is, drop-replicate w (size - i * w) zero, add-one, suc-mul i w, rows_next, less)
-        (sym (append_assoc front row (replicate (size - (i * w + w)) 0))))
+module _ (m m1 m2 : Model) (i : ℕ) where
+  -- the queue at i among the first, the others as they were
+  pub queues-more : (qs : List (List ℕ)) (q : List ℕ) → i < length qs → length qs ≡ length m.ready →
+      m1 ≡ with_ready m (take i qs ++ drop i m.ready) → q ≡ get_or qs i [] →
+      m2 ≡ with_queue m1 (i + 1) q → m2 ≡ with_ready m (take (i + 1) qs ++ drop (i + 1) m.ready)
+  queues-more qs q h k e f g = g ∙ rw (e, f, add-one) (ap (with_ready m) (set-seam i qs m.ready h k))

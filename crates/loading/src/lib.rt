@@ -1,25 +1,27 @@
-// Internal: pub only for our own crates. A state in rows of its own, tested for its sizes and loaded into the engine's slices: the
-// lists and the head. Who loads adds the task records and the ceilings, which are by value in one place and bytes in another.
+// Internal: pub only for our own crates. A state in rows of its own, tested for its sizes, loaded into a memory, and its rows stored
+// again. Who loads says how the task records and the ceilings are read, which are values in one place and bytes in another.
 #![tactic(auto)]
 
-ghost use Rattle.std.specs.Prelude.{◌≡◌, true, ◌*◌, ◌-◌, ◌≤◌, ◌<◌, length, get_or, replicate};
-ghost use mathlib.Core.List.{◌++◌, flat_map};
-ghost use Rattle.rules.specs.Limits.{task_limit, last_priority};
-ghost use Rattle.memory.specs.Rows.{in_row, row_for, lists, held_width, queue_width, Queues};
-ghost use Rattle.loading.specs.Loading.{lengths_good, parts_fit, code_of, head_for};
+ghost use Rattle.std.specs.Prelude.{◌≡◌, ℕ, true, [], ◌+◌, ◌*◌, ◌≤◌, ◌<◌, List, length, get_or, map};
+ghost use mathlib.Core.List.{flat_map};
+ghost use Rattle.rules.specs.Limits.{task_limit, object_limit, last_priority};
+ghost use Rattle.rules.specs.Model.{Model, TaskRecord, blank, with_tasks, with_ceilings, with_ready};
+ghost use Rattle.rules.specs.Fresh.{unstarted};
+ghost use Rattle.memory.specs.Rows.{row_for, held_width, queue_width, held_in, queues_in};
+ghost use Rattle.memory.specs.Memory.{record_of};
+ghost use Rattle.loading.specs.Loading.{lengths_good, parts_fit, held_lists, with_numbers, Each, TaskFrom, CeilingFrom};
 
-use memory::sizes::{HEAD_WIDTH, HELD_WIDTH, PRIORITIES, QUEUE_WIDTH};
-use rules::{Roster, Runner};
+use memory::sizes::{HELD_WIDTH, PRIORITIES, QUEUE_WIDTH};
+use memory::{Memory, Row};
+use rules::{Priority, Roster, Task};
 
 // The lengths in the first n rows leave room for themselves.
 fn lengths_good(cells: &[u8], width: usize, n: usize) -> bool
-    requires width_nonzero { 0 < width }
-    requires width_in_bounds { n * width ≤ length cells.now }
+    requires some { 0 < width }
+    requires rows { n * width ≤ length cells.now }
     ensures { result ≡ lengths_good width n cells.now }
 {
-    let mut i: usize = n;
-    while 0 < i {
-        i -= 1;
+    for i in 0..n {
         if width <= cells[i * width] as usize {
             return false;
         }
@@ -33,80 +35,103 @@ pub fn sizes_fit(tasks: u8, objects: u8, held: &[u8], queues: &[u8]) -> bool
     requires queue_width_in_bounds { last_priority * queue_width ≤ length queues.now }
     ensures { result ≡ parts_fit tasks objects held.now queues.now }
 {
-    let n = tasks as usize;
-    if !Roster::counts_good(n, objects as usize) {
-        return false;
-    }
-    if lengths_good(held, HELD_WIDTH, n) {
-        return lengths_good(queues, QUEUE_WIDTH, PRIORITIES);
-    }
-    false
+    Roster::counts_good(tasks as usize, objects as usize)
+        && lengths_good(held, HELD_WIDTH, tasks as usize)
+        && lengths_good(queues, QUEUE_WIDTH, PRIORITIES)
 }
 
-// A row's length and elements go over the front of a row of zeros.
-fn load_row(from: &[u8], to: &mut [u8])
-    requires from_in_bounds { get_or from.now 0 0 < length from.now }
-    requires to_value { to.old ≡ replicate (length from.now) 0 }
-    ensures { to.new ≡ row_for (length from.now) (in_row from.now) }
+// The first n tasks, each by its record and the row of what it holds.
+fn load_tasks<T: Fn(usize) -> Task>(memory: &mut Memory, n: usize, task: T, held: &[u8])
+    requires none { memory.old.tasks ≡ [] }
+    requires room { n ≤ task_limit }
+    requires lengths { lengths_good held_width n held.now ≡ true }
+    requires rows { length held.now ≡ task_limit * held_width }
+    requires callable { (t : ℕ) → t < n → T.pre task t }
+    ensures rest { memory.new ≡ with_tasks memory.old memory.new.tasks }
+    ensures each { Each (TaskFrom (T.post task) held.now) blank n memory.new.tasks }
 {
-    let size = from[0] as usize;
-    let mut i: usize = 0;
-    while i <= size {
-        to[i] = from[i];
-        i += 1;
+    for t in 0..n {
+        let b = t * HELD_WIDTH;
+        memory.add_task(task(t), Row::read(&held[b..b + HELD_WIDTH]));
     }
 }
 
-// The lists in the first n rows go over the front of zeros.
-pub fn load_lists(from: &[u8], to: &mut [u8], width: usize, n: usize)
-    requires width_in_bounds { n * width ≤ length from.now }
-    requires from_value { lengths_good width n from.now ≡ true }
-    requires width_in_bounds_2 { n * width ≤ length to.old }
-    requires to_value { to.old ≡ replicate (length to.old) 0 }
-    ensures { to.new ≡
-        flat_map (row_for width) (lists width n from.now) ++ replicate (length to.old - n * width) 0 }
+fn load_ceilings<C: Fn(usize) -> Priority>(memory: &mut Memory, n: usize, ceiling: C)
+    requires none { memory.old.ceilings ≡ [] }
+    requires room { n ≤ object_limit }
+    requires callable { (o : ℕ) → o < n → C.pre ceiling o }
+    ensures rest { memory.new ≡ with_ceilings memory.old memory.new.ceilings }
+    ensures each { Each (CeilingFrom (C.post ceiling)) 0 n memory.new.ceilings }
 {
-    let mut i: usize = 0;
-    while i < n {
-        let b = i * width;
-        load_row(&from[b..b + width], &mut to[b..b + width]);
-        i += 1;
+    for o in 0..n {
+        memory.add_object(ceiling(o));
     }
 }
 
-// Who runs, as the engine's head has it.
-fn running_code(running: Runner) -> u64
-    ensures { result ≡ code_of running }
+fn load_queues(memory: &mut Memory, queues: &[u8])
+    requires levels { length memory.old.ready ≡ last_priority }
+    requires lengths { lengths_good queue_width last_priority queues.now ≡ true }
+    requires rows { length queues.now ≡ last_priority * queue_width }
+    ensures { memory.new ≡ with_ready memory.old (queues_in queues.now) }
 {
-    match running {
-        Runner::Nobody => 0,
-        Runner::Task(t) => t as u64 + 1,
+    for i in 0..PRIORITIES {
+        let b = i * QUEUE_WIDTH;
+        memory.set_queue(
+            Priority(i as u8 + 1),
+            Row::read(&queues[b..b + QUEUE_WIDTH]),
+        );
     }
 }
 
-// The head. Its marks are reckoned from the queues: whether the state holds the same is tested afterwards. The bound before which nobody
-// is due begins with 0, and the word of who is delayed with the bits of all tasks: no place is looked at.
-pub fn head(
-    reading: u64,
-    running: Runner,
-    tasks: u8,
-    objects: u8,
+// A new memory comes to be that of a state whose sizes fit: in place, since a memory that is handed back is copied.
+pub fn load<T: Fn(usize) -> Task, C: Fn(usize) -> Priority>(
+    memory: &mut Memory,
+    now: u64,
+    running: Option<u8>,
+    task_count: u8,
+    task: T,
+    held: &[u8],
+    object_count: u8,
+    ceiling: C,
     queues: &[u8],
-) -> [u64; HEAD_WIDTH]
-    requires queues { Queues queues.now }
-    requires tasks_le_task_limit { tasks ≤ task_limit }
-    ensures { result ≡ head_for reading running tasks objects queues.now }
+)
+    requires new { memory.old ≡ unstarted (record { bases = []; ceilings = [] }) }
+    requires fits { parts_fit task_count object_count held.now queues.now ≡ true }
+    requires held_rows { length held.now ≡ task_limit * held_width }
+    requires queue_rows { length queues.now ≡ last_priority * queue_width }
+    requires task_callable { (t : ℕ) → t < task_count → T.pre task t }
+    requires ceiling_callable { (o : ℕ) → o < object_count → C.pre ceiling o }
+    ensures numbers { memory.new ≡ with_numbers memory.new now running (queues_in queues.now) }
+    ensures tasks { Each (TaskFrom (T.post task) held.now) blank task_count memory.new.tasks }
+    ensures ceilings { Each (CeilingFrom (C.post ceiling)) 0 object_count memory.new.ceilings }
 {
-    let code = running_code(running);
-    let marks = memory::queues::marks_of(queues);
-    let delayed = marks::first_bits(tasks as usize);
-    [
-        reading,
-        code,
-        tasks as u64,
-        objects as u64,
-        marks,
-        0,
-        delayed,
-    ]
+    memory.set_now(now);
+    memory.set_running(running);
+    load_tasks(memory, task_count as usize, task, held);
+    load_ceilings(memory, object_count as usize, ceiling);
+    load_queues(memory, queues);
+}
+
+// The row of what each task holds, an empty one for a number that is no task's.
+pub fn store_held(memory: &Memory, held: &mut [u8])
+    requires tasks { length memory.now.tasks ≤ task_limit }
+    requires rows { length held.old ≡ task_limit * held_width }
+    ensures { held.new ≡ flat_map (row_for held_width) (held_lists memory.entry.now) }
+{
+    for t in 0..Roster::TASKS {
+        let b = t * HELD_WIDTH;
+        memory.write_held(t as u8, &mut held[b..b + HELD_WIDTH]);
+    }
+}
+
+// The row of each ready queue.
+pub fn store_queues(memory: &Memory, queues: &mut [u8])
+    requires levels { length memory.now.ready ≡ last_priority }
+    requires rows { length queues.old ≡ last_priority * queue_width }
+    ensures { queues.new ≡ flat_map (row_for queue_width) memory.entry.now.ready }
+{
+    for i in 0..PRIORITIES {
+        let b = i * QUEUE_WIDTH;
+        memory.write_queue(Priority(i as u8 + 1), &mut queues[b..b + QUEUE_WIDTH]);
+    }
 }

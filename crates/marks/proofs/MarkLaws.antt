@@ -1,5 +1,5 @@
 -- Laws of words of bits and of the word of marks: the bits, the highest bit, and what a change of one queue does.
-use mathlib.Core.Path.{◌≡◌, refl, sym, ap, ◌∙◌, subst}
+use mathlib.Core.Path.{◌≡◌, refl, sym, ap, ◌∙◌}
 use mathlib.Core.Bool.{Bool, true, false, cond, not}
 use mathlib.Core.List.{List, [], ◌∷◌}
 use mathlib.Core.Logic.{◌↔◌}
@@ -7,10 +7,11 @@ use Prim.Native.Nat.{ℕ, zero, suc, ◌+◌, ◌-◌, ◌*◌, ◌/◌, ◌%◌
 use native.Mathlib.Nat.{pow-suc, not-suc-le-zero, le_of_suc-le-suc, mul_assoc, one-mul, zero-mul, div-eq_of_lt, mod-lt}
 use native.Mathlib.Omega.{arith}
 use borrow.Author.Tests.{eqb-true, eqb-false, eq-eqb, ne_eqb}
-use lib.Bits.{bit_and, bit_or, or_add_and, and_high, and_le_l}
-use lib.Count.{count_leading_zeros, leading_top, leading_unique}
+use lib.Bits.{bit_and, bit_or, or_add_and, and_high, and_le_l, and_comm}
+use Rattle.std.proofs.lemmas.Nat.{and-not}
+use lib.Count.{count_leading_zeros, leading_unique}
 use lib.Dec.{eqb, lit<}
-use lib.Pow.{pow_pos, pow_mono, pow-add, shr-shr, shr_lt, shl_exact, split as cut}
+use lib.Pow.{pow_pos, pow_mono, pow-lt, pow-add, shr-shr, shr_lt, shl_exact, split as cut}
 use lib.ListN.{length, get_or, set, drop, replicate}
 use lib.Seq.{drop-cons}
 use Rattle.rules.specs.Moves.{highest_to}
@@ -145,25 +146,17 @@ highest-by-zeros k w h =
     let z = leading_unique k w (k - highest_on w k) (highest_on w k) (omega (arith, highest-le k w)) top.low top.high in
     omega (arith, z, highest-le k w)
 
--- .. that of a word which is not 0
-at_top : (w i : ℕ) → i < word_bits → 2 ^ i ≤ w → w < 2 ^ suc i → Highest w i
+-- .. that of a word which is not 0, by its logarithm
+pub at_top : (w i : ℕ) → i < word_bits → 2 ^ i ≤ w → w < 2 * 2 ^ i → Highest w i
 unfolding bit_at
 at_top w i g l h =
-    let some : bit_at w i ≡ 0 → ⊥ = λ e. omega (arith, bit-off i w h e) in
+    let below : w < 2 ^ suc i = omega (arith, pow-suc 2 i) in
+    let some : bit_at w i ≡ 0 → ⊥ = λ e. omega (arith, bit-off i w below e) in
     record {
       within = g;
       on = omega (arith, bit-small w i, some);
       above = λ u k. let less : w < 2 ^ u = omega (arith, pow_mono k) in ap (λ (x : ℕ). x % 2) (div-eq_of_lt less);
     }
-
-pub zeros-few : (w : ℕ) → 0 < w → w < 2 ^ word_bits → count_leading_zeros word_bits w < word_bits
-zeros-few w p h = omega (arith, (leading_top word_bits w p h).1)
-
-pub top-by-zeros : (w : ℕ) → 0 < w → w < 2 ^ word_bits → Highest w (word_bits - 1 - count_leading_zeros word_bits w)
-top-by-zeros w p h =
-    let top = leading_top word_bits w p h in
-    let e : top.0 ≡ word_bits - 1 - count_leading_zeros word_bits w = omega (arith, top.1) in
-    subst (Highest w) e (at_top w top.0 (omega (arith, top.1)) top.2 top.3)
 
 -- a shift of 1 drops no bit
 pub one_shl : (k : ℕ) → k < word_bits → (1 * 2 ^ k) % 2 ^ word_bits ≡ 2 ^ k
@@ -180,9 +173,12 @@ bit-part w i =
 part-le : (w i : ℕ) → bit_at w i * 2 ^ i ≤ w
 part-le w i = rw (bit-part w i) at (and_le_l w (2 ^ i))
 
-pub bit-cleared : (w i : ℕ) → w - bit_and w (2 ^ i) ≡ with_bit w i 0
+pub bit-cleared : (w i b : ℕ) → b ≡ 2 ^ i → i < word_bits → w < 2 ^ word_bits → bit_and w (2 ^ word_bits - 1 - b) ≡ with_bit w i 0
 unfolding with_bit
-bit-cleared w i = omega (arith, bit-part w i, zero-mul (2 ^ i))
+bit-cleared w i b e h f =
+    let part : bit_and b w ≡ bit_at w i * 2 ^ i = and_comm b w ∙ (ap (bit_and w) e ∙ bit-part w i) in
+    let below : b < 2 ^ word_bits = omega (arith, pow-lt h) in
+    omega (arith, part, and_comm w (2 ^ word_bits - 1 - b), and-not word_bits b w below f, zero-mul (2 ^ i))
 
 pub bit-set : (w i : ℕ) → bit_or w (2 ^ i) ≡ with_bit w i 1
 unfolding with_bit

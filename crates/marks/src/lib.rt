@@ -8,28 +8,21 @@ ghost use Rattle.marks.specs.Marks.{word_bits, bit_at, with_bit, Highest, mark_f
 
 use rules::Priority;
 
-// The bits of the word of marks, one for each priority.
-const MARKS: u32 = 32;
-
-// The bits of any word, the last of them, and the word of all.
-pub const BITS: usize = 64;
-
-const LAST_BIT: u32 = 63;
-
-const ALL_BITS: u64 = 18446744073709551615;
+// The bits of any word.
+pub const BITS: usize = u64::BITS as usize;
 
 // The highest priority whose mark is on, or 0: no queue is walked.
 pub fn highest(word: u32) -> Priority
     ensures { result.0 ≡ highest_on word last_priority }
 {
-    Priority((MARKS - u32::leading_zeros(word)) as u8)
+    Priority((u32::BITS - word.leading_zeros()) as u8)
 }
 
 // The mark of a queue of so many tasks, as a number.
 pub fn mark_for(size: u8) -> u64
     ensures { result ≡ mark_for size }
 {
-    if size == 0 { 0 } else { 1 }
+    u64::from(size != 0)
 }
 
 // The word in which the bit i alone is on.
@@ -51,7 +44,7 @@ pub fn without_bit(word: u64, i: usize) -> u64
     requires { i < word_bits }
     ensures { result ≡ with_bit word i 0 }
 {
-    word - (word & bit(i))
+    word & !bit(i)
 }
 
 // Whether the bit i is on.
@@ -67,10 +60,7 @@ pub fn first_bits(n: usize) -> u64
     requires { n ≤ word_bits }
     ensures { result ≡ 2 ^ n - 1 }
 {
-    if BITS <= n {
-        return ALL_BITS;
-    }
-    bit(n) - 1
+    if n < BITS { bit(n) - 1 } else { u64::MAX }
 }
 
 // The highest bit that is on.
@@ -78,16 +68,7 @@ pub fn top(word: u64) -> usize
     requires { 0 < word }
     ensures { Highest word result }
 {
-    (LAST_BIT - u64::leading_zeros(word)) as usize
-}
-
-// The word in which the mark of p alone is on.
-fn mark(p: Priority) -> u64
-    requires first_priority_le_p { first_priority ≤ p.0 }
-    requires p_le_last_priority { p.0 ≤ last_priority }
-    ensures { result ≡ 2 ^ (p.0 - 1) }
-{
-    1u64 << (p.0 as u32 - 1)
+    word.ilog2() as usize
 }
 
 // The word once the queue for p has so many tasks: its mark is set or cleared.
@@ -96,9 +77,10 @@ pub fn put(word: u64, p: Priority, size: u8) -> u64
     requires p_le_last_priority { p.0 ≤ last_priority }
     ensures { result ≡ with_bit word (p.0 - 1) (mark_for size) }
 {
-    let m = mark(p);
+    let i = p.0 as usize - 1;
     if size == 0 {
-        return word - (word & m);
+        without_bit(word, i)
+    } else {
+        with_bit(word, i)
     }
-    word | m
 }

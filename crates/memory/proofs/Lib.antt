@@ -1,11 +1,4 @@
-pub mod TestLaws
-pub mod DistinctLaws
-pub mod ShiftLaws
 pub mod RowLaws
-pub mod GridLaws
-pub mod TaskLaws
-pub mod BlankLaws
-pub mod MemoryLaws
 pub mod PriorityLaws
-pub mod ReadyLaws
-pub mod RulingLaws
+pub mod SlotLaws
+pub mod QueueLaws

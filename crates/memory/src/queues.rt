@@ -1,123 +1,105 @@
-// The ready queues: a row for each priority, its tasks from the head on; and the word of marks, which follows every change of them.
-ghost use Rattle.std.specs.Prelude.{◌≡◌, [], ◌∷◌, ◌++◌, ◌-◌, ◌<◌, length, drop, get_or, set};
+// The ready queues, each from its head on, and the word of marks, which follows every change of them.
+ghost use Rattle.std.specs.Prelude.{◌≡◌, [], ◌∷◌, ◌++◌, suc, ◌<◌, ◌≤◌, length, drop};
 ghost use Rattle.rules.specs.Limits.{task_limit, last_priority};
 ghost use Rattle.rules.specs.Lists.{without};
-ghost use Rattle.rules.specs.Moves.{highest_to};
-ghost use Rattle.marks.specs.Marks.{with_bit, mark_for, marks_of};
-ghost use Rattle.memory.specs.Rows.{HasQueue, queue_in, queues_in, Queues};
-ghost use Rattle.memory.specs.Memory.{head_width, marks_cell, marks_in, Marked, ReadyBecame};
+ghost use Rattle.rules.specs.Model.{queue, with_queue};
+ghost use Rattle.rules.specs.Moves.{head_of, highest};
+ghost use Rattle.marks.specs.Marks.{marks_of};
+ghost use Rattle.memory.specs.Rows.{row_for};
+ghost use Rattle.memory.specs.Memory.{HasQueue};
 
-use crate::rows;
-use crate::sizes::{HEAD_WIDTH, MARKS_CELL, QUEUE_WIDTH};
-use rules::Priority;
+use crate::{Memory, Row};
+use rules::{Priority, Roster};
 
-pub fn size(queues: &[u8], p: Priority) -> u8
-    requires has_queue { HasQueue p.0 }
-    requires queues { Queues queues.now }
-    ensures { result ≡ length (queue_in queues.now p.0) }
-{
-    let i = p.0 as usize - 1;
-    queues[i * QUEUE_WIDTH]
-}
-
-pub fn head(queues: &[u8], p: Priority) -> u8
-    requires has_queue { HasQueue p.0 }
-    requires queues { Queues queues.now }
-    ensures { result ≡ get_or (queue_in queues.now p.0) 0 0 }
-{
-    let i = p.0 as usize - 1;
-    queues[i * QUEUE_WIDTH + 1]
-}
-
-// The highest priority whose queue holds a task, or 0: read off the marks.
-pub fn highest(head: &[u64; HEAD_WIDTH], queues: &[u8]) -> Priority
-    requires { Marked head.now queues.now }
-    ensures { result.0 ≡ highest_to (queues_in queues.now) last_priority }
-{
-    marks::highest(head[MARKS_CELL] as u32)
-}
-
-// The word of marks, reckoned from the queues.
-pub fn marks_of(queues: &[u8]) -> u64
-    requires { Queues queues.now }
-    ensures { result ≡ marks_of (queues_in queues.now) }
-{
-    let last = Priority::LAST;
-    let mut word: u64 = 0;
-    let mut p = last.0;
-    while 0 < p {
-        word = marks::mark_for(size(queues, Priority(p))) + 2 * word;
-        p -= 1;
+impl Memory {
+    // The ready queue for p.
+    pub fn queue(&self, p: Priority) -> &[u8]
+        requires { HasQueue p.0 }
+        ensures value { result.now ≡ queue self.entry.now p.0 }
+        ensures fits { length result.now ≤ task_limit }
+    {
+        self.queues[p.0 as usize - 1].as_slice()
     }
-    word
-}
 
-// The mark of p follows its queue.
-fn remark(head: &mut [u64; HEAD_WIDTH], queues: &[u8], p: Priority)
-    requires has_queue { HasQueue p.0 }
-    requires queues { Queues queues.now }
-    requires head_len { length head.old ≡ head_width }
-    ensures { head.new ≡
-        set head.old marks_cell
-        (with_bit (marks_in head.old) (p.0 - 1) (mark_for (length (queue_in queues.now p.0)))) }
-{
-    head[MARKS_CELL] = marks::put(head[MARKS_CELL], p, size(queues, p));
-}
+    pub fn head_of(&self, p: Priority) -> u8
+        requires level { HasQueue p.0 }
+        requires full { 0 < length (queue self.now p.0) }
+        ensures { result ≡ head_of self.entry.now p.0 }
+    {
+        self.queue(p)[0]
+    }
 
-pub fn push_tail(head: &mut [u64; HEAD_WIDTH], queues: &mut [u8], p: Priority, t: u8)
-    requires has_queue { HasQueue p.0 }
-    requires queues { Queues queues.old }
-    requires marked { Marked head.old queues.old }
-    requires p_len_bound { length (queue_in queues.old p.0) < task_limit }
-    ensures { ReadyBecame head.old queues.old head.new queues.new p.0
-        (queue_in queues.old p.0 ++ (t ∷ [])) }
-{
-    let i = p.0 as usize - 1;
-    let b = i * QUEUE_WIDTH;
-    rows::join(&mut queues[b..b + QUEUE_WIDTH], t);
-    remark(head, queues, p);
-}
+    // The word of marks, with a bit for each queue.
+    pub fn marks(&self) -> u32
+        ensures value { result ≡ marks_of self.entry.now.ready }
+        ensures levels { length self.entry.now.ready ≡ last_priority }
+    {
+        self.marks as u32
+    }
 
-pub fn push_head(head: &mut [u64; HEAD_WIDTH], queues: &mut [u8], p: Priority, t: u8)
-    requires has_queue { HasQueue p.0 }
-    requires queues { Queues queues.old }
-    requires marked { Marked head.old queues.old }
-    requires p_len_bound { length (queue_in queues.old p.0) < task_limit }
-    ensures { ReadyBecame head.old queues.old head.new queues.new p.0
-        (t ∷ queue_in queues.old p.0) }
-{
-    let i = p.0 as usize - 1;
-    let b = i * QUEUE_WIDTH;
-    rows::lead(&mut queues[b..b + QUEUE_WIDTH], t);
-    remark(head, queues, p);
-}
+    // The highest priority whose queue holds a task, or 0: read off the marks.
+    pub fn highest(&self) -> Priority
+        ensures { result.0 ≡ highest self.entry.now }
+    {
+        marks::highest(self.marks as u32)
+    }
 
-// The head goes.
-pub fn pop(head: &mut [u64; HEAD_WIDTH], queues: &mut [u8], p: Priority)
-    requires has_queue { HasQueue p.0 }
-    requires queues { Queues queues.old }
-    requires marked { Marked head.old queues.old }
-    ensures { ReadyBecame head.old queues.old head.new queues.new p.0
-        (drop 1 (queue_in queues.old p.0)) }
-{
-    let i = p.0 as usize - 1;
-    let b = i * QUEUE_WIDTH;
-    rows::cut(&mut queues[b..b + QUEUE_WIDTH], 0);
-    remark(head, queues, p);
-}
+    pub fn push_tail(&mut self, p: Priority, t: u8)
+        requires level { HasQueue p.0 }
+        requires room { length (queue self.old p.0) < task_limit }
+        ensures { self.new ≡ with_queue self.old p.0 (queue self.old p.0 ++ t ∷ []) }
+    {
+        let row = &mut self.queues[p.0 as usize - 1];
+        row.push(t);
+        self.marks = marks::put(self.marks, p, row.len());
+    }
 
-// The task t goes, wherever it stands.
-pub fn remove(head: &mut [u64; HEAD_WIDTH], queues: &mut [u8], p: Priority, t: u8)
-    requires has_queue { HasQueue p.0 }
-    requires queues { Queues queues.old }
-    requires marked { Marked head.old queues.old }
-    ensures { ReadyBecame head.old queues.old head.new queues.new p.0
-        (without t (queue_in queues.old p.0)) }
-{
-    let i = p.0 as usize - 1;
-    let b = i * QUEUE_WIDTH;
-    let row = &mut queues[b..b + QUEUE_WIDTH];
-    let at = rows::find(row, t);
-    rows::cut(row, at);
-    remark(head, queues, p);
+    pub fn push_head(&mut self, p: Priority, t: u8)
+        requires level { HasQueue p.0 }
+        requires room { length (queue self.old p.0) < task_limit }
+        ensures { self.new ≡ with_queue self.old p.0 (t ∷ queue self.old p.0) }
+    {
+        let row = &mut self.queues[p.0 as usize - 1];
+        row.push_front(t);
+        self.marks = marks::put(self.marks, p, row.len());
+    }
+
+    // The head goes.
+    pub fn pop(&mut self, p: Priority)
+        requires level { HasQueue p.0 }
+        requires full { 0 < length (queue self.old p.0) }
+        ensures { self.new ≡ with_queue self.old p.0 (drop 1 (queue self.old p.0)) }
+    {
+        let row = &mut self.queues[p.0 as usize - 1];
+        row.remove_at(0);
+        self.marks = marks::put(self.marks, p, row.len());
+    }
+
+    // The task t goes, wherever it stands.
+    pub fn remove(&mut self, p: Priority, t: u8)
+        requires { HasQueue p.0 }
+        ensures { self.new ≡ with_queue self.old p.0 (without t (queue self.old p.0)) }
+    {
+        let row = &mut self.queues[p.0 as usize - 1];
+        row.remove(t);
+        self.marks = marks::put(self.marks, p, row.len());
+    }
+
+    // The queue for p as it was written down, over an empty one.
+    pub fn set_queue(&mut self, p: Priority, row: Row<{ Roster::TASKS }>)
+        requires { HasQueue p.0 }
+        ensures { self.new ≡ with_queue self.old p.0 row }
+    {
+        self.marks = marks::put(self.marks, p, row.len());
+        self.queues[p.0 as usize - 1] = row;
+    }
+
+    // The row of the queue for p, as a state has it.
+    pub fn write_queue(&self, p: Priority, row: &mut [u8])
+        requires level { HasQueue p.0 }
+        requires width { length row.old ≡ suc task_limit }
+        ensures { row.new ≡ row_for (suc task_limit) (queue self.entry.now p.0) }
+    {
+        self.queues[p.0 as usize - 1].write(row);
+    }
 }

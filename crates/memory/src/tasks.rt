@@ -1,173 +1,112 @@
-// The tasks' records: a row for each task. Small values go in and out by value and in their kinds.
-ghost use Rattle.std.specs.Prelude.{◌≡◌, ◌≤◌, ◌<◌};
+// The tasks' records.
+ghost use Rattle.std.specs.Prelude.{◌≡◌, ℕ, ◌∷◌, [], ◌++◌, ◌<◌, ◌≤◌, length};
 ghost use Rattle.rules.specs.Limits.{task_limit};
-ghost use Rattle.memory.specs.Rows.{byte_values};
-ghost use Rattle.memory.specs.Tasks.{kind_code, due_of, due_time, waiting_code, bit, task_in, Tasks, TaskBecame};
-ghost use Rattle.memory.specs.Tasks.{placed, based, waited, granted};
+ghost use Rattle.rules.specs.Model.{task_at, with_task, with_tasks, with_place, with_base, with_waiting, with_permit};
+ghost use Rattle.rules.specs.declared.Place.TheVariants.{Delayed};
+ghost use Rattle.memory.specs.Memory.{record_of, waiting_in, task_for};
 
-use crate::sizes::{
-    BASE, DELAYED, DUE, ENDED, KIND, NO_DUE, PERMIT, READY, RUNNING, SUSPENDED, TASK_WIDTH, WAITING,
-};
-use rules::{Place, Priority, Task, WaitingBase};
+use crate::{Memory, Row, Slot};
+use rules::{Place, Priority, Roster, Task};
 
-fn kind_code(place: Place) -> u64
-    ensures { result ≡ kind_code place }
-{
-    match place {
-        Place::Running => RUNNING,
-        Place::Ready => READY,
-        Place::Delayed(_) => DELAYED,
-        Place::Suspended => SUSPENDED,
-        Place::Ended => ENDED,
+impl Memory {
+    pub fn task_count(&self) -> u8
+        ensures value { result ≡ length self.entry.now.tasks }
+        ensures fits { length self.entry.now.tasks ≤ task_limit }
+    {
+        self.task_count
     }
-}
 
-fn due_of(place: Place) -> u64
-    ensures { result ≡ due_of place }
-{
-    match place {
-        Place::Running => 0,
-        Place::Ready => 0,
-        Place::Delayed(due) => due,
-        Place::Suspended => 0,
-        Place::Ended => 0,
+    // One task more.
+    pub fn add_task(&mut self, task: Task, held: Row<{ Roster::OBJECTS }>)
+        requires { length self.old.tasks < task_limit }
+        ensures { self.new ≡ with_tasks self.old (self.old.tasks ++ record_of task held ∷ []) }
+    {
+        let n = self.task_count as usize;
+        self.slots[n] = Slot { task, held };
+        self.task_count += 1;
+        if let Place::Delayed(due) = task.place {
+            self.delayed = marks::with_bit(self.delayed, n);
+            self.next = due.min(self.next);
+        }
     }
-}
 
-fn waiting_code(waiting: WaitingBase) -> u64
-    ensures value { result ≡ waiting_code waiting }
-    ensures upper_bound { result ≤ byte_values }
-{
-    match waiting {
-        WaitingBase::Nothing => 0,
-        WaitingBase::Base(p) => p.0 as u64 + 1,
+    // The whole record, a blank one past the last.
+    pub fn task(&self, t: u8) -> Task
+        ensures { result ≡ task_for (task_at self.entry.now t) }
+    {
+        if t < self.task_count {
+            self.slots[t as usize].task
+        } else {
+            Task::BLANK
+        }
     }
-}
 
-fn bit(permit: bool) -> u64
-    ensures { result ≡ bit permit }
-{
-    if permit { 1 } else { 0 }
-}
-
-pub fn place(tasks: &[u64], t: usize) -> Place
-    requires t_lt_task_limit { t < task_limit }
-    requires tasks { Tasks tasks.now }
-    ensures { result ≡ (task_in tasks.now t).place }
-{
-    let row = t * TASK_WIDTH;
-    let kind = tasks[row + KIND];
-    let due = tasks[row + DUE];
-    match kind {
-        RUNNING => Place::Running,
-        READY => Place::Ready,
-        DELAYED => Place::Delayed(due),
-        SUSPENDED => Place::Suspended,
-        _ => Place::Ended,
+    pub fn place(&self, t: u8) -> Place
+        requires { t < length self.now.tasks }
+        ensures { result ≡ (task_at self.entry.now t).place }
+    {
+        self.slots[t as usize].task.place
     }
-}
 
-// When a delayed task is due; NO_DUE, which is past every reading, for any other.
-pub fn due(tasks: &[u64], t: usize) -> u64
-    requires t_lt_task_limit { t < task_limit }
-    requires tasks { Tasks tasks.now }
-    ensures { result ≡ due_time (task_in tasks.now t).place }
-{
-    let row = t * TASK_WIDTH;
-    if tasks[row + KIND] == DELAYED {
-        return tasks[row + DUE];
+    pub fn base(&self, t: u8) -> Priority
+        requires { t < length self.now.tasks }
+        ensures { result.0 ≡ (task_at self.entry.now t).base }
+    {
+        self.slots[t as usize].task.base
     }
-    NO_DUE
-}
 
-pub fn base(tasks: &[u64], t: usize) -> Priority
-    requires t_lt_task_limit { t < task_limit }
-    requires tasks { Tasks tasks.now }
-    ensures { result ≡ (task_in tasks.now t).base }
-{
-    Priority(tasks[t * TASK_WIDTH + BASE] as u8)
-}
-
-pub fn waiting(tasks: &[u64], t: usize) -> WaitingBase
-    requires t_lt_task_limit { t < task_limit }
-    requires tasks { Tasks tasks.now }
-    ensures { result ≡ (task_in tasks.now t).waiting }
-{
-    let code = tasks[t * TASK_WIDTH + WAITING];
-    if code == 0 {
-        return WaitingBase::Nothing;
+    pub fn waiting(&self, t: u8) -> Option<Priority>
+        requires { t < length self.now.tasks }
+        ensures { waiting_in result ≡ (task_at self.entry.now t).waiting }
+    {
+        self.slots[t as usize].task.waiting
     }
-    WaitingBase::Base(Priority((code - 1) as u8))
-}
 
-pub fn permit(tasks: &[u64], t: usize) -> bool
-    requires t_lt_task_limit { t < task_limit }
-    requires tasks { Tasks tasks.now }
-    ensures { result ≡ (task_in tasks.now t).permit }
-{
-    tasks[t * TASK_WIDTH + PERMIT] == 1
-}
-
-// The whole record.
-pub fn get(tasks: &[u64], t: usize) -> Task
-    requires t_lt_task_limit { t < task_limit }
-    requires tasks { Tasks tasks.now }
-    ensures { result ≡ task_in tasks.now t }
-{
-    Task {
-        place: place(tasks, t),
-        base: base(tasks, t),
-        waiting: waiting(tasks, t),
-        permit: permit(tasks, t),
+    pub fn permit(&self, t: u8) -> bool
+        requires { t < length self.now.tasks }
+        ensures { result ≡ (task_at self.entry.now t).permit }
+    {
+        self.slots[t as usize].task.permit
     }
-}
 
-pub fn set_place(tasks: &mut [u64], t: usize, place: Place)
-    requires t_lt_task_limit { t < task_limit }
-    requires tasks { Tasks tasks.old }
-    ensures { TaskBecame tasks.old tasks.new t (placed (task_in tasks.old t) place) }
-{
-    let row = t * TASK_WIDTH;
-    tasks[row + KIND] = kind_code(place);
-    tasks[row + DUE] = due_of(place);
-}
+    pub fn set_place(&mut self, t: u8, place: Place)
+        requires { t < length self.old.tasks }
+        ensures { self.new ≡ with_task self.old t (with_place (task_at self.old t) place) }
+    {
+        self.slots[t as usize].task.place = place;
+        if let Place::Delayed(due) = place {
+            self.delayed = marks::with_bit(self.delayed, t as usize);
+            self.next = self.next.min(due);
+        }
+    }
 
-pub fn set_base(tasks: &mut [u64], t: usize, base: Priority)
-    requires t_lt_task_limit { t < task_limit }
-    requires tasks { Tasks tasks.old }
-    ensures { TaskBecame tasks.old tasks.new t (based (task_in tasks.old t) base) }
-{
-    tasks[t * TASK_WIDTH + BASE] = base.0 as u64;
-}
+    pub fn set_base(&mut self, t: u8, base: Priority)
+        requires { t < length self.old.tasks }
+        ensures { self.new ≡ with_task self.old t (with_base (task_at self.old t) base.0) }
+    {
+        self.slots[t as usize].task.base = base;
+    }
 
-pub fn set_waiting(tasks: &mut [u64], t: usize, waiting: WaitingBase)
-    requires t_lt_task_limit { t < task_limit }
-    requires tasks { Tasks tasks.old }
-    ensures { TaskBecame tasks.old tasks.new t (waited (task_in tasks.old t) waiting) }
-{
-    tasks[t * TASK_WIDTH + WAITING] = waiting_code(waiting);
-}
+    pub fn set_waiting(&mut self, t: u8, waiting: Option<Priority>)
+        requires { t < length self.old.tasks }
+        ensures { self.new ≡ with_task self.old t (with_waiting (task_at self.old t) (waiting_in waiting)) }
+    {
+        self.slots[t as usize].task.waiting = waiting;
+    }
 
-pub fn set_permit(tasks: &mut [u64], t: usize, permit: bool)
-    requires t_lt_task_limit { t < task_limit }
-    requires tasks { Tasks tasks.old }
-    ensures { TaskBecame tasks.old tasks.new t (granted (task_in tasks.old t) permit) }
-{
-    tasks[t * TASK_WIDTH + PERMIT] = bit(permit);
-}
+    pub fn set_permit(&mut self, t: u8, permit: bool)
+        requires { t < length self.old.tasks }
+        ensures { self.new ≡ with_task self.old t (with_permit (task_at self.old t) permit) }
+    {
+        self.slots[t as usize].task.permit = permit;
+    }
 
-// The whole record.
-pub fn put(tasks: &mut [u64], t: usize, task: Task)
-    requires t_lt_task_limit { t < task_limit }
-    requires tasks { Tasks tasks.old }
-    ensures { TaskBecame tasks.old tasks.new t task }
-{
-    let place = task.place;
-    let base = task.base;
-    let waiting = task.waiting;
-    let permit = task.permit;
-    set_place(tasks, t, place);
-    set_base(tasks, t, base);
-    set_waiting(tasks, t, waiting);
-    set_permit(tasks, t, permit);
+    // The bit of t, which is not delayed, goes off.
+    pub fn forget(&mut self, t: u8)
+        requires there { t < length self.old.tasks }
+        requires awake { (d : ℕ) → (task_at self.old t).place ≡ Delayed d → ⊥ }
+        ensures { self.new ≡ self.old }
+    {
+        self.delayed = marks::without_bit(self.delayed, t as usize);
+    }
 }

@@ -5,16 +5,16 @@ use Prim.Native.Nat.{ℕ, zero, suc, ◌+◌, ◌-◌, ◌<◌}
 use native.Mathlib.Omega.{arith}
 use borrow.Author.Tests.{ltb-false}
 use lib.ListN.{length, length-set}
+use Rattle.std.specs.Prelude.{None, Some}
 use Rattle.rules.specs.Limits.{task_limit, object_limit}
 use Rattle.rules.specs.Priorities.{in_range}
-use Rattle.rules.specs.Model.{Model, TaskRecord, none, waits, blank, with_base, with_waiting, with_now}
+use Rattle.rules.specs.Model.{Model, TaskRecord, blank, with_base, with_waiting, with_now}
 use Rattle.rules.specs.Model.{task_at, with_task, queue, with_queue, active}
 use Rattle.rules.specs.Moves.{head_of, stopped}
 use Rattle.rules.specs.Events.{holds, inside, give_up, nobody, task, first_due, wake_up}
 use Rattle.rules.specs.Sound.{is_ready, is_running, waiting_good}
 use Rattle.rules.specs.declared.Place.{Place}
 use Rattle.rules.specs.declared.Place.TheVariants.{Running, Ready, Delayed, Suspended, Ended}
-use Rattle.rules.specs.declared.Runner.TheVariants.{Task}
 use Rattle.rules.specs.Lists.{times_in, without}
 use Rattle.rules.proofs.Choices.{compare, clash}
 use Rattle.rules.proofs.PriorityLaws.{in_bounds}
@@ -41,7 +41,7 @@ core-arrives m x c h =
       bare = c.stand.empty;
     }
 
-runner-joins : {ord : Bool} (m : Model) (t : ℕ) → Core ord m task_limit → m.running ≡ Task t → Joins m t
+runner-joins : {ord : Bool} (m : Model) (t : ℕ) → Core ord m task_limit → m.running ≡ Some t → Joins m t
 runner-joins m t c e =
     let r = runs-named m.running t e in
     let h = runner-in m c t r in
@@ -71,7 +71,7 @@ core-dispatches m c r =
     }
 
 -- the running task t, with another record k, stops and goes on its way
-stop-core : {ord : Bool} (m : Model) (t : ℕ) (k : TaskRecord) → Core ord m task_limit → m.running ≡ Task t → depth (task_at m t) ≡ 0 →
+stop-core : {ord : Bool} (m : Model) (t : ℕ) (k : TaskRecord) → Core ord m task_limit → m.running ≡ Some t → depth (task_at m t) ≡ 0 →
     depth k ≡ 0 → in_range (base_of k) ≡ true → Core ord (stopped (with_task m t k)) t
 unfolding stopped
 stop-core m t k c e z y g =
@@ -79,29 +79,29 @@ stop-core m t k c e z y g =
     let r = runs-named m.running t e in
     core-put (stopped m) t (core-out m c t r z) k (runner-in m c t r) y b.0 b.1
 
-module _ {ord : Bool} (m : Model) (t : ℕ) (h : Good ord m) (e : m.running ≡ Task t) where
+module _ {ord : Bool} (m : Model) (t : ℕ) (h : Good ord m) (e : m.running ≡ Some t) where
   -- Enter: room for an object that it does not hold
   pub enter-room : (o : ℕ) → o < length m.ceilings → holds (task_at m t) o ≡ false → length (task_at m t).held < object_limit
   enter-room o l z =
       let f = t-fair m t h e in
-      let none : times_in o (task_at m t).held ≡ 0 = omega (arith, ltb-false 0 (times_in o (task_at m t).held) z) in
-      omega (arith, held-room (length m.ceilings) o (task_at m t).held f.listing f.once l none, h.pending.sizes.objects)
+      let None : times_in o (task_at m t).held ≡ 0 = omega (arith, ltb-false 0 (times_in o (task_at m t).held) z) in
+      omega (arith, held-room (length m.ceilings) o (task_at m t).held f.listing f.once l None, h.pending.sizes.objects)
 
   -- Leave: a base that waits can take effect
   left-core : Core ord (give_up m t) task_limit
   left-core = core-held m h.pending.core t _ (t-runs m t h e) refl refl refl
 
-  left-range : (p : ℕ) → (task_at (give_up m t) t).waiting ≡ waits p → in_range p ≡ true
+  left-range : (p : ℕ) → (task_at (give_up m t) t).waiting ≡ Some p → in_range p ≡ true
   unfolding waiting_good
   left-range p w =
       let same = at_same (λ (k : TaskRecord). k.waiting) blank m.tasks t _ t refl (t-in m t h e) in
       sym (ap waiting_good (sym same ∙ w)) ∙ (t-fair m t h e).waiting
 
-  effect : (p : ℕ) → inside (task_at (give_up m t) t) ≡ false → (task_at (give_up m t) t).waiting ≡ waits p →
+  effect : (p : ℕ) → inside (task_at (give_up m t) t) ≡ false → (task_at (give_up m t) t).waiting ≡ Some p →
       Arrives (settled (give_up m t) t p) t
   unfolding stopped
   effect p z w =
-      let k = with_waiting (with_base (task_at (give_up m t) t) p) none in
+      let k = with_waiting (with_base (task_at (give_up m t) t) p) None in
       let bare = hold-none (task_at (give_up m t) t) z in
       let n : t < length (give_up m t).tasks = runner-in (give_up m t) left-core t (t-runs m t h e) in
       core-arrives _ t (stop-core (give_up m t) t k left-core e bare bare (left-range p w))
@@ -154,7 +154,7 @@ module _ {ord : Bool} (m : Model) (t p : ℕ) (c : Core ord m task_limit) (h : t
   based-there : t < length (with_task m t (with_base (task_at m t) p)).tasks
   based-there = omega (arith, length-set m.tasks t (with_base (task_at m t) p))
 
-  runs-at : (task_at m t).place ≡ Running → m.running ≡ Task t
+  runs-at : (task_at m t).place ≡ Running → m.running ≡ Some t
   unfolding is_running
   runs-at e = runs-is m.running t (omega (arith, all_runs _ _ _ _ task_limit c.stand c.count t, ap is_running e))
 

@@ -1,16 +1,13 @@
--- What a move needs of a Model beside the layout of the slices: tasks that are there, priorities in range, room in a queue.
-use Rattle.std.specs.Prelude.{◌≡◌, Bool, true, false, ℕ, ◌<◌, length}
+-- What a move needs of a Model: tasks that are there, priorities in range, room in a queue.
+use Rattle.std.specs.Prelude.{◌≡◌, Bool, true, false, ℕ, ◌<◌, length, None, Option, Some}
 use Rattle.rules.specs.Limits.{task_limit}
-use Rattle.rules.specs.Model.{Model, none, waits, with_base, with_waiting, task_at, with_task, queue, with_queue, active}
+use Rattle.rules.specs.Model.{Model, with_base, with_waiting, task_at, with_task, queue, with_queue, active}
 use Rattle.rules.specs.Moves.{stopped, preempt, head_of}
 use Rattle.rules.specs.Events.{inside, nobody, task, first_due, wake_up}
 use Rattle.rules.specs.declared.Place.{Place}
 use Rattle.rules.specs.declared.Place.TheVariants.{Running, Ready, Delayed, Suspended, Ended}
-use Rattle.rules.specs.declared.Runner.{Runner}
-use Rattle.rules.specs.declared.Runner.TheVariants.{Nobody, Task as Runs}
 use Rattle.rules.specs.Lists.{without}
-use Rattle.memory.specs.Rows.{HasQueue}
-use Rattle.memory.specs.Memory.{Rises}
+use Rattle.memory.specs.Memory.{HasQueue, Rises}
 
 -- the task t can join the queue for its active priority
 pub record Joins (m : Model) (t : ℕ) : Type 0 where
@@ -31,34 +28,34 @@ pub record Starts (m : Model) (p : ℕ) : Type 0 where
 
 -- a dispatch: the running task can join its queue, the ceilings of what it holds do not fall, and any head can run
 pub record Dispatches (m : Model) : Type 0 where
-  pub runner : (t : ℕ) → m.running ≡ Runs t → Joins m t
-  pub rises : (t : ℕ) → m.running ≡ Runs t → Rises m t
+  pub runner : (t : ℕ) → m.running ≡ Some t → Joins m t
+  pub rises : (t : ℕ) → m.running ≡ Some t → Rises m t
   pub heads : (p : ℕ) → HasQueue p → 0 < length (queue m p) → head_of m p < length m.tasks
 
 -- what a ready queue has to be higher than: the running task, or nothing
-unfoldable pub level_by : Model → Runner → ℕ
-level_by m Nobody = 0
-level_by m (Runs t) = active m t
+unfoldable pub level_by : Model → Option ℕ → ℕ
+level_by m None = 0
+level_by m (Some t) = active m t
 
 abbrev pub level_of : Model → ℕ
 level_of m = level_by m m.running
 
 -- the running task, if there is one, at the head of its queue
-unfoldable pub vacated_by : Model → Runner → Model
-vacated_by m Nobody = m
-vacated_by m (Runs t) = preempt m t
+unfoldable pub vacated_by : Model → Option ℕ → Model
+vacated_by m None = m
+vacated_by m (Some t) = preempt m t
 
 abbrev pub vacated : Model → Model
 vacated m = vacated_by m m.running
 
 -- the task t stopped, its base p, which waited, having taken effect
 abbrev pub settled : Model → ℕ → ℕ → Model
-settled m t p = stopped (with_task m t (with_waiting (with_base (task_at m t) p) none))
+settled m t p = stopped (with_task m t (with_waiting (with_base (task_at m t) p) None))
 
 -- a base that is due can take effect
 pub record Settles (m : Model) (t : ℕ) : Type 0 where
   pub there : t < length m.tasks
-  pub due : (p : ℕ) → inside (task_at m t) ≡ false → (task_at m t).waiting ≡ waits p → Arrives (settled m t p) t
+  pub due : (p : ℕ) → inside (task_at m t) ≡ false → (task_at m t).waiting ≡ Some p → Arrives (settled m t p) t
 
 unfoldable pub is_suspended : Place → Bool
 is_suspended Running = false

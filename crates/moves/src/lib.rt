@@ -1,157 +1,82 @@
-// Internal: pub only for our own crates. The moves that events are made of, as in specs/Moves.antt of crate rules, in place on the slices
-// of crate memory.
+// Internal: pub only for our own crates. The moves that events are made of, as in specs/Moves.antt of crate rules, on the engine's memory.
 #![tactic(auto)]
 
-ghost use Rattle.std.specs.Prelude.{◌≡◌, ◌<◌};
+ghost use Rattle.std.specs.Prelude.{◌≡◌};
 ghost use Rattle.rules.specs.Model.{active};
 ghost use Rattle.rules.specs.Moves.{become_ready, preempt, start, dispatch};
-ghost use Rattle.memory.specs.Memory.{model_of, LaidOut, Means};
 ghost use Rattle.moves.specs.Room.{Joins, Arrives, Starts, Dispatches, level_of, vacated};
 
-use memory::sizes::{HEAD_WIDTH, HELD_CELLS, RUNNING_CELL};
-use memory::{priorities, queues, tasks};
-use rules::{Place, Priority, Roster};
+use memory::Memory;
+use rules::{Place, Priority};
 
 pub mod effects;
 pub mod waking;
 
 // The task t, which holds nothing, becomes ready, at the tail of the queue for its base.
-pub fn become_ready(
-    head: &mut [u64; HEAD_WIDTH],
-    tasks: &mut [u64],
-    held: &[u8; HELD_CELLS],
-    ceilings: &[u8; Roster::OBJECTS],
-    queues: &mut [u8],
-    t: usize,
-)
-    requires laid_out { LaidOut head.old tasks.old held.now ceilings.now queues.old }
-    requires arrives { Arrives (model_of head.old tasks.old held.now ceilings.now queues.old) t }
-    ensures { Means head.new tasks.new held.now ceilings.now queues.new
-        (become_ready
-        (model_of head.old tasks.old held.now ceilings.now queues.old)
-        t) }
+pub fn become_ready(memory: &mut Memory, t: u8)
+    requires { Arrives memory.old t }
+    ensures { memory.new ≡ become_ready memory.old t }
 {
-    let p = tasks::base(tasks, t);
-    queues::push_tail(head, queues, p, t as u8);
-    tasks::set_place(tasks, t, Place::Ready);
+    let p = memory.base(t);
+    memory.push_tail(p, t);
+    memory.set_place(t, Place::Ready);
 }
 
 // The running task t, whose active priority is p, stops, and goes to the head of its queue.
-pub fn preempt(
-    head: &mut [u64; HEAD_WIDTH],
-    tasks: &mut [u64],
-    held: &[u8; HELD_CELLS],
-    ceilings: &[u8; Roster::OBJECTS],
-    queues: &mut [u8],
-    t: usize,
-    p: Priority,
-)
-    requires laid_out { LaidOut head.old tasks.old held.now ceilings.now queues.old }
-    requires joins { Joins (model_of head.old tasks.old held.now ceilings.now queues.old) t }
-    requires p_value { p.0 ≡ active (model_of head.old tasks.old held.now ceilings.now queues.old) t }
-    ensures { Means head.new tasks.new held.now ceilings.now queues.new
-        (preempt
-        (model_of head.old tasks.old held.now ceilings.now queues.old)
-        t) }
+#[tactic(auto, unfolding(rules::specs::Moves::preempt, rules::specs::Moves::stopped))]
+pub fn preempt(memory: &mut Memory, t: u8, p: Priority)
+    requires joins { Joins memory.old t }
+    requires level { p.0 ≡ active memory.old t }
+    ensures { memory.new ≡ preempt memory.old t }
 {
-    queues::push_head(head, queues, p, t as u8);
-    tasks::set_place(tasks, t, Place::Ready);
-    head[RUNNING_CELL] = 0;
+    memory.push_head(p, t);
+    memory.set_place(t, Place::Ready);
+    memory.set_running(None);
 }
 
 // The head of the queue for p runs.
-pub fn start(
-    head: &mut [u64; HEAD_WIDTH],
-    tasks: &mut [u64],
-    held: &[u8; HELD_CELLS],
-    ceilings: &[u8; Roster::OBJECTS],
-    queues: &mut [u8],
-    p: Priority,
-)
-    requires laid_out { LaidOut head.old tasks.old held.now ceilings.now queues.old }
-    requires starts { Starts (model_of head.old tasks.old held.now ceilings.now queues.old) p.0 }
-    ensures { Means head.new tasks.new held.now ceilings.now queues.new
-        (start
-        (model_of head.old tasks.old held.now ceilings.now queues.old)
-        p.0) }
+#[tactic(auto, unfolding(rules::specs::Moves::start))]
+pub fn start(memory: &mut Memory, p: Priority)
+    requires { Starts memory.old p.0 }
+    ensures { memory.new ≡ start memory.old p.0 }
 {
-    let t = queues::head(queues, p);
-    queues::pop(head, queues, p);
-    tasks::set_place(tasks, t as usize, Place::Running);
-    head[RUNNING_CELL] = t as u64 + 1;
+    let t = memory.head_of(p);
+    memory.pop(p);
+    memory.set_place(t, Place::Running);
+    memory.set_running(Some(t));
 }
 
 // The active priority of the running task; 0, which is below every queue's, where nobody runs.
-fn level(
-    head: &[u64; HEAD_WIDTH],
-    tasks: &[u64],
-    held: &[u8; HELD_CELLS],
-    ceilings: &[u8; Roster::OBJECTS],
-    queues: &[u8],
-) -> Priority
-    requires laid_out { LaidOut head.now tasks.now held.now ceilings.now queues.now }
-    requires dispatches { Dispatches (model_of head.now tasks.now held.now ceilings.now queues.now) }
-    ensures { result.0 ≡
-        level_of
-        (model_of head.now tasks.now held.now ceilings.now queues.now) }
+fn level(memory: &Memory) -> Priority
+    requires { Dispatches memory.now }
+    ensures { result.0 ≡ level_of memory.entry.now }
 {
-    let running = head[RUNNING_CELL];
-    if running == 0 {
-        return Priority(0);
+    match memory.running() {
+        None => Priority(0),
+        Some(t) => memory.active_inside(t),
     }
-    priorities::active_inside(head, tasks, held, ceilings, queues, (running - 1) as usize)
 }
 
 // The running task, if there is one, whose active priority is p, goes to the head of its queue.
-fn vacate(
-    head: &mut [u64; HEAD_WIDTH],
-    tasks: &mut [u64],
-    held: &[u8; HELD_CELLS],
-    ceilings: &[u8; Roster::OBJECTS],
-    queues: &mut [u8],
-    p: Priority,
-)
-    requires laid_out { LaidOut head.old tasks.old held.now ceilings.now queues.old }
-    requires dispatches { Dispatches (model_of head.old tasks.old held.now ceilings.now queues.old) }
-    requires p_value { p.0 ≡ level_of (model_of head.old tasks.old held.now ceilings.now queues.old) }
-    ensures { Means head.new tasks.new held.now ceilings.now queues.new
-        (vacated
-        (model_of head.old tasks.old held.now ceilings.now queues.old)) }
+fn vacate(memory: &mut Memory, p: Priority)
+    requires dispatches { Dispatches memory.old }
+    requires level { p.0 ≡ level_of memory.old }
+    ensures { memory.new ≡ vacated memory.old }
 {
-    let running = head[RUNNING_CELL];
-    if running == 0 {
-        return;
+    if let Some(t) = memory.running() {
+        preempt(memory, t, p);
     }
-    preempt(
-        head,
-        tasks,
-        held,
-        ceilings,
-        queues,
-        (running - 1) as usize,
-        p,
-    );
 }
 
 // The head of the highest queue runs, if it is higher than the running task or nobody runs.
-pub fn dispatch(
-    head: &mut [u64; HEAD_WIDTH],
-    tasks: &mut [u64],
-    held: &[u8; HELD_CELLS],
-    ceilings: &[u8; Roster::OBJECTS],
-    queues: &mut [u8],
-)
-    requires laid_out { LaidOut head.old tasks.old held.now ceilings.now queues.old }
-    requires dispatches { Dispatches (model_of head.old tasks.old held.now ceilings.now queues.old) }
-    ensures { Means head.new tasks.new held.now ceilings.now queues.new
-        (dispatch
-        (model_of head.old tasks.old held.now ceilings.now queues.old)) }
+pub fn dispatch(memory: &mut Memory)
+    requires { Dispatches memory.old }
+    ensures { memory.new ≡ dispatch memory.old }
 {
-    let p = queues::highest(head, queues);
-    let a = level(head, tasks, held, ceilings, queues);
-    if p.0 <= a.0 {
-        return;
+    let p = memory.highest();
+    let a = level(memory);
+    if p > a {
+        vacate(memory, a);
+        start(memory, p);
     }
-    vacate(head, tasks, held, ceilings, queues, a);
-    start(head, tasks, held, ceilings, queues, p);
 }

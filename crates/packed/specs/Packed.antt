@@ -1,22 +1,17 @@
 -- How an exported function hands back more than one number.
-use Rattle.std.specs.Prelude.{cond, List, ℕ, ◌+◌, ◌*◌}
-use Rattle.format.specs.Answers.{number_of, task_of, position_of, passed}
+use Rattle.std.specs.Prelude.{cond, List, ℕ, ◌+◌, ◌*◌, Result, Ok, Err}
+use Rattle.format.specs.Answers.{Verdict, fault_number, number_of, task_of, position_of, passed}
 use Rattle.format.specs.Format.{start_at}
 use Rattle.format.specs.Form.{script_answer}
 use Rattle.format.specs.Limits.{enter_code, leave_code, delay_code, work_code, suspend_code, release_code, set_code, again_code}
-use Rattle.format.specs.declared.Verdict.{Verdict}
+use Rattle.format.specs.declared.Fault.{Fault}
+use Rattle.rules.specs.declared.Priority.{Priority}
 use Rattle.format.specs.declared.Step.{Step}
 use Rattle.format.specs.declared.Step.TheVariants.{Enter, Leave, Delay, Work, Suspend, Release, Set, Again, Finish}
-use Rattle.format.specs.declared.PriorityFound.{PriorityFound}
-use Rattle.format.specs.declared.PriorityFound.TheVariants as P
-use Rattle.format.specs.declared.CountFound.{CountFound}
-use Rattle.format.specs.declared.CountFound.TheVariants as N
-use Rattle.format.specs.declared.StepFound.{StepFound}
-use Rattle.format.specs.declared.StepFound.TheVariants as S
 use Rattle.trace.specs.Answers as Run
-use Rattle.trace.specs.declared.RunAnswer.{RunAnswer}
+use Rattle.trace.specs.Answers.{RunAnswer}
 use Rattle.encoding.specs.Answers as Write
-use Rattle.encoding.specs.declared.WriteAnswer.{WriteAnswer}
+use Rattle.encoding.specs.Answers.{WriteAnswer}
 
 -- a step's position is below 2 to the 16: a roster is shorter, and the writer's lengths have 16 bits
 abbrev pub last_position : ℕ
@@ -39,14 +34,10 @@ packed_write a = packed (Write.number_of a) (Write.task_of a) (Write.position_of
 unfoldable pub script_start : List ℕ → ℕ → ℕ
 script_start s t = cond (passed (script_answer s t)) (start_at s t) 0
 
--- what a reader finds: 0 and 256 times the value, or the number of its refusal
-abbrev pub packed_priority : PriorityFound → ℕ
-packed_priority (P.Found p) = 256 * p.0
-packed_priority (P.Refused v) = number_of v
-
-abbrev pub packed_count : CountFound → ℕ
-packed_count (N.Found n) = 256 * n
-packed_count (N.Refused v) = number_of v
+-- what a reader finds, by its number: 0 and 256 times that, or the number of its refusal
+abbrev pub packed_found : {A : Type 0} → (A → ℕ) → Result A Fault → ℕ
+packed_found number (Ok x) = 256 * number x
+packed_found number (Err f) = fault_number f
 
 -- "A step has 4 bytes: code, a, b (2).": in one number, the code in its lowest byte; Finish, which no script has, is 0
 abbrev pub step_word : ℕ → ℕ → ℕ → ℕ
@@ -63,6 +54,12 @@ word_of (Set t p) = step_word set_code t p.0
 word_of Again = step_word again_code 0 0
 word_of Finish = 0
 
-abbrev pub packed_step : StepFound → ℕ
-packed_step (S.Found x) = 256 * word_of x
-packed_step (S.Refused v) = number_of v
+-- of a base or a ceiling, of how many steps there are, and of one of them
+abbrev pub packed_priority : Result Priority Fault → ℕ
+packed_priority found = packed_found (λ p. p.0) found
+
+abbrev pub packed_count : Result ℕ Fault → ℕ
+packed_count found = packed_found (λ n. n) found
+
+abbrev pub packed_step : Result Step Fault → ℕ
+packed_step found = packed_found word_of found

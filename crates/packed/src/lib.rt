@@ -2,57 +2,76 @@
 // what a reader of a roster finds.
 #![tactic(auto)]
 
-ghost use Rattle.std.specs.Prelude.{◌≡◌, ◌<◌, ◌≤◌};
-ghost use Rattle.packed.specs.Packed.{last_position, packed, packed_priority, step_word, word_of, packed_step};
+ghost use Rattle.std.specs.Prelude.{◌≡◌, ℕ, ◌<◌, ◌≤◌, IfOk};
+ghost use Rattle.packed.specs.Packed.{last_position, packed, packed_found, step_word, word_of};
 
-use format::{PriorityFound, Step, StepFound};
+use format::{Fault, Placed, Step};
+use rules::{Numbered, Priority};
 
 // An answer: its number, 256 times the task, 65536 times the step.
-pub fn pack(number: u8, task: u8, position: usize) -> u64
-    requires { position ≤ last_position }
-    ensures { result ≡ packed number task position }
+#[tactic(auto, unfolding(crate::specs::Packed::packed))]
+pub fn pack<A: Placed + Copy>(answer: A) -> u64
+    requires { A.position answer ≤ last_position }
+    ensures { result ≡ packed (A.number answer) (A.task answer) (A.position answer) }
 {
-    number as u64 + 256 * task as u64 + 65536 * position as u64
+    answer.number() as u64 + 256 * answer.task() as u64 + 65536 * answer.position() as u64
 }
 
-pub fn pack_priority(found: PriorityFound) -> u64
-    ensures { result ≡ packed_priority found }
-{
-    match found {
-        PriorityFound::Found(p) => 256 * (p.0 as u64),
-        PriorityFound::Refused(v) => v.number() as u64,
+// What a reader finds, in one number.
+pub trait Word {
+    ghost word: { Self → ℕ };
+
+    fn word(self) -> u64
+        ensures { result ≡ word self };
+}
+
+impl Word for Priority {
+    ghost word = { λ p. p.0 };
+
+    fn word(self) -> u64 {
+        self.0 as u64
+    }
+}
+
+impl Word for usize {
+    ghost word = { λ n. n };
+
+    fn word(self) -> u64 {
+        self as u64
+    }
+}
+
+impl Word for Step {
+    ghost word = { word_of };
+
+    fn word(self) -> u64 {
+        match self {
+            Step::Enter(o) => step_word(Step::ENTER, o, 0),
+            Step::Leave(o) => step_word(Step::LEAVE, o, 0),
+            Step::Delay(d) => step_word(Step::DELAY, 0, d),
+            Step::Work => step_word(Step::WORK, 0, 0),
+            Step::Suspend => step_word(Step::SUSPEND, 0, 0),
+            Step::Release(t) => step_word(Step::RELEASE, t, 0),
+            Step::Set(t, p) => step_word(Step::SET, t, p.0 as u16),
+            Step::Again => step_word(Step::AGAIN, 0, 0),
+            Step::Finish => 0,
+        }
     }
 }
 
 fn step_word(code: u8, a: u8, b: u16) -> u64
-    ensures value { result ≡ step_word code a b }
-    ensures upper_bound { result < 4294967296 }
+    ensures { result ≡ step_word code a b }
 {
     code as u64 + 256 * (a as u64) + 65536 * (b as u64)
 }
 
-fn word_of(x: Step) -> u64
-    ensures value { result ≡ word_of x }
-    ensures upper_bound { result < 4294967296 }
-{
-    match x {
-        Step::Enter(o) => step_word(Step::ENTER, o, 0),
-        Step::Leave(o) => step_word(Step::LEAVE, o, 0),
-        Step::Delay(d) => step_word(Step::DELAY, 0, d),
-        Step::Work => step_word(Step::WORK, 0, 0),
-        Step::Suspend => step_word(Step::SUSPEND, 0, 0),
-        Step::Release(t) => step_word(Step::RELEASE, t, 0),
-        Step::Set(t, p) => step_word(Step::SET, t, p.0 as u16),
-        Step::Again => step_word(Step::AGAIN, 0, 0),
-        Step::Finish => 0,
-    }
-}
-
-pub fn pack_step(found: StepFound) -> u64
-    ensures { result ≡ packed_step found }
+// 256 times what is found, or the number of the refusal.
+pub fn pack_found<T: Word>(found: Result<T, Fault>) -> u64
+    requires { IfOk found (λ x. T.word x < 4294967296) }
+    ensures { result ≡ packed_found T.word found }
 {
     match found {
-        StepFound::Found(x) => 256 * word_of(x),
-        StepFound::Refused(v) => v.number() as u64,
+        Ok(x) => 256 * x.word(),
+        Err(fault) => fault.number() as u64,
     }
 }

@@ -4,7 +4,6 @@
 ghost use Rattle.std.specs.Prelude.{◌≡◌, ◌+◌, ◌<◌, ◌≤◌, length, take, drop, IfOk, IfSome};
 ghost use Rattle.std.specs.Io.KnownBytes.{Consumes, IsAtEnd};
 ghost use Rattle.lines.specs.Printed.{lines_enough, printed};
-ghost use Rattle.program.specs.Counts.{IsPrefixLen};
 
 use std::fs::File;
 use std::io;
@@ -37,32 +36,29 @@ fn read_at<R: Read>(input: &mut R, buffer: &mut [u8], at: usize) -> io::Result<u
     input.read(&mut buffer[at..])
 }
 
-// Reads to the end of the input: how many bytes stand at the start of the buffer. What is longer than the buffer, or fails on the way,
-// counts as filling it: that is too long for a roster and for events, so the run answers 11 or 21. A part is never taken for the whole.
-fn read_to_end<R: Read>(input: &mut R, buffer: &mut [u8]) -> usize
-    ensures prefix_len { IsPrefixLen result buffer.new }
-    ensures whole { result < length buffer.new → IfSome (R.remaining input.old) (λ bytes. take result buffer.new ≡ bytes) }
+// Reads to the end of the input: what was read, at the start of the buffer. What is longer than the buffer, or fails on the way, counts
+// as filling it: that is too long for a roster and for events, so the run answers 11 or 21. A part is never taken for the whole.
+fn read_to_end<'a, R: Read>(input: &mut R, buffer: &'a mut [u8]) -> &'a [u8]
+    ensures whole { length result.now < length buffer.old → IfSome (R.remaining input.old) (λ bytes. result.now ≡ bytes) }
 {
     let mut done: usize = 0;
     while done < buffer.len() {
         let Ok(n) = read_at(input, buffer, done) else {
-            return buffer.len();
+            return buffer;
         };
         if n == 0 {
             break;
         }
         done += n;
     }
-    done
+    &buffer[..done]
 }
 
 // The roster's bytes; a file that cannot be opened has none.
-fn read_roster(rt: &impl Files, buffer: &mut [u8]) -> usize
-    ensures { IsPrefixLen result buffer.new }
-{
+fn read_roster<'a>(rt: &impl Files, buffer: &'a mut [u8]) -> &'a [u8] {
     match File::open(rt, "roster.bin") {
         Ok(mut file) => read_to_end(&mut file, buffer),
-        Err(_) => 0,
+        Err(_) => &[],
     }
 }
 
@@ -85,34 +81,33 @@ fn skip_rest(input: &mut impl Read) {
     }
 }
 
-fn read_events<R: Read>(input: &mut R, buffer: &mut [u8]) -> usize
-    ensures prefix_len { IsPrefixLen result buffer.new }
-    ensures whole { result < length buffer.new → IfSome (R.remaining input.old) (λ bytes. take result buffer.new ≡ bytes) }
+fn read_events<'a, R: Read>(input: &mut R, buffer: &'a mut [u8]) -> &'a [u8]
+    ensures whole { length result.now < length buffer.old → IfSome (R.remaining input.old) (λ bytes. result.now ≡ bytes) }
 {
-    let n = read_to_end(input, buffer);
-    if n == buffer.len() {
+    let room = buffer.len();
+    let events = read_to_end(input, buffer);
+    if events.len() == room {
         skip_rest(input);
     }
-    n
+    events
 }
 
 // What the program prints, at the start of `out`.
-fn text(roster: &[u8], events: &[u8], out: &mut [u8]) -> usize
+fn text<'a>(roster: &[u8], events: &[u8], out: &'a mut [u8]) -> &'a [u8]
     requires { lines_enough ≤ length out.old }
-    ensures prefix_len { IsPrefixLen result out.new }
-    ensures out_after { take result out.new ≡ printed roster.now events.now }
+    ensures { result.now ≡ printed roster.now events.now }
 {
     let mut replies = [0u8; REPLIES_ROOM];
-    printed(roster, events, &mut replies, out)
+    let size = printed(roster, events, &mut replies, out);
+    &out[..size]
 }
 
 // Runs roster.bin under the events of standard input and prints the lines. Only a failed write is an error.
 pub fn run_files(rt: &(impl Files + Input + Print)) -> io::Result<()> {
     let mut roster = [0u8; BUFFER_SIZE];
-    let roster_size = read_roster(rt, &mut roster);
     let mut events = [0u8; BUFFER_SIZE];
-    let events_size = read_events(&mut rt.reader(), &mut events);
     let mut out = [0u8; BUFFER_SIZE];
-    let size = text(&roster[..roster_size], &events[..events_size], &mut out);
-    rt.write_all(&out[..size])
+    let roster = read_roster(rt, &mut roster);
+    let events = read_events(&mut rt.reader(), &mut events);
+    rt.write_all(text(roster, events, &mut out))
 }

@@ -15,10 +15,10 @@ use trace::sizes::{EVENT_SIZE, REPLY_SIZE};
 fn replies_written(answer: RunAnswer, events: &[u8]) -> usize
     ensures { result ≡ cond (ran answer) (reply_size * event_count events.now) 0 }
 {
-    if answer.number() == 0 {
-        return REPLY_SIZE * (events.len() / EVENT_SIZE);
+    match answer {
+        Ok(()) => REPLY_SIZE * (events.len() / EVENT_SIZE),
+        Err(_) => 0,
     }
-    0
 }
 
 // Runs a roster under events, the replies into `replies`, and makes the lines of that run at the start of `out`: how many bytes they

@@ -11,13 +11,5 @@ use rules::Priority;
 pub fn all_in_range(values: &[u8]) -> bool
     ensures { result ≡ all_of in_range values.now }
 {
-    let mut i: usize = 0;
-    while i < values.len() {
-        if Priority(values[i]).in_range() {
-            i += 1;
-        } else {
-            return false;
-        }
-    }
-    true
+    values.iter().all(|&v| Priority(v).in_range())
 }

@@ -1,78 +1,98 @@
-// What a script holds: a list of objects, outermost first, lent as the part of a stack that is in use.
-ghost use Rattle.std.specs.Prelude.{◌≡◌, true, ◌-◌, ◌≤◌, length, take};
+// What a script holds: a list of objects, outermost first, which is what clauses see of it.
+ghost use Rattle.std.specs.Prelude.{◌≡◌, true, List, [], ◌∷◌, ◌++◌, ℕ, ◌-◌, ◌≤◌, ◌<◌, length, take};
 ghost use Rattle.rules.specs.Limits.{object_limit};
 ghost use Rattle.rules.specs.Model.{highest_of};
 ghost use Rattle.rules.specs.Sound.{rising};
-ghost use Rattle.format.specs.Check.{is_held, is_innermost, held_after};
-ghost use Rattle.roster.specs.Held.{Stacked};
+ghost use Rattle.format.specs.Check.{something, is_held, is_innermost, held_after};
 
 use format::Step;
-use rules::Priority;
+use rules::{Priority, Roster};
+use std::marker::Model;
 
-pub fn is_held(held: &[u8], o: u8) -> bool
-    ensures { result ≡ is_held held.now o }
-{
-    let n = held.len();
-    let mut i: usize = 0;
-    while i < n {
-        if held[i] == o {
-            return true;
+#[derive(Drop)]
+pub struct Held {
+    depth: usize,
+    cells: [u8; Roster::OBJECTS],
+}
+
+impl Model for Held {
+    ghost Value = { List ℕ };
+
+    ghost view = { λ h. take h.depth h.cells };
+
+    ghost invariant = { λ h. h.depth ≤ object_limit };
+}
+
+impl Held {
+    pub fn new() -> Held
+        ensures { result ≡ [] }
+    {
+        Held {
+            depth: 0,
+            cells: [0; Roster::OBJECTS],
         }
-        i += 1;
     }
-    false
-}
 
-pub fn is_innermost(held: &[u8], o: u8) -> bool
-    ensures { result ≡ is_innermost held.now o }
-{
-    let n = held.len();
-    if n == 0 {
-        return false;
+    fn objects(&self) -> &[u8]
+        ensures { result.now ≡ self.now }
+    {
+        &self.cells[..self.depth]
     }
-    held[n - 1] == o
-}
 
-// The highest of a priority and the ceilings of what is held: as they do not fall inwards, the innermost one's.
-pub fn highest(ceilings: &[u8], held: &[u8], top: Priority) -> Priority
-    requires { rising ceilings.now top.0 held.now ≡ true }
-    ensures { result.0 ≡ highest_of ceilings.now top.0 held.now }
-{
-    let n = held.len();
-    if n == 0 {
-        return top;
+    pub fn something(&self) -> bool
+        ensures { result ≡ something self.now }
+    {
+        !self.objects().is_empty()
     }
-    let o = held[n - 1] as usize;
-    Priority(words::byte_at(ceilings, o))
-}
 
-fn less_one(n: usize) -> usize
-    ensures { result ≡ n - 1 }
-{
-    if n == 0 {
-        return 0;
+    pub fn contains(&self, o: u8) -> bool
+        ensures { result ≡ is_held self.now o }
+    {
+        self.objects().iter().any(|&held| held == o)
     }
-    n - 1
-}
 
-// What a step leaves held, in the same cells: how many of them.
-pub fn after(cells: &mut [u8], depth: usize, x: Step) -> usize
-    requires stacked { Stacked cells.old depth (take depth cells.old) }
-    requires x_len_bound { length (held_after (take depth cells.old) x) ≤ object_limit }
-    ensures { Stacked cells.new result (held_after (take depth cells.old) x) }
-{
-    match x {
-        Step::Enter(o) => {
-            cells[depth] = o;
-            depth + 1
+    pub fn is_innermost(&self, o: u8) -> bool
+        ensures { result ≡ is_innermost self.now o }
+    {
+        self.objects().last() == Some(&o)
+    }
+
+    // The highest of a priority and the ceilings of what is held: as they do not fall inwards, the innermost one's.
+    #[tactic(auto, using(crate::proofs::StackLaws::highest_laws))]
+    pub fn highest(&self, ceilings: &[u8], top: Priority) -> Priority
+        requires { rising ceilings.now top.0 self.now ≡ true }
+        ensures { result.0 ≡ highest_of ceilings.now top.0 self.now }
+    {
+        match self.objects().last() {
+            Some(&o) => Priority(words::byte_at(ceilings, o as usize)),
+            None => top,
         }
-        Step::Leave(_) => less_one(depth),
-        Step::Delay(_) => depth,
-        Step::Work => depth,
-        Step::Suspend => depth,
-        Step::Release(_) => depth,
-        Step::Set(_, _) => depth,
-        Step::Again => depth,
-        Step::Finish => depth,
+    }
+
+    fn push(&mut self, o: u8)
+        requires { length self.old < object_limit }
+        ensures { self.new ≡ self.old ++ o ∷ [] }
+    {
+        self.cells[self.depth] = o;
+        self.depth += 1;
+    }
+
+    fn pop(&mut self)
+        ensures { self.new ≡ take (length self.old - 1) self.old }
+    {
+        self.depth = self.depth.saturating_sub(1);
+    }
+
+    // What a step leaves held.
+    #[tactic(auto, unfolding(format::specs::Check::held_after))]
+    pub fn after(&mut self, x: Step)
+        requires { length (held_after self.old x) ≤ object_limit }
+        ensures { self.new ≡ held_after self.old x }
+    {
+        match x {
+            Step::Enter(o) => self.push(o),
+            Step::Leave(_) => self.pop(),
+            _ => {}
+        }
     }
 }

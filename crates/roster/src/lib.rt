@@ -11,4 +11,4 @@ mod scripts;
 pub use checks::check;
 pub use forms::form;
 pub use readers::{base, ceiling, step, step_count};
-pub use scripts::{script, script_answer};
+pub use scripts::{listed_task, script, script_answer};

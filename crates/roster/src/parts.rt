@@ -4,6 +4,7 @@ ghost use Rattle.format.specs.Limits.{task_row_size};
 ghost use Rattle.format.specs.Format.{task_row, start_at, length_at, part_at};
 
 // The bytes of a task's script; its row and the script are there.
+#[tactic(auto, unfolding(format::specs::Format::part_at, format::specs::Format::start_at, format::specs::Format::length_at))]
 pub fn script_part(s: &[u8], t: u8) -> &[u8]
     requires task_row_size_in_bounds { task_row s.now t + task_row_size ≤ length s.now }
     requires t_in_bounds { start_at s.now t + length_at s.now t ≤ length s.now }
@@ -12,6 +13,5 @@ pub fn script_part(s: &[u8], t: u8) -> &[u8]
     let row = fields::task_row(s, t) as usize;
     let start = words::word_in(s, row + 2) as usize;
     let size = words::word_in(s, row + 4) as usize;
-    let end = start + size;
-    &s[start..end]
+    &s[start..start + size]
 }

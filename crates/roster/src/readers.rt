@@ -1,69 +1,56 @@
 // What a roster says of one task or object: each reader gives it, or why there is none.
-ghost use Rattle.std.specs.Prelude.{◌≡◌};
+ghost use Rattle.std.specs.Prelude.{◌≡◌, ◌≤◌, Ok, Err, IfOk, MatchResult};
+ghost use Rattle.rules.specs.Limits.{largest_roster};
 ghost use Rattle.format.specs.Readers.{object_answer, base_found, ceiling_found, count_found, step_found};
 
 use crate::forms;
-use crate::parts::script_part;
-use crate::scripts::script_answer;
+use crate::scripts::{listed_script, listed_task};
 use fields::steps;
-use format::{CountFound, File, PriorityFound, StepFound, Verdict};
+use format::{Fault, File, Step};
+use rules::Priority;
 
 // The base of task t: 11 to 16, then 1.
-pub fn base(roster: &[u8], t: usize) -> PriorityFound
+#[tactic(auto, unfolding(format::specs::Readers::base_found))]
+pub fn base(roster: &[u8], t: usize) -> Result<Priority, Fault>
     ensures { result ≡ base_found roster.now t }
 {
-    let v = script_answer(roster, t);
-    if v.passed() {
-        return PriorityFound::Found(fields::base_of(roster, t as u8));
-    }
-    PriorityFound::Refused(v)
+    Ok(fields::base_of(roster, listed_task(roster, t)?))
 }
 
-fn object_answer(roster: &[u8], o: usize) -> Verdict
-    ensures { result ≡ object_answer roster.now o }
+// An object that is listed: 11 to 16, then 2.
+#[tactic(auto, unfolding(format::specs::Readers::object_answer))]
+fn listed_object(roster: &[u8], o: usize) -> Result<u8, Fault>
+    ensures { MatchResult result (λ u. (u ≡ o) × (object_answer roster.now o ≡ Ok tt)) (λ e. object_answer roster.now o ≡ Err e) }
 {
-    let v = forms::form(roster);
-    if !v.passed() {
-        return v;
+    forms::form(roster)?;
+    if o < fields::object_count(roster) as usize {
+        Ok(o as u8)
+    } else {
+        Err(Fault::NoSuchObject)
     }
-    let n = fields::object_count(roster) as usize;
-    if o < n {
-        return Verdict::Passed;
-    }
-    Verdict::NoSuchObject
 }
 
 // The ceiling of object o: 11 to 16, then 2.
-pub fn ceiling(roster: &[u8], o: usize) -> PriorityFound
+#[tactic(auto, unfolding(format::specs::Readers::ceiling_found))]
+pub fn ceiling(roster: &[u8], o: usize) -> Result<Priority, Fault>
     ensures { result ≡ ceiling_found roster.now o }
 {
-    let v = object_answer(roster, o);
-    if v.passed() {
-        return PriorityFound::Found(fields::ceiling_of(roster, o as u8));
-    }
-    PriorityFound::Refused(v)
+    Ok(fields::ceiling_of(roster, listed_object(roster, o)?))
 }
 
 // How many steps the script of task t has: 11 to 16, then 1.
-pub fn step_count(roster: &[u8], t: usize) -> CountFound
-    ensures { result ≡ count_found roster.now t }
+#[tactic(auto, using(format::proofs::ReaderLaws::part_laws), unfolding(format::specs::Readers::count_found))]
+pub fn step_count(roster: &[u8], t: usize) -> Result<usize, Fault>
+    ensures value { result ≡ count_found roster.now t }
+    ensures fits { IfOk result (λ n. n ≤ largest_roster) }
 {
-    let v = script_answer(roster, t);
-    if v.passed() {
-        let part = script_part(roster, t as u8);
-        return CountFound::Found(part.len() / File::STEP);
-    }
-    CountFound::Refused(v)
+    Ok(listed_script(roster, t)?.len() / File::STEP)
 }
 
 // The step at position k of task t's script, Finish at its end: 11 to 16, then 1.
-pub fn step(roster: &[u8], t: usize, k: usize) -> StepFound
+#[tactic(auto, using(format::proofs::ReaderLaws::part_laws), unfolding(format::specs::Readers::step_found))]
+pub fn step(roster: &[u8], t: usize, k: usize) -> Result<Step, Fault>
     ensures { result ≡ step_found roster.now t k }
 {
-    let v = script_answer(roster, t);
-    if v.passed() {
-        let part = script_part(roster, t as u8);
-        return StepFound::Found(steps::step_at(part, k));
-    }
-    StepFound::Refused(v)
+    Ok(steps::step_at(listed_script(roster, t)?, k))
 }

@@ -7,14 +7,13 @@ use native.Mathlib.Omega.{arith}
 use borrow.Author.Tests.{eqb-true, eqb-false, leb-true, leb-false}
 use lib.Dec.{eqb, leb}
 use lib.ListN.{length, get_or, set, drop, length-set}
+use Rattle.std.specs.Prelude.{None, Option, Some, ℕ}
 use Rattle.rules.specs.Limits.{task_limit, first_priority, last_priority}
 use Rattle.rules.specs.Model.{Model, TaskRecord, ceiling_of, active_of, with_place, task_at, queue, with_task, active, with_ready}
 use Rattle.rules.specs.Model.{with_running}
 use Rattle.rules.specs.Moves.{highest, stopped, become_ready, preempt, start, dispatch_by, dispatch}
 use Rattle.rules.specs.Sound.{queued, is_ready, is_running, runs}
 use Rattle.rules.specs.declared.Place.TheVariants.{Running, Ready}
-use Rattle.rules.specs.declared.Runner.{Runner}
-use Rattle.rules.specs.declared.Runner.TheVariants.{Nobody, Task}
 use Rattle.rules.specs.Lists.{times_in}
 use Rattle.rules.proofs.Choices.{split, compare, both_ways}
 use Rattle.rules.proofs.Counts.{times-same, times-behind, times-head, times_none, queued-at, Row, row-of}
@@ -41,7 +40,7 @@ module _ {ord : Bool} (m : Model) (x : ℕ) (c : Core ord m x) where
   act-high u h = active-high m.ceilings (task_at m u).base (task_at m u).held last_priority c.ceils (c.high u h)
 
   -- only the standing has to be shown anew where bases stay
-  pub again : (w : Runner) (qs : List (List ℕ)) (t : ℕ) (k : TaskRecord) (y : ℕ) → length qs ≡ last_priority →
+  pub again : (w : Option ℕ) (qs : List (List ℕ)) (t : ℕ) (k : TaskRecord) (y : ℕ) → length qs ≡ last_priority →
       first_priority ≤ base_of k → base_of k ≤ last_priority → Stand ord m.ceilings (set m.tasks t k) qs w y →
       Core ord (with_ready (with_running (with_task m t k) w) qs) y
   again w qs t k y e l h s = record {
@@ -123,7 +122,7 @@ module _ {ord : Bool} (m : Model) (c : Core ord m task_limit) where
   pub core-preempt : (t : ℕ) → 0 < runs m.running t → Core ord (preempt m t) task_limit
   unfolding preempt stopped
   core-preempt t r = let h = runner-in t r in
-      again m task_limit c Nobody _ t (with_place (task_at m t) Ready) task_limit (length-set m.ready _ _ ∙ c.queues) (c.low t h)
+      again m task_limit c None _ t (with_place (task_at m t) Ready) task_limit (length-set m.ready _ _ ∙ c.queues) (c.low t h)
       (c.high t h)
       (stand-preempt _ _ _ _ task_limit c.stand t (active m t - 1) c.queues h c.count r
       (omega (arith, act-low m task_limit c t h)) (omega (arith, act-high m task_limit c t h)))
@@ -137,7 +136,7 @@ pub record Highest (m : Model) (p : ℕ) : Type 0 where
 
 -- whoever is ready is not above the runner, and somebody runs
 pub record Top (m : Model) : Type 0 where
-  pub busy : (u : ℕ) → 0 < queued m.ready u → m.running ≡ Nobody → ⊥
+  pub busy : (u : ℕ) → 0 < queued m.ready u → m.running ≡ None → ⊥
   pub most : (t u : ℕ) → 0 < runs m.running t → 0 < queued m.ready u → active m u ≤ active m t
 
 pub highest-is : (m : Model) → (highest m ≡ 0 → ⊥) → Highest m (highest m)
@@ -185,7 +184,7 @@ module _ {ord : Bool} (m : Model) (p : ℕ) (c : Core ord m task_limit) (h : Hig
   pub core-start : Core ord (start m p) task_limit
   unfolding start
   core-start =
-      again m task_limit c (Task (get_or (queue m p) 0 0)) _ (get_or (queue m p) 0 0)
+      again m task_limit c (Some (get_or (queue m p) 0 0)) _ (get_or (queue m p) 0 0)
       (with_place (task_at m (get_or (queue m p) 0 0)) Running) task_limit (length-set m.ready _ _ ∙ c.queues)
       (c.low (get_or (queue m p) 0 0) head_in) (c.high (get_or (queue m p) 0 0) head_in)
       (stand-start _ _ _ _ task_limit c.stand (p - 1) c.queues (omega (arith, h.one, h.top)) c.count none h.full
@@ -257,7 +256,7 @@ highest-preempt m t p c h g i = record {
       h.empty q u k j;
 }
 
-nobody-runs : (u : ℕ) → runs Nobody u ≡ 0
+nobody-runs : (u : ℕ) → runs None u ≡ 0
 unfolding runs
 nobody-runs u = refl
 
@@ -270,9 +269,9 @@ pub record Settled (ord : Bool) (m : Model) : Type 0 where
   pub core : Core ord m task_limit
   pub top : Top m
 
-dispatched-for : {ord : Bool} (m : Model) → Core ord m task_limit → (w : Runner) → m.running ≡ w → Settled ord (dispatch_by m w)
+dispatched-for : {ord : Bool} (m : Model) → Core ord m task_limit → (w : Option ℕ) → m.running ≡ w → Settled ord (dispatch_by m w)
 unfolding dispatch_by highest
-dispatched-for {ord} m c Nobody e =
+dispatched-for {ord} m c None e =
     both_ways (Settled ord) (eqb (highest m) 0) m _
     (λ z. record {
       core = c;
@@ -287,7 +286,7 @@ dispatched-for {ord} m c Nobody e =
     })
   where
     none : (u : ℕ) → runs m.running u ≡ 0
-    none u = ap (λ (v : Runner). runs v u) e ∙ nobody-runs u
+    none u = ap (λ (v : Option ℕ). runs v u) e ∙ nobody-runs u
 
     idle : eqb (highest m) 0 ≡ true → (u : ℕ) → queued m.ready u ≡ 0
     idle z u = compare 1 (queued m.ready u)
@@ -300,7 +299,7 @@ dispatched-for {ord} m c Nobody e =
               (omega (arith, v.low, c.queues))),
         )))
         (λ g. omega arith)
-dispatched-for {ord} m c (Task t) e =
+dispatched-for {ord} m c (Some t) e =
     both_ways (Settled ord) (leb (highest m) (active m t)) m _
     (λ z. record {
       core = c;
@@ -317,7 +316,7 @@ dispatched-for {ord} m c (Task t) e =
     })
   where
     runs-t : 0 < runs m.running t
-    runs-t = omega (arith, ap (λ (v : Runner). runs v t) e, runs-self t)
+    runs-t = omega (arith, ap (λ (v : Option ℕ). runs v t) e, runs-self t)
 
     own : (a : ℕ) → 0 < runs m.running a → active m a ≡ active m t
     own a r = split a t (λ i. ap (active m) i) (λ n. absurd (omega (arith, r, runs-one m.running t a runs-t n)))

@@ -7,6 +7,7 @@ use native.Mathlib.Omega.{arith}
 use borrow.Author.Tests.{eqb-false, leb-false}
 use lib.Dec.{eqb, leb}
 use lib.ListN.{length, length-set}
+use Rattle.std.specs.Prelude.{None, Option, Some, ℕ}
 use Rattle.rules.specs.Limits.{task_limit}
 use Rattle.rules.specs.Model.{Model, TaskRecord, blank, with_place, task_at, active_of, active, with_ready, with_running}
 use Rattle.rules.specs.Model.{with_task}
@@ -14,8 +15,6 @@ use Rattle.rules.specs.Moves.{highest, head_of, stopped, become_ready, preempt, 
 use Rattle.rules.specs.Sound.{is_ready, is_running, runs}
 use Rattle.rules.specs.declared.Place.{Place}
 use Rattle.rules.specs.declared.Place.TheVariants.{Running, Ready, Delayed, Suspended, Ended}
-use Rattle.rules.specs.declared.Runner.{Runner}
-use Rattle.rules.specs.declared.Runner.TheVariants.{Nobody, Task}
 use Rattle.rules.proofs.Choices.{both_ways}
 use Rattle.rules.proofs.TaskLaws.{runs-self, runs-named, at-keeps}
 use Rattle.rules.proofs.Standing.{all_runs}
@@ -70,7 +69,7 @@ alike_then a b = record {
   each = λ u. b.each u ∙ a.each u;
 }
 
-pub alike-place : (m : Model) (t : ℕ) (x : Place) (qs : List (List ℕ)) (w : Runner) → upright x ≡ upright (task_at m t).place →
+pub alike-place : (m : Model) (t : ℕ) (x : Place) (qs : List (List ℕ)) (w : Option ℕ) → upright x ≡ upright (task_at m t).place →
     Alike m (with_ready (with_running (with_task m t (with_place (task_at m t) x)) w) qs)
 alike-place m t x qs w e = record {
   now = refl;
@@ -95,24 +94,24 @@ pub alike-start : (m : Model) (p : ℕ) → upright (task_at m (head_of m p)).pl
 unfolding start upright
 alike-start m p e = alike-place m (head_of m p) Running _ _ (sym e)
 
-pub runner-place : {ord : Bool} (m : Model) (t : ℕ) → Core ord m task_limit → m.running ≡ Task t → is_running (task_at m t).place ≡ 1
+pub runner-place : {ord : Bool} (m : Model) (t : ℕ) → Core ord m task_limit → m.running ≡ Some t → is_running (task_at m t).place ≡ 1
 runner-place m t c e =
-    omega (arith, all_runs _ _ _ _ task_limit c.stand c.count t, ap (λ (v : Runner). runs v t) e, runs-self t)
+    omega (arith, all_runs _ _ _ _ task_limit c.stand c.count t, ap (λ (v : Option ℕ). runs v t) e, runs-self t)
 
-none_named : (m : Model) → m.running ≡ Nobody → (u : ℕ) → runs m.running u ≡ 0
+none_named : (m : Model) → m.running ≡ None → (u : ℕ) → runs m.running u ≡ 0
 unfolding runs
-none_named m e u = ap (λ (v : Runner). runs v u) e
+none_named m e u = ap (λ (v : Option ℕ). runs v u) e
 
 none-preempt : (m : Model) (t u : ℕ) → runs (preempt m t).running u ≡ 0
 unfolding preempt stopped runs
 none-preempt m t u = refl
 
-alike-by : {ord : Bool} (m : Model) → Core ord m task_limit → (w : Runner) → m.running ≡ w → Alike m (dispatch_by m w)
+alike-by : {ord : Bool} (m : Model) → Core ord m task_limit → (w : Option ℕ) → m.running ≡ w → Alike m (dispatch_by m w)
 unfolding dispatch_by
-alike-by m c Nobody e =
+alike-by m c None e =
     both_ways (Alike m) (eqb (highest m) 0) m _ (λ z. alike m)
     (λ z. alike-start m (highest m) (ready-upright _ (head-ready m (highest m) c (highest-is m (eqb-false _ 0 z)) (none_named m e))))
-alike-by m c (Task t) e =
+alike-by m c (Some t) e =
     both_ways (Alike m) (leb (highest m) (active m t)) m _ (λ z. alike m)
     (λ z.
     let r = runs-named m.running t e in

@@ -7,37 +7,30 @@ use native.Mathlib.Omega.{arith}
 use borrow.Author.Tests.{ltb-false}
 use lib.ListN.{length, length-set}
 use lib.Seq.{set-set}
-use Rattle.rules.specs.Answers.{number_of}
-use Rattle.rules.specs.Model.{Model, TaskRecord, none, waits, blank, with_base, with_waiting, task_at, with_task, queue, with_tasks}
+use Rattle.std.specs.Prelude.{None, Some, Ok}
+use Rattle.rules.specs.Model.{Model, TaskRecord, blank, with_base, with_waiting, task_at, with_task, queue, with_tasks}
 use Rattle.rules.specs.Model.{with_queue, active_of, active}
 use Rattle.rules.specs.Moves.{stopped, become_ready, dispatch}
 use Rattle.rules.specs.Lists.{without}
 use Rattle.rules.specs.Events.{inside, give_up, settle, requeue, rebase, apply}
 use Rattle.rules.specs.Sound.{is_ready, is_running}
 use Rattle.rules.specs.Moved.{Moved, accepted}
-use Rattle.rules.specs.declared.Answer.{Answer}
-use Rattle.rules.specs.declared.Answer.TheVariants.{Done}
 use Rattle.rules.specs.Effect.{effect}
 use Rattle.rules.specs.declared.Event.{Event}
 use Rattle.rules.specs.declared.Place.{Place}
 use Rattle.rules.specs.declared.Place.TheVariants.{Running, Ready, Delayed, Suspended, Ended}
-use Rattle.rules.specs.declared.Runner.TheVariants.{Nobody}
 use Rattle.rules.proofs.TaskLaws.{depth, at_same}
 use Rattle.rules.proofs.Levels.{bare}
 use Rattle.rules.proofs.MoveLaws.{Queued, queue-same, ready-tail}
 use Rattle.rules.proofs.EventLaws.{settle-inside, settle-none, settle-due, rebase-inside, rebase-outside}
 use Rattle.rules.proofs.Ways.{each_way}
 
--- a numbered refusal is not 0
-refuses : (a : Answer) → 0 < number_of a → a ≡ Done → ⊥
-refuses a h e = omega (arith, ap number_of e)
-
 -- an accepted event gives the dispatch of what it does
-pub done-is : (m : Model) (e : Event) → (apply m e).answer ≡ Done → apply m e ≡ accepted m.running (effect m e)
+pub done-is : (m : Model) (e : Event) → (apply m e).answer ≡ Ok tt → apply m e ≡ accepted m.running (effect m e)
 done-is m e =
-    each_way (λ (r : Moved). r.answer ≡ Done → r ≡ accepted m.running (effect m e)) m (λ a n d. absurd (refuses a n d)) e (λ d. refl)
+    each_way (λ (r : Moved). r.answer ≡ Ok tt → r ≡ accepted m.running (effect m e)) m (λ a d. absurd (cc d)) e (λ d. refl)
 
-pub done-model : (m : Model) (e : Event) → (apply m e).answer ≡ Done → (apply m e).model ≡ dispatch (effect m e)
+pub done-model : (m : Model) (e : Event) → (apply m e).answer ≡ Ok tt → (apply m e).model ≡ dispatch (effect m e)
 unfolding accepted
 done-model m e d = ap (λ (r : Moved). r.model) (done-is m e d)
 
@@ -52,17 +45,17 @@ module _ (m : Model) (t : ℕ) where
       ((settle (give_up m t) t).ready ≡ m.ready) × ((settle (give_up m t) t).running ≡ m.running)
   leave-holds-on e = let s = settle-inside (give_up m t) t e in (ap (λ (n : Model). n.ready) s, ap (λ (n : Model). n.running) s)
 
-  pub leave-runs-on : inside (task_at (give_up m t) t) ≡ false → (task_at (give_up m t) t).waiting ≡ none →
+  pub leave-runs-on : inside (task_at (give_up m t) t) ≡ false → (task_at (give_up m t) t).waiting ≡ None →
       ((settle (give_up m t) t).ready ≡ m.ready) × ((settle (give_up m t) t).running ≡ m.running)
   leave-runs-on e w = let s = settle-none (give_up m t) t e w in (ap (λ (n : Model). n.ready) s, ap (λ (n : Model). n.running) s)
 
   -- .. and otherwise the waiting base is its base, and it is the last in the queue for that
-  pub leave-last : (p : ℕ) → inside (task_at (give_up m t) t) ≡ false → (task_at (give_up m t) t).waiting ≡ waits p →
+  pub leave-last : (p : ℕ) → inside (task_at (give_up m t) t) ≡ false → (task_at (give_up m t) t).waiting ≡ Some p →
       t < length (give_up m t).tasks →
       Queued m p → queue (settle (give_up m t) t) p ≡ queue m p ++ (t ∷ [])
   unfolding stopped
   leave-last p e w h q =
-      let k = with_waiting (with_base (task_at (give_up m t) t) p) none in
+      let k = with_waiting (with_base (task_at (give_up m t) t) p) None in
       let n : Model = stopped (with_task (give_up m t) t k) in
       let is : task_at n t ≡ k = at_same (λ (v : TaskRecord). v) blank (give_up m t).tasks t k t refl h in
       let own : active n t ≡ p =
@@ -72,23 +65,23 @@ module _ (m : Model) (t : ℕ) where
 
   -- A Set inside an action changes neither base nor queues, and a later one replaces it
   pub set-waits : (p : ℕ) → inside (task_at m t) ≡ true → t < length m.tasks →
-      (task_at (rebase m t p) t ≡ with_waiting (task_at m t) (waits p)) × ((rebase m t p).ready ≡ m.ready) ×
+      (task_at (rebase m t p) t ≡ with_waiting (task_at m t) (Some p)) × ((rebase m t p).ready ≡ m.ready) ×
       ((rebase m t p).running ≡ m.running)
   set-waits p e h =
       let r = rebase-inside m t p e in (
-        ap (λ (n : Model). task_at n t) r ∙ at_same (λ (v : TaskRecord). v) blank m.tasks t (with_waiting (task_at m t) (waits p)) t refl h,
+        ap (λ (n : Model). task_at n t) r ∙ at_same (λ (v : TaskRecord). v) blank m.tasks t (with_waiting (task_at m t) (Some p)) t refl h,
         ap (λ (n : Model). n.ready) r,
         ap (λ (n : Model). n.running) r,
       )
 
   pub set-replaced : (p v : ℕ) → inside (task_at m t) ≡ true → t < length m.tasks → rebase (rebase m t p) t v ≡ rebase m t v
   set-replaced p v e h =
-      let k = with_waiting (task_at m t) (waits p) in
+      let k = with_waiting (task_at m t) (Some p) in
       let n : Model = with_task m t k in
       let is : task_at n t ≡ k = at_same (λ (u : TaskRecord). u) blank m.tasks t k t refl h in
       ap (λ (x : Model). rebase x t v) (rebase-inside m t p e) ∙ rebase-inside n t v (ap inside is ∙ e) ∙
-      ap (λ (u : TaskRecord). with_task n t (with_waiting u (waits v))) is ∙
-      ap (with_tasks m) (set-set m.tasks t k (with_waiting (task_at m t) (waits v))) ∙ sym (rebase-inside m t v e)
+      ap (λ (u : TaskRecord). with_task n t (with_waiting u (Some v))) is ∙
+      ap (with_tasks m) (set-set m.tasks t k (with_waiting (task_at m t) (Some v))) ∙ sym (rebase-inside m t v e)
 
 -- A Set outside an action moves the task whatever the value, the base that it has included: one that runs is stopped and stands last in
 -- the queue for p ..
@@ -107,7 +100,7 @@ module _ (m : Model) (t p : ℕ) (e : inside (task_at m t) ≡ false) where
       ap (active_of m.ceilings) (at_same (λ (v : TaskRecord). v) blank m.tasks t (with_base (task_at m t) p) t refl h) ∙ own p
 
   pub set-running-last : (task_at m t).place ≡ Running → t < length m.tasks → Queued m p →
-      (queue (rebase m t p) p ≡ queue m p ++ (t ∷ [])) × ((rebase m t p).running ≡ Nobody)
+      (queue (rebase m t p) p ≡ queue m p ++ (t ∷ [])) × ((rebase m t p).running ≡ None)
   unfolding requeue stopped become_ready
   set-running-last i h q = (
     ap (λ (n : Model). queue n p) (moves Running i) ∙ last_of (stopped based) t p (new h) (record { low = q.low; high = q.high }),

@@ -3,28 +3,27 @@ use mathlib.Core.Path.{◌≡◌, ap, ◌∙◌}
 use mathlib.Core.Bool.{true, false, cond, not}
 use Prim.Native.Nat.{ℕ, ◌+◌}
 use lib.Dec.{eqb}
+use Rattle.std.specs.Prelude.{None, Option, Some, ℕ}
 use Rattle.rules.specs.Priorities.{in_range}
-use Rattle.rules.specs.Model.{Model, none, waits, with_place, with_base, with_waiting, with_permit, task_at, with_task, active}
+use Rattle.rules.specs.Model.{Model, with_place, with_base, with_waiting, with_permit, task_at, with_task, active}
 use Rattle.rules.specs.Moves.{stopped, become_ready}
 use Rattle.rules.specs.Moved.{Moved, refused, accepted, refuse_if_nobody}
 use Rattle.rules.specs.Events.{no_task, no_object, holds, inside, take_hold, enter, innermost, give_up, settle_with, settle, leave}
 use Rattle.rules.specs.Events.{put_off, delay, rest, suspend, release_from, release, clock}
 use Rattle.rules.specs.Events.{requeue, rebase, is_ended, set_base, work, finish, bad_reading, over_ceiling, take_reading, end}
 use Rattle.rules.specs.declared.Place.TheVariants.{Delayed, Suspended}
-use Rattle.rules.specs.declared.Runner.{Runner}
-use Rattle.rules.specs.declared.Runner.TheVariants.{Nobody, Task}
-use Rattle.rules.specs.declared.Answer.TheVariants.{NoSuchTask, NoSuchObject, BadPriority, BadReading, NobodyRuns, EndedTask}
-use Rattle.rules.specs.declared.Answer.TheVariants.{InsideAction, AboveCeiling, NotInnermost}
+use Rattle.rules.specs.declared.Refusal.TheVariants.{NoSuchTask, NoSuchObject, BadPriority, BadReading, NobodyRuns, EndedTask}
+use Rattle.rules.specs.declared.Refusal.TheVariants.{InsideAction, AboveCeiling, NotInnermost}
 use Rattle.rules.proofs.Choices.{cond-true, cond-false}
 
 -- nobody runs; the task t runs
-by-nobody : (m : Model) (f : ℕ → Moved) → m.running ≡ Nobody → refuse_if_nobody m m.running f ≡ refused m NobodyRuns
+by-nobody : (m : Model) (f : ℕ → Moved) → m.running ≡ None → refuse_if_nobody m m.running f ≡ refused m NobodyRuns
 unfolding refuse_if_nobody
-by-nobody m f e = ap (λ (w : Runner). refuse_if_nobody m w f) e
+by-nobody m f e = ap (λ (w : Option ℕ). refuse_if_nobody m w f) e
 
-by-task : (m : Model) (f : ℕ → Moved) (t : ℕ) → m.running ≡ Task t → refuse_if_nobody m m.running f ≡ f t
+by-task : (m : Model) (f : ℕ → Moved) (t : ℕ) → m.running ≡ Some t → refuse_if_nobody m m.running f ≡ f t
 unfolding refuse_if_nobody
-by-task m f t e = ap (λ (w : Runner). refuse_if_nobody m w f) e
+by-task m f t e = ap (λ (w : Option ℕ). refuse_if_nobody m w f) e
 
 -- Enter
 module _ (m : Model) (o : ℕ) where
@@ -42,21 +41,21 @@ module _ (m : Model) (o : ℕ) where
   unfolding enter entering
   on-enter e = cond-false (no_object m o) (refused m NoSuchObject) (refuse_if_nobody m m.running entering) e
 
-  pub enter-5 : no_object m o ≡ false → m.running ≡ Nobody → enter m o ≡ refused m NobodyRuns
+  pub enter-5 : no_object m o ≡ false → m.running ≡ None → enter m o ≡ refused m NobodyRuns
   enter-5 e w = on-enter e ∙ by-nobody m entering w
 
-  pub enter-7 : (t : ℕ) → no_object m o ≡ false → m.running ≡ Task t → holds (task_at m t) o ≡ true → enter m o ≡ refused m InsideAction
+  pub enter-7 : (t : ℕ) → no_object m o ≡ false → m.running ≡ Some t → holds (task_at m t) o ≡ true → enter m o ≡ refused m InsideAction
   unfolding entering
   enter-7 t e w h = on-enter e ∙ by-task m entering t w ∙ cond-true (holds (task_at m t) o) (refused m InsideAction) _ h
 
-  pub enter-8 : (t : ℕ) → no_object m o ≡ false → m.running ≡ Task t → holds (task_at m t) o ≡ false →
+  pub enter-8 : (t : ℕ) → no_object m o ≡ false → m.running ≡ Some t → holds (task_at m t) o ≡ false →
       over_ceiling m o t ≡ true → enter m o ≡ refused m AboveCeiling
   unfolding entering
   enter-8 t e w h a =
       on-enter e ∙ by-task m entering t w ∙ cond-false (holds (task_at m t) o) (refused m InsideAction) _ h ∙
       cond-true (over_ceiling m o t) (refused m AboveCeiling) _ a
 
-  pub enter-0 : (t : ℕ) → no_object m o ≡ false → m.running ≡ Task t → holds (task_at m t) o ≡ false →
+  pub enter-0 : (t : ℕ) → no_object m o ≡ false → m.running ≡ Some t → holds (task_at m t) o ≡ false →
       over_ceiling m o t ≡ false → enter m o ≡ accepted m.running (take_hold m o t)
   unfolding entering
   enter-0 t e w h a =
@@ -76,16 +75,16 @@ module _ (m : Model) (o : ℕ) where
   unfolding leave leaving
   on-leave e = cond-false (no_object m o) (refused m NoSuchObject) (refuse_if_nobody m m.running leaving) e
 
-  pub leave-5 : no_object m o ≡ false → m.running ≡ Nobody → leave m o ≡ refused m NobodyRuns
+  pub leave-5 : no_object m o ≡ false → m.running ≡ None → leave m o ≡ refused m NobodyRuns
   leave-5 e w = on-leave e ∙ by-nobody m leaving w
 
-  pub leave-9 : (t : ℕ) → no_object m o ≡ false → m.running ≡ Task t → innermost (task_at m t) o ≡ false →
+  pub leave-9 : (t : ℕ) → no_object m o ≡ false → m.running ≡ Some t → innermost (task_at m t) o ≡ false →
       leave m o ≡ refused m NotInnermost
   unfolding leaving
   leave-9 t e w h =
       on-leave e ∙ by-task m leaving t w ∙ cond-true (not (innermost (task_at m t) o)) (refused m NotInnermost) _ (ap not h)
 
-  pub leave-0 : (t : ℕ) → no_object m o ≡ false → m.running ≡ Task t → innermost (task_at m t) o ≡ true →
+  pub leave-0 : (t : ℕ) → no_object m o ≡ false → m.running ≡ Some t → innermost (task_at m t) o ≡ true →
       leave m o ≡ accepted m.running (settle (give_up m t) t)
   unfolding leaving
   leave-0 t e w h =
@@ -96,12 +95,12 @@ pub settle-inside : (m : Model) (t : ℕ) → inside (task_at m t) ≡ true → 
 unfolding settle
 settle-inside m t e = cond-true (inside (task_at m t)) m _ e
 
-pub settle-none : (m : Model) (t : ℕ) → inside (task_at m t) ≡ false → (task_at m t).waiting ≡ none → settle m t ≡ m
+pub settle-none : (m : Model) (t : ℕ) → inside (task_at m t) ≡ false → (task_at m t).waiting ≡ None → settle m t ≡ m
 unfolding settle settle_with
 settle-none m t e w = cond-false (inside (task_at m t)) m (settle_with m t (task_at m t).waiting) e ∙ ap (settle_with m t) w
 
-pub settle-due : (m : Model) (t p : ℕ) → inside (task_at m t) ≡ false → (task_at m t).waiting ≡ waits p →
-    settle m t ≡ become_ready (stopped (with_task m t (with_waiting (with_base (task_at m t) p) none))) t
+pub settle-due : (m : Model) (t p : ℕ) → inside (task_at m t) ≡ false → (task_at m t).waiting ≡ Some p →
+    settle m t ≡ become_ready (stopped (with_task m t (with_waiting (with_base (task_at m t) p) None))) t
 unfolding settle settle_with
 settle-due m t p e w = cond-false (inside (task_at m t)) m (settle_with m t (task_at m t).waiting) e ∙ ap (settle_with m t) w
 
@@ -110,29 +109,29 @@ module _ (m : Model) (x : ℕ → Model) where
   outside : Moved
   outside = refuse_if_nobody m m.running (λ t. cond (inside (task_at m t)) (refused m InsideAction) (accepted m.running (x t)))
 
-  outside-5 : m.running ≡ Nobody → outside ≡ refused m NobodyRuns
+  outside-5 : m.running ≡ None → outside ≡ refused m NobodyRuns
   unfolding outside
   outside-5 w = by-nobody m _ w
 
-  outside-7 : (t : ℕ) → m.running ≡ Task t → inside (task_at m t) ≡ true → outside ≡ refused m InsideAction
+  outside-7 : (t : ℕ) → m.running ≡ Some t → inside (task_at m t) ≡ true → outside ≡ refused m InsideAction
   unfolding outside
   outside-7 t w h = by-task m _ t w ∙ cond-true (inside (task_at m t)) (refused m InsideAction) (accepted m.running (x t)) h
 
-  outside-0 : (t : ℕ) → m.running ≡ Task t → inside (task_at m t) ≡ false → outside ≡ accepted m.running (x t)
+  outside-0 : (t : ℕ) → m.running ≡ Some t → inside (task_at m t) ≡ false → outside ≡ accepted m.running (x t)
   unfolding outside
   outside-0 t w h = by-task m _ t w ∙ cond-false (inside (task_at m t)) (refused m InsideAction) (accepted m.running (x t)) h
 
 -- Delay
 module _ (m : Model) (d : ℕ) where
-  pub delay-5 : m.running ≡ Nobody → delay m d ≡ refused m NobodyRuns
+  pub delay-5 : m.running ≡ None → delay m d ≡ refused m NobodyRuns
   unfolding delay outside
   delay-5 w = outside-5 m (λ t. put_off (stopped m) t d) w
 
-  pub delay-7 : (t : ℕ) → m.running ≡ Task t → inside (task_at m t) ≡ true → delay m d ≡ refused m InsideAction
+  pub delay-7 : (t : ℕ) → m.running ≡ Some t → inside (task_at m t) ≡ true → delay m d ≡ refused m InsideAction
   unfolding delay outside
   delay-7 t w h = outside-7 m (λ t. put_off (stopped m) t d) t w h
 
-  pub delay-0 : (t : ℕ) → m.running ≡ Task t → inside (task_at m t) ≡ false → delay m d ≡ accepted m.running (put_off (stopped m) t d)
+  pub delay-0 : (t : ℕ) → m.running ≡ Some t → inside (task_at m t) ≡ false → delay m d ≡ accepted m.running (put_off (stopped m) t d)
   unfolding delay outside
   delay-0 t w h = outside-0 m (λ t. put_off (stopped m) t d) t w h
 
@@ -146,15 +145,15 @@ put-until m t d e = cond-false (eqb d 0) (become_ready m t) _ e
 
 -- Suspend
 module _ (m : Model) where
-  pub suspend-5 : m.running ≡ Nobody → suspend m ≡ refused m NobodyRuns
+  pub suspend-5 : m.running ≡ None → suspend m ≡ refused m NobodyRuns
   unfolding suspend outside
   suspend-5 w = outside-5 m (rest m) w
 
-  pub suspend-7 : (t : ℕ) → m.running ≡ Task t → inside (task_at m t) ≡ true → suspend m ≡ refused m InsideAction
+  pub suspend-7 : (t : ℕ) → m.running ≡ Some t → inside (task_at m t) ≡ true → suspend m ≡ refused m InsideAction
   unfolding suspend outside
   suspend-7 t w h = outside-7 m (rest m) t w h
 
-  pub suspend-0 : (t : ℕ) → m.running ≡ Task t → inside (task_at m t) ≡ false → suspend m ≡ accepted m.running (rest m t)
+  pub suspend-0 : (t : ℕ) → m.running ≡ Some t → inside (task_at m t) ≡ false → suspend m ≡ accepted m.running (rest m t)
   unfolding suspend outside
   suspend-0 t w h = outside-0 m (rest m) t w h
 
@@ -168,24 +167,24 @@ rest-none m t e = cond-false (task_at m t).permit (with_task m t (with_permit (t
 
 -- Finish and Work
 module _ (m : Model) where
-  pub finish-5 : m.running ≡ Nobody → finish m ≡ refused m NobodyRuns
+  pub finish-5 : m.running ≡ None → finish m ≡ refused m NobodyRuns
   unfolding finish outside
   finish-5 w = outside-5 m (end m) w
 
-  pub finish-7 : (t : ℕ) → m.running ≡ Task t → inside (task_at m t) ≡ true → finish m ≡ refused m InsideAction
+  pub finish-7 : (t : ℕ) → m.running ≡ Some t → inside (task_at m t) ≡ true → finish m ≡ refused m InsideAction
   unfolding finish outside
   finish-7 t w h = outside-7 m (end m) t w h
 
-  pub finish-0 : (t : ℕ) → m.running ≡ Task t → inside (task_at m t) ≡ false →
+  pub finish-0 : (t : ℕ) → m.running ≡ Some t → inside (task_at m t) ≡ false →
       finish m ≡ accepted m.running (end m t)
   unfolding finish outside
   finish-0 t w h = outside-0 m (end m) t w h
 
-  pub work-5 : m.running ≡ Nobody → work m ≡ refused m NobodyRuns
+  pub work-5 : m.running ≡ None → work m ≡ refused m NobodyRuns
   unfolding work
   work-5 w = by-nobody m (λ t. accepted m.running m) w
 
-  pub work-0 : (t : ℕ) → m.running ≡ Task t → work m ≡ accepted m.running m
+  pub work-0 : (t : ℕ) → m.running ≡ Some t → work m ≡ accepted m.running m
   unfolding work
   work-0 t w = by-task m (λ t. accepted m.running m) t w
 
@@ -244,11 +243,11 @@ module _ (m : Model) (t p : ℕ) where
   set-0 e g h = on-known e g ∙ cond-false (is_ended (task_at m t).place) (refused m EndedTask) _ h
 
   -- inside an action the base waits; outside, the base changes and the task moves
-  pub rebase-inside : inside (task_at m t) ≡ true → rebase m t p ≡ with_task m t (with_waiting (task_at m t) (waits p))
+  pub rebase-inside : inside (task_at m t) ≡ true → rebase m t p ≡ with_task m t (with_waiting (task_at m t) (Some p))
   unfolding rebase
-  rebase-inside e = cond-true (inside (task_at m t)) (with_task m t (with_waiting (task_at m t) (waits p))) _ e
+  rebase-inside e = cond-true (inside (task_at m t)) (with_task m t (with_waiting (task_at m t) (Some p))) _ e
 
   pub rebase-outside : inside (task_at m t) ≡ false →
       rebase m t p ≡ requeue (with_task m t (with_base (task_at m t) p)) t (active m t) (task_at m t).place
   unfolding rebase
-  rebase-outside e = cond-false (inside (task_at m t)) (with_task m t (with_waiting (task_at m t) (waits p))) _ e
+  rebase-outside e = cond-false (inside (task_at m t)) (with_task m t (with_waiting (task_at m t) (Some p))) _ e

@@ -7,6 +7,7 @@ use native.Mathlib.Nat.{not-suc-le-zero}
 use native.Mathlib.Omega.{arith}
 use borrow.Author.Tests.{not-false}
 use lib.ListN.{length, get_or, drop, replicate, length-set, length-replicate}
+use Rattle.std.specs.Prelude.{Ok, Err}
 use Rattle.rules.specs.Limits.{task_limit, last_priority}
 use Rattle.rules.specs.Priorities.{in_range}
 use Rattle.rules.specs.Model.{Model, TaskRecord, blank, with_place, task_at}
@@ -15,7 +16,7 @@ use Rattle.rules.specs.Fresh.{Begun, Setup, new_task, new_tasks, unstarted, join
 use Rattle.rules.specs.Fresh.{setup_counted, setup_in_range, fresh, Startable}
 use Rattle.rules.specs.Sound.{runs, is_ready, is_running, due_good, sound}
 use Rattle.rules.specs.declared.Place.TheVariants.{Ready}
-use Rattle.rules.specs.declared.Answer.TheVariants.{Done, BadCounts, BadBases}
+use Rattle.rules.specs.declared.Refusal.TheVariants.{BadCounts, BadBases}
 use Rattle.rules.specs.Lists.{all_of, times_in}
 use Rattle.rules.proofs.LimitLaws.{counted-by}
 use Rattle.rules.proofs.Choices.{split, both_ways, cond-true, cond-false, and_left, and_right}
@@ -192,23 +193,24 @@ module _ (s : Setup) where
   -- with counts in range, with bases and ceilings in range too
   counted : Begun
   counted =
-      cond (not (setup_in_range s)) (record { answer = BadBases; model = refused_fresh }) (record { answer = Done; model = fresh_model s })
+      cond (not (setup_in_range s)) (record { answer = Err BadBases; model = refused_fresh })
+      (record { answer = Ok tt; model = fresh_model s })
 
-  pub fresh-13 : setup_counted s ≡ false → fresh s ≡ record { answer = BadCounts; model = refused_fresh }
+  pub fresh-13 : setup_counted s ≡ false → fresh s ≡ record { answer = Err BadCounts; model = refused_fresh }
   unfolding fresh counted
-  fresh-13 e = cond-true (not (setup_counted s)) (record { answer = BadCounts; model = refused_fresh }) counted (ap not e)
+  fresh-13 e = cond-true (not (setup_counted s)) (record { answer = Err BadCounts; model = refused_fresh }) counted (ap not e)
 
   on-counts : setup_counted s ≡ true → fresh s ≡ counted
   unfolding fresh counted
-  on-counts e = cond-false (not (setup_counted s)) (record { answer = BadCounts; model = refused_fresh }) counted (ap not e)
+  on-counts e = cond-false (not (setup_counted s)) (record { answer = Err BadCounts; model = refused_fresh }) counted (ap not e)
 
-  pub fresh-15 : setup_counted s ≡ true → setup_in_range s ≡ false → fresh s ≡ record { answer = BadBases; model = refused_fresh }
+  pub fresh-15 : setup_counted s ≡ true → setup_in_range s ≡ false → fresh s ≡ record { answer = Err BadBases; model = refused_fresh }
   unfolding counted
-  fresh-15 e f = on-counts e ∙ cond-true (not (setup_in_range s)) _ (record { answer = Done; model = fresh_model s }) (ap not f)
+  fresh-15 e f = on-counts e ∙ cond-true (not (setup_in_range s)) _ (record { answer = Ok tt; model = fresh_model s }) (ap not f)
 
-  pub fresh-0 : setup_counted s ≡ true → setup_in_range s ≡ true → fresh s ≡ record { answer = Done; model = fresh_model s }
+  pub fresh-0 : setup_counted s ≡ true → setup_in_range s ≡ true → fresh s ≡ record { answer = Ok tt; model = fresh_model s }
   unfolding counted
-  fresh-0 e f = on-counts e ∙ cond-false (not (setup_in_range s)) (record { answer = BadBases; model = refused_fresh }) _ (ap not f)
+  fresh-0 e f = on-counts e ∙ cond-false (not (setup_in_range s)) (record { answer = Err BadBases; model = refused_fresh }) _ (ap not f)
 
   -- the tests said apart
   pub startable-by : setup_counted s ≡ true → setup_in_range s ≡ true → Startable s

@@ -6,15 +6,13 @@ use Prim.Native.Nat.{ℕ, ◌≤◌, ◌<◌}
 use native.Mathlib.Omega.{arith}
 use borrow.Author.Tests.{leb-true, leb-false, not-false}
 use lib.ListN.{length}
+use Rattle.std.specs.Prelude.{None, Option, Some, ℕ, Ok}
 use Rattle.rules.specs.Limits.{last_delay}
 use Rattle.rules.specs.Priorities.{in_range}
 use Rattle.rules.specs.Model.{Model, TaskRecord, task_at, ceiling_of}
 use Rattle.rules.specs.Moves.{dispatch}
 use Rattle.rules.specs.Moved.{Moved, accepted}
 use Rattle.rules.specs.Events.{apply}
-use Rattle.rules.specs.declared.Runner.{Runner}
-use Rattle.rules.specs.declared.Runner.TheVariants.{Nobody, Task}
-use Rattle.rules.specs.declared.Answer.TheVariants.{Done}
 use Rattle.rules.specs.declared.Event.{Event}
 use Rattle.rules.specs.declared.Event.TheVariants.{Enter, Leave, Delay, Suspend, Release, Clock, Set, Work, Finish}
 use Rattle.rules.specs.Effect.{effect, for_runner}
@@ -62,19 +60,19 @@ good-dispatch {ord} m h = record {
 abbrev Keeps : Bool → Moved → Type 0
 Keeps ord r = Good ord r.model
 
-keep-accepted : {ord : Bool} (w : Runner) (m : Model) → Pending ord m → Keeps ord (accepted w m)
+keep-accepted : {ord : Bool} (w : Option ℕ) (m : Model) → Pending ord m → Keeps ord (accepted w m)
 unfolding accepted
 keep-accepted w m h = good-dispatch m h
 
 -- for the running task, if there is one
-for-runner : {ord : Bool} (m : Model) (x : ℕ → Model) → Pending ord m → ((t : ℕ) → m.running ≡ Task t → Pending ord (x t)) →
+for-runner : {ord : Bool} (m : Model) (x : ℕ → Model) → Pending ord m → ((t : ℕ) → m.running ≡ Some t → Pending ord (x t)) →
     Pending ord (for_runner m m.running x)
 unfolding for_runner
 for-runner {ord} m x h g = go m.running refl
   where
-    go : (w : Runner) → m.running ≡ w → Pending ord (for_runner m w x)
-    go Nobody e = h
-    go (Task t) e = g t e
+    go : (w : Option ℕ) → m.running ≡ w → Pending ord (for_runner m w x)
+    go None e = h
+    go (Some t) e = g t e
 
 -- up to the dispatch of an event to which no row of the table of refusals applies
 pending-effect : {ord : Bool} (m : Model) (e : Event) → delay_fits e ≡ true → Good ord m → ((j : ℕ) → applies_at (table m e) j ≡ false) →
@@ -95,13 +93,13 @@ pending-effect m Work f h none = h.pending
 pending-effect m Finish f h none = for-runner m _ h.pending (λ t e. pending-end m t h e (of-task _ _ t e (none 6)))
 
 -- .. which is one that answers 0
-pub pending_done : {ord : Bool} (m : Model) (e : Event) → delay_fits e ≡ true → Good ord m → (apply m e).answer ≡ Done →
+pub pending_done : {ord : Bool} (m : Model) (e : Event) → delay_fits e ≡ true → Good ord m → (apply m e).answer ≡ Ok tt →
     Pending ord (effect m e)
 pending_done m e f h d = pending-effect m e f h (done-only-when m e d)
 
 -- every event
 pub keep : {ord : Bool} (m : Model) (e : Event) → delay_fits e ≡ true → Good ord m → Keeps ord (apply m e)
-keep {ord} m e f h = each-done (Keeps ord) m e (λ a n. h) (λ none. keep-accepted m.running (effect m e) (pending-effect m e f h none))
+keep {ord} m e f h = each-done (Keeps ord) m e (λ a. h) (λ none. keep-accepted m.running (effect m e) (pending-effect m e f h none))
 
 -- one holder for each object, wherever the ceiling order holds
 pub one-holder : (m : Model) → Good true m → OneHolder m

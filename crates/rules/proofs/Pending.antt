@@ -7,9 +7,10 @@ use native.Mathlib.Omega.{arith}
 use borrow.Author.Tests.{eqb-false, leb-true, leb-false, ltb-true, ltb-false, lt-ltb, le-leb}
 use lib.Dec.{eqb, leb, ltb}
 use lib.ListN.{length, set, take, length-set, length-append}
+use Rattle.std.specs.Prelude.{None, Option, Some, ℕ}
 use Rattle.rules.specs.Limits.{task_limit, object_limit, last_reading, last_delay}
 use Rattle.rules.specs.Priorities.{in_range}
-use Rattle.rules.specs.Model.{Model, TaskRecord, NextBase, none, waits, blank, with_place, with_base, with_waiting, with_permit, with_held}
+use Rattle.rules.specs.Model.{Model, TaskRecord, blank, with_place, with_base, with_waiting, with_permit, with_held}
 use Rattle.rules.specs.Model.{with_now, task_at, queue, with_task, with_queue, ceiling_of, active_of, active, with_ready, with_running}
 use Rattle.rules.specs.Moves.{stopped, become_ready}
 use Rattle.rules.specs.Events.{no_object, holds, inside, take_hold, give_up, settle_with, settle, put_off, rest, end, permit_on}
@@ -17,8 +18,6 @@ use Rattle.rules.specs.Events.{release_from, requeue, rebase, over_ceiling, take
 use Rattle.rules.specs.Sound.{is_ready, is_running, runs, waiting_good, distinct, rising, due_good}
 use Rattle.rules.specs.declared.Place.{Place}
 use Rattle.rules.specs.declared.Place.TheVariants.{Running, Ready, Delayed, Suspended, Ended}
-use Rattle.rules.specs.declared.Runner.{Runner}
-use Rattle.rules.specs.declared.Runner.TheVariants.{Nobody, Task}
 use Rattle.rules.specs.Lists.{all_of, times_in, without}
 use Rattle.rules.proofs.Choices.{split, both_ways, and_right, and-make}
 use Rattle.rules.proofs.PriorityLaws.{in_bounds}
@@ -41,7 +40,7 @@ pub record Fair (cs : List ℕ) (now : ℕ) (k : TaskRecord) : Type 0 where
   pub listing : all_of (listed cs) k.held ≡ true
   pub once : distinct k.held ≡ true
   pub rises : rising cs k.base k.held ≡ true
-  pub calm : depth k ≡ 0 → k.waiting ≡ none
+  pub calm : depth k ≡ 0 → k.waiting ≡ None
   pub due : due_good now k.place ≡ true
 
 -- counts, reading and ceilings in range
@@ -103,7 +102,7 @@ fair-permit cs now k b f =
     record { waiting = f.waiting; listing = f.listing; once = f.once; rises = f.rises; calm = f.calm; due = f.due }
 
 -- a task that holds nothing, with any base and none waiting
-pub fair-bare : (cs : List ℕ) (now : ℕ) (k : TaskRecord) → depth k ≡ 0 → k.waiting ≡ none → due_good now k.place ≡ true → Fair cs now k
+pub fair-bare : (cs : List ℕ) (now : ℕ) (k : TaskRecord) → depth k ≡ 0 → k.waiting ≡ None → due_good now k.place ≡ true → Fair cs now k
 unfolding waiting_good
 fair-bare cs now k z w d = record {
   waiting = ap waiting_good w;
@@ -115,10 +114,10 @@ fair-bare cs now k z w d = record {
 }
 
 -- one record is replaced, with other queues and another runner
-abbrev replaced : Model → ℕ → TaskRecord → List (List ℕ) → Runner → Model
+abbrev replaced : Model → ℕ → TaskRecord → List (List ℕ) → Option ℕ → Model
 replaced m t k qs w = with_ready (with_running (with_task m t k) w) qs
 
-module _ (m : Model) (t : ℕ) (k : TaskRecord) (qs : List (List ℕ)) (w : Runner) where
+module _ (m : Model) (t : ℕ) (k : TaskRecord) (qs : List (List ℕ)) (w : Option ℕ) where
   sizes-set : Sizes m → Sizes (replaced m t k qs w)
   sizes-set s = record {
     some = omega (arith, s.some, length-set m.tasks t k);
@@ -145,7 +144,7 @@ pending-ready m t c s b l f = pending-set m t (with_place (task_at m t) Ready) _
 
 -- .. with another record k of its own, that holds nothing
 pending-rejoin : {ord : Bool} (m : Model) (t : ℕ) (k : TaskRecord) → Core ord m t → Sizes m → FairBut m t → t < length m.tasks →
-    depth k ≡ 0 → k.waiting ≡ none → in_range k.base ≡ true → Pending ord (become_ready (with_task m t k) t)
+    depth k ≡ 0 → k.waiting ≡ None → in_range k.base ≡ true → Pending ord (become_ready (with_task m t k) t)
 unfolding due_good
 pending-rejoin m t k c s b l z w r =
     let at : task_at (with_task m t k) t ≡ k = at_same (λ (v : TaskRecord). v) blank m.tasks t k t refl l in
@@ -166,7 +165,7 @@ unfolding is_ready is_running
 suspended-off x e = ap (λ (v : Place). is_ready v + is_running v) e
 
 -- the running task t of a good Model
-module _ {ord : Bool} (m : Model) (t : ℕ) (h : Good ord m) (e : m.running ≡ Task t) where
+module _ {ord : Bool} (m : Model) (t : ℕ) (h : Good ord m) (e : m.running ≡ Some t) where
   pub t-runs : 0 < runs m.running t
   t-runs = runs-named m.running t e
 
@@ -196,7 +195,7 @@ module _ {ord : Bool} (m : Model) (t : ℕ) (h : Good ord m) (e : m.running ≡ 
       (h.pending.core.high t t-in) in
       let is-ready = at_same ready blank m.tasks t k t refl t-in in
       let is-running = at_same running blank m.tasks t k t refl t-in in
-      pending-set m t k m.ready Nobody (core-away _ t c (omega (arith, z, is-ready, is-running))) h.pending.sizes others t-in
+      pending-set m t k m.ready None (core-away _ t c (omega (arith, z, is-ready, is-running))) h.pending.sizes others t-in
       (fair-at m.ceilings m.now (task_at m t) x t-fair d)
 
   -- goes to the tail of its queue
@@ -222,7 +221,7 @@ entered cs now o k f l z g = record {
   due = f.due;
 }
 
-pub pending-enter : {ord : Bool} (m : Model) (o t : ℕ) → Good ord m → m.running ≡ Task t → no_object m o ≡ false →
+pub pending-enter : {ord : Bool} (m : Model) (o t : ℕ) → Good ord m → m.running ≡ Some t → no_object m o ≡ false →
     holds (task_at m t) o ≡ false → over_ceiling m o t ≡ false → Pending ord (take_hold m o t)
 pending-enter m o t h e l z y =
     pending-held m t h e (with_held (task_at m t) ((task_at m t).held ++ (o ∷ []))) refl refl refl
@@ -230,7 +229,7 @@ pending-enter m o t h e l z y =
     (ltb-false (ceiling_of m.ceilings o) (active m t) y))
 
 -- Leave
-taken : (cs : List ℕ) (now n : ℕ) (k : TaskRecord) → Fair cs now k → (length (take n k.held) ≡ 0 → k.waiting ≡ none) →
+taken : (cs : List ℕ) (now n : ℕ) (k : TaskRecord) → Fair cs now k → (length (take n k.held) ≡ 0 → k.waiting ≡ None) →
     Fair cs now (with_held k (take n k.held))
 taken cs now n k f c = record {
   waiting = f.waiting;
@@ -245,7 +244,7 @@ taken cs now n k f c = record {
 abbrev left : Model → ℕ → TaskRecord
 left m t = with_held (task_at m t) (take (length (task_at m t).held - 1) (task_at m t).held)
 
-module _ {ord : Bool} (m : Model) (t : ℕ) (h : Good ord m) (e : m.running ≡ Task t) where
+module _ {ord : Bool} (m : Model) (t : ℕ) (h : Good ord m) (e : m.running ≡ Some t) where
   left_at : task_at (give_up m t) t ≡ left m t
   left_at = at_same (λ (v : TaskRecord). v) blank m.tasks t (left m t) t refl (t-in m t h e)
 
@@ -253,7 +252,7 @@ module _ {ord : Bool} (m : Model) (t : ℕ) (h : Good ord m) (e : m.running ≡ 
   left-core = core-held m h.pending.core t (left m t) (t-runs m t h e) refl refl refl
 
   -- no base is due: the task runs on
-  left-on : (length (left m t).held ≡ 0 → (task_at m t).waiting ≡ none) → Pending ord (give_up m t)
+  left-on : (length (left m t).held ≡ 0 → (task_at m t).waiting ≡ None) → Pending ord (give_up m t)
   left-on c =
       pending-set m t (left m t) m.ready m.running left-core h.pending.sizes (others m t h e) (t-in m t h e)
       (taken m.ceilings m.now (length (task_at m t).held - 1) (task_at m t) (t-fair m t h e) c)
@@ -264,18 +263,18 @@ module _ {ord : Bool} (m : Model) (t : ℕ) (h : Good ord m) (e : m.running ≡ 
       (others m t h e u n (omega (arith, g, length-set m.tasks t (left m t))))
 
   -- a base p is due: it takes effect, and the task goes to the tail
-  left-rebased : (p : ℕ) → (task_at (give_up m t) t).waiting ≡ waits p → depth (task_at (give_up m t) t) ≡ 0 →
-      Pending ord (settle_with (give_up m t) t (waits p))
+  left-rebased : (p : ℕ) → (task_at (give_up m t) t).waiting ≡ Some p → depth (task_at (give_up m t) t) ≡ 0 →
+      Pending ord (settle_with (give_up m t) t (Some p))
   unfolding settle_with stopped waiting_good
   left-rebased p w z =
-      let k = with_waiting (with_base (task_at (give_up m t) t) p) none in
-      let own : (task_at m t).waiting ≡ waits p = sym (ap (λ (v : TaskRecord). v.waiting) left_at) ∙ w in
+      let k = with_waiting (with_base (task_at (give_up m t) t) p) None in
+      let own : (task_at m t).waiting ≡ Some p = sym (ap (λ (v : TaskRecord). v.waiting) left_at) ∙ w in
       let good : in_range p ≡ true = sym (ap waiting_good own) ∙ (t-fair m t h e).waiting in
-      let s = sizes-set m t (left m t) m.ready Nobody h.pending.sizes in
+      let s = sizes-set m t (left m t) m.ready None h.pending.sizes in
       pending-rejoin (stopped (give_up m t)) t k (core-out (give_up m t) left-core t (t-runs m t h e) z) s left-others
       (omega (arith, t-in m t h e, length-set m.tasks t (left m t))) z refl good
 
-  left-runs : (length (left m t).held ≡ 0 → (task_at m t).waiting ≡ none) → Pending ord (settle_with (give_up m t) t none)
+  left-runs : (length (left m t).held ≡ 0 → (task_at m t).waiting ≡ None) → Pending ord (settle_with (give_up m t) t None)
   unfolding settle_with
   left-runs c = left-on c
 
@@ -286,13 +285,13 @@ module _ {ord : Bool} (m : Model) (t : ℕ) (h : Good ord m) (e : m.running ≡ 
       (λ z. left-on (λ i. absurd (omega (arith, i, ltb-true 0 (depth (task_at (give_up m t) t)) z, ap depth left_at))))
       (λ z. by-waiting (task_at (give_up m t) t).waiting refl (hold-none (task_at (give_up m t) t) z))
     where
-      by-waiting : (w : NextBase) → (task_at (give_up m t) t).waiting ≡ w → depth (task_at (give_up m t) t) ≡ 0 →
+      by-waiting : (w : Option ℕ) → (task_at (give_up m t) t).waiting ≡ w → depth (task_at (give_up m t) t) ≡ 0 →
           Pending ord (settle_with (give_up m t) t w)
-      by-waiting none w z = left-runs (λ i. sym (ap (λ (v : TaskRecord). v.waiting) left_at) ∙ w)
-      by-waiting (waits p) w z = left-rebased p w z
+      by-waiting None w z = left-runs (λ i. sym (ap (λ (v : TaskRecord). v.waiting) left_at) ∙ w)
+      by-waiting (Some p) w z = left-rebased p w z
 
 -- Delay
-pub pending-delay : {ord : Bool} (m : Model) (d t : ℕ) → d ≤ last_delay → Good ord m → m.running ≡ Task t → inside (task_at m t) ≡ false →
+pub pending-delay : {ord : Bool} (m : Model) (d t : ℕ) → d ≤ last_delay → Good ord m → m.running ≡ Some t → inside (task_at m t) ≡ false →
     Pending ord (put_off (stopped m) t d)
 unfolding put_off stopped is_ready is_running due_good
 pending-delay {ord} m d t l h e z =
@@ -303,7 +302,7 @@ pending-delay {ord} m d t l h e z =
     ahead n = and-make _ _ (lt-ltb m.now (m.now + d) (omega (arith, n))) (le-leb (m.now + d) (m.now + last_delay) (omega arith))
 
 -- Suspend
-pub pending-rest : {ord : Bool} (m : Model) (t : ℕ) → Good ord m → m.running ≡ Task t → inside (task_at m t) ≡ false →
+pub pending-rest : {ord : Bool} (m : Model) (t : ℕ) → Good ord m → m.running ≡ Some t → inside (task_at m t) ≡ false →
     Pending ord (rest m t)
 unfolding rest is_ready is_running due_good
 pending-rest {ord} m t h e z =
@@ -312,7 +311,7 @@ pending-rest {ord} m t h e z =
     (λ i. pending-away m t h e Suspended refl (hold-none (task_at m t) z) refl)
 
 -- Finish
-pub pending-end : {ord : Bool} (m : Model) (t : ℕ) → Good ord m → m.running ≡ Task t → inside (task_at m t) ≡ false → Pending ord (end m t)
+pub pending-end : {ord : Bool} (m : Model) (t : ℕ) → Good ord m → m.running ≡ Some t → inside (task_at m t) ≡ false → Pending ord (end m t)
 unfolding is_ready is_running due_good
 pending-end m t h e z = pending-away m t h e Ended refl (hold-none (task_at m t) z) refl
 
@@ -406,7 +405,7 @@ module _ {ord : Bool} (m : Model) (t p : ℕ) (h : Pending ord m) (l : t < lengt
       (fair-bare m.ceilings m.now (based m t p) z (f.calm z) f.due)
 
   -- it runs, or stands in the queue for its active priority: it goes to the tail
-  running-based : m.running ≡ Task t → Pending ord (become_ready (stopped (with_task m t (based m t p))) t)
+  running-based : m.running ≡ Some t → Pending ord (become_ready (stopped (with_task m t (based m t p))) t)
   unfolding stopped
   running-based e =
       let s = h.sizes in
@@ -448,9 +447,9 @@ pending-rebase {ord} m t p h l g =
     both_ways (Pending ord) (inside (task_at m t)) _ _ (λ z. later (ltb-true 0 (depth (task_at m t)) z))
     (λ z. pending-based m t p h l (hold-none (task_at m t) z) g (task_at m t).place refl)
   where
-    later : 0 < depth (task_at m t) → Pending ord (with_task m t (with_waiting (task_at m t) (waits p)))
+    later : 0 < depth (task_at m t) → Pending ord (with_task m t (with_waiting (task_at m t) (Some p)))
     later z =
-        let k = with_waiting (task_at m t) (waits p) in
+        let k = with_waiting (task_at m t) (Some p) in
         let f = h.fair t l in
         pending-set m t k m.ready m.running (core-same m h.core t k l refl refl refl refl refl) h.sizes (λ u n i. h.fair u i) l
         (record {

@@ -6,8 +6,9 @@ use mathlib.Core.List.{◌∷◌}
 use Prim.Native.Nat.{ℕ, ◌≤◌, ◌<◌}
 use native.Mathlib.Omega.{arith}
 use borrow.Author.Tests.{eqb-true, eq-eqb, le-leb, lt-leb}
+use Rattle.std.specs.Prelude.{None, Option, Some, ℕ, Ok}
 use Rattle.rules.specs.Limits.{task_limit, first_priority}
-use Rattle.rules.specs.Answers.{number_of, report_number}
+use Rattle.rules.specs.Answers.{report_number}
 use Rattle.rules.specs.Model.{Model, queue, active}
 use Rattle.rules.specs.Moves.{highest, dispatch}
 use Rattle.rules.specs.Moved.{Moved, is_nobody, same_runner, report_by, accepted}
@@ -17,9 +18,6 @@ use Rattle.rules.specs.Sound.{sound}
 use Rattle.rules.specs.Histories.{delay_fits}
 use Rattle.rules.specs.Reports.{Preempts, ReportsClaim}
 use Rattle.rules.specs.declared.Event.{Event}
-use Rattle.rules.specs.declared.Runner.{Runner}
-use Rattle.rules.specs.declared.Runner.TheVariants.{Nobody, Task}
-use Rattle.rules.specs.declared.Answer.TheVariants.{Done}
 use Rattle.rules.specs.declared.Report.{Report}
 use Rattle.rules.specs.declared.Report.TheVariants.{Unchanged, Preempted, Changed}
 use Rattle.rules.proofs.Choices.{compare, clash, cond-true, cond-false, and-make, and_left, and_right}
@@ -35,36 +33,36 @@ use Rattle.rules.proofs.Effects.{done-model}
 use Rattle.rules.proofs.Ways.{each_way}
 
 -- the test of runners: they are the same
-same-is : (v w : Runner) → same_runner v w ≡ true → v ≡ w
+same-is : (v w : Option ℕ) → same_runner v w ≡ true → v ≡ w
 unfolding same_runner
-same-is Nobody Nobody e = refl
-same-is Nobody (Task u) e = clash (sym e)
-same-is (Task t) Nobody e = clash (sym e)
-same-is (Task t) (Task u) e = ap Task (eqb-true t u e)
+same-is None None e = refl
+same-is None (Some u) e = clash (sym e)
+same-is (Some t) None e = clash (sym e)
+same-is (Some t) (Some u) e = ap Some (eqb-true t u e)
 
-pub same_self : (v : Runner) → same_runner v v ≡ true
+pub same_self : (v : Option ℕ) → same_runner v v ≡ true
 unfolding same_runner
-same_self Nobody = refl
-same_self (Task t) = eq-eqb t t refl
+same_self None = refl
+same_self (Some t) = eq-eqb t t refl
 
 -- no report is two
 apart : {C : Type 0} (r x y : Report) → r ≡ x → r ≡ y → (report_number x ≡ report_number y → ⊥) → C
 apart r x y e i n = absurd (n (ap report_number (sym e ∙ i)))
 
-somebody-is : (w : Runner) → not (is_nobody w) ≡ true → (t : ℕ) × (w ≡ Task t)
+somebody-is : (w : Option ℕ) → not (is_nobody w) ≡ true → (t : ℕ) × (w ≡ Some t)
 unfolding is_nobody
-somebody-is Nobody e = clash (sym e)
-somebody-is (Task t) e = (t, refl)
+somebody-is None e = clash (sym e)
+somebody-is (Some t) e = (t, refl)
 
-is-somebody : (w : Runner) (t : ℕ) → w ≡ Task t → not (is_nobody w) ≡ true
+is-somebody : (w : Option ℕ) (t : ℕ) → w ≡ Some t → not (is_nobody w) ≡ true
 unfolding is_nobody
-is-somebody w t e = ap (λ (v : Runner). not (is_nobody v)) e
+is-somebody w t e = ap (λ (v : Option ℕ). not (is_nobody v)) e
 
 -- who runs before the event, when its dispatch begins, and after it
-module _ (b d a : Runner) where
+module _ (b d a : Option ℕ) where
   -- a task that runs before the event and when its dispatch begins, and not after
   abbrev Sent : Type 0
-  Sent = (t : ℕ) × ((b ≡ Task t) × (d ≡ Task t) × (a ≡ Task t → ⊥))
+  Sent = (t : ℕ) × ((b ≡ Some t) × (d ≡ Some t) × (a ≡ Some t → ⊥))
 
   abbrev sends : Bool
   sends = not (is_nobody b) && same_runner b d
@@ -103,7 +101,7 @@ module _ (b d a : Runner) where
       (λ n m e. (λ i. apart _ Changed Preempted e i (λ z. omega (arith, z)), λ s. absurd (m s)))
 
 -- a dispatch after which another runs than before it preempted that task
-switched : (n : Model) (t : ℕ) → n.running ≡ Task t → ((dispatch n).running ≡ Task t → ⊥) → active n t < highest n
+switched : (n : Model) (t : ℕ) → n.running ≡ Some t → ((dispatch n).running ≡ Some t → ⊥) → active n t < highest n
 switched n t e f =
     compare (highest n) (active n t)
     (λ h. absurd (f (ap (λ (v : Model). v.running) (dispatch-stay n t e (le-leb (highest n) (active n t) h)) ∙ e))) (λ h. h)
@@ -112,24 +110,24 @@ module _ (m : Model) (e : Event) where
   pub report-0 : ((apply m e).report ≡ Unchanged) ↔ ((apply m e).model.running ≡ m.running)
   unfolding accepted
   report-0 =
-      each_way (λ (r : Moved). (r.report ≡ Unchanged) ↔ (r.model.running ≡ m.running)) m (λ a n. (λ i. refl, λ i. refl)) e
+      each_way (λ (r : Moved). (r.report ≡ Unchanged) ↔ (r.model.running ≡ m.running)) m (λ a. (λ i. refl, λ i. refl)) e
       (same-report m.running (effect m e).running (dispatch (effect m e)).running)
 
-  pub report-refused : ((apply m e).answer ≡ Done → ⊥) → (apply m e).report ≡ Unchanged
+  pub report-refused : ((apply m e).answer ≡ Ok tt → ⊥) → (apply m e).report ≡ Unchanged
   unfolding accepted
   report-refused =
-      each_way (λ (r : Moved). (r.answer ≡ Done → ⊥) → r.report ≡ Unchanged) m (λ a n f. refl) e (λ f. absurd (f refl))
+      each_way (λ (r : Moved). (r.answer ≡ Ok tt → ⊥) → r.report ≡ Unchanged) m (λ a f. refl) e (λ f. absurd (f refl))
 
   -- what preempts is accepted
-  preempts-done : (p : Preempts m e) → (apply m e).answer ≡ Done
+  preempts-done : (p : Preempts m e) → (apply m e).answer ≡ Ok tt
   preempts-done p =
       by_answer (apply m e).answer (λ d. d) (λ n. absurd (p.other (ap (λ (v : Model). v.running) (refused-same m e n) ∙ p.ran)))
 
-  done-report : (apply m e).answer ≡ Done → (apply m e).report ≡ report_by m.running (effect m e).running (apply m e).model.running
+  done-report : (apply m e).answer ≡ Ok tt → (apply m e).report ≡ report_by m.running (effect m e).running (apply m e).model.running
   unfolding accepted
   done-report =
-      each_way (λ (r : Moved). r.answer ≡ Done → r.report ≡ report_by m.running (effect m e).running r.model.running) m
-      (λ a n d. absurd (omega (arith, n, ap number_of d))) e (λ d. refl)
+      each_way (λ (r : Moved). r.answer ≡ Ok tt → r.report ≡ report_by m.running (effect m e).running r.model.running) m
+      (λ a d. absurd (cc d)) e (λ d. refl)
 
   pub report-1 : ((apply m e).report ≡ Preempted) ↔ Preempts m e
   report-1 = (only, when)
@@ -181,7 +179,7 @@ module _ (m : Model) (e : Event) where
       n : Model
       n = effect m e
 
-      d : (apply m e).answer ≡ Done
+      d : (apply m e).answer ≡ Ok tt
       d = preempts-done p
 
       is : (apply m e).model ≡ dispatch n

@@ -1,16 +1,18 @@
 -- The test of soundness says just what specs/Clauses.antt says clause by clause.
 use mathlib.Core.Path.{◌≡◌, refl, ap, ◌∙◌, sym, subst}
-use mathlib.Core.Bool.{Bool, true, not, ◌&&◌, ◌||◌}
+use mathlib.Core.Bool.{Bool, true, false, not, ◌&&◌, ◌||◌}
 use mathlib.Core.List.{List, [], ◌∷◌, map}
 use Prim.Native.Nat.{ℕ, zero, suc, ◌+◌, ◌-◌, ◌≤◌, ◌<◌}
 use native.Mathlib.Nat.{not-suc-le-zero}
+use native.Mathlib.Numerals.{add-one}
 use native.Mathlib.Omega.{arith}
 use borrow.Author.Tests.{eqb-true, eq-eqb, leb-true, leb-false, le-leb, lt-leb, ltb-true, lt-ltb, le-ltb, not-true}
 use lib.Dec.{eqb, leb, ltb}
 use lib.ListN.{length, get_or}
+use Rattle.std.specs.Prelude.{None, Option, Some, ℕ}
 use Rattle.rules.specs.Limits.{task_limit, object_limit, last_reading, last_delay, last_priority}
 use Rattle.rules.specs.Priorities.{in_range}
-use Rattle.rules.specs.Model.{Model, TaskRecord, NextBase, none, waits, task_at, queue, ceiling_of, active}
+use Rattle.rules.specs.Model.{Model, TaskRecord, task_at, queue, ceiling_of, active}
 use Rattle.rules.specs.Moves.{highest_to, highest}
 use Rattle.rules.specs.Events.{no_task, inside}
 use Rattle.rules.specs.Sound.{sizes_good, waiting_good, record_good, runner_good, numbers_good, is_running, is_ready, runs, queued}
@@ -19,11 +21,9 @@ use Rattle.rules.specs.Sound.{distinct, rising, held_good, holders_here, is_none
 use Rattle.rules.specs.Sound.{waiting_inside, sound}
 use Rattle.rules.specs.declared.Place.{Place}
 use Rattle.rules.specs.declared.Place.TheVariants.{Running, Ready, Delayed, Suspended, Ended}
-use Rattle.rules.specs.declared.Runner.{Runner}
-use Rattle.rules.specs.declared.Runner.TheVariants.{Nobody, Task}
 use Rattle.rules.specs.Lists.{all_of, times_in, below}
 use Rattle.rules.specs.Clauses.{Numbers, Sound, SoundClaim}
-use Rattle.rules.proofs.Choices.{split, compare, and_left, and_right, and-make, or_right, or-first, or-second}
+use Rattle.rules.proofs.Choices.{clash, split, compare, and_left, and_right, and-make, or_right, or-first, or-second}
 use Rattle.rules.proofs.Counts.{times-same, times-cons, times_none, queued-at, Row, row-of}
 use Rattle.rules.proofs.Levels.{highest-top, highest-above, highest-full}
 use Rattle.rules.proofs.TaskLaws.{ready, running, depth}
@@ -41,15 +41,27 @@ unfolding below
 below-make zero f h = refl
 below-make (suc n) f h = and-make (below n f) (f n) (below-make n f (λ i g. h i (omega arith))) (h n (omega arith))
 
+pub below_more : (n : ℕ) (f : ℕ → Bool) → below n f ≡ true → f n ≡ true → below (n + 1) f ≡ true
+unfolding below
+below_more n f e g = rw add-one (and-make (below n f) (f n) e g)
+
+pub below_fails : (n i : ℕ) (f : ℕ → Bool) → i < n → f i ≡ false → below n f ≡ false
+unfolding below
+below_fails n i f h e = go (below n f) refl
+  where
+    go : (b : Bool) → below n f ≡ b → b ≡ false
+    go true g = clash (sym (below_at n f g i h) ∙ e)
+    go false g = refl
+
 -- single tests and what they say
-pub waiting-is : (w : NextBase) → waiting_good w ≡ true → (p : ℕ) → w ≡ waits p → in_range p ≡ true
+pub waiting-is : (w : Option ℕ) → waiting_good w ≡ true → (p : ℕ) → w ≡ Some p → in_range p ≡ true
 unfolding waiting_good
 waiting-is w e p q = sym (ap waiting_good q) ∙ e
 
-pub waiting-make : (w : NextBase) → ((p : ℕ) → w ≡ waits p → in_range p ≡ true) → waiting_good w ≡ true
+pub waiting-make : (w : Option ℕ) → ((p : ℕ) → w ≡ Some p → in_range p ≡ true) → waiting_good w ≡ true
 unfolding waiting_good
-waiting-make none h = refl
-waiting-make (waits p) h = h p refl
+waiting-make None h = refl
+waiting-make (Some p) h = h p refl
 
 -- the test of one place, as two counts
 pub stands-is : (r n : ℕ) (x : Place) → stands_in r n x ≡ (eqb r (is_running x) && eqb n (is_ready x))
@@ -100,15 +112,15 @@ present-make k h =
     compare 1 (depth k) (λ g. or-second (not (inside k)) _ (eq-eqb (ready k + running k) 1 (h g)))
     (λ g. or-first (not (inside k)) _ (ap not (le-ltb 0 (depth k) (omega arith))))
 
-calm-is : (k : TaskRecord) → (inside k || is_none k.waiting) ≡ true → depth k ≡ 0 → k.waiting ≡ none
+calm-is : (k : TaskRecord) → (inside k || is_none k.waiting) ≡ true → depth k ≡ 0 → k.waiting ≡ None
 unfolding is_none
 calm-is k e z = none_is k.waiting (or_right (inside k) (is_none k.waiting) (le-ltb 0 (depth k) (omega arith)) e)
   where
-    none_is : (w : NextBase) → is_none w ≡ true → w ≡ none
-    none_is none i = refl
-    none_is (waits p) i = absurd (let y : ◌≡◌ {A = ℕ} 0 1 = cc in omega arith)
+    none_is : (w : Option ℕ) → is_none w ≡ true → w ≡ None
+    none_is None i = refl
+    none_is (Some p) i = absurd (let y : ◌≡◌ {A = ℕ} 0 1 = cc in omega arith)
 
-calm-make : (k : TaskRecord) → (depth k ≡ 0 → k.waiting ≡ none) → (inside k || is_none k.waiting) ≡ true
+calm-make : (k : TaskRecord) → (depth k ≡ 0 → k.waiting ≡ None) → (inside k || is_none k.waiting) ≡ true
 unfolding is_none
 calm-make k h =
     compare 1 (depth k) (λ g. or-first (inside k) _ (lt-ltb 0 (depth k) g)) (λ g. or-second (inside k) _ (ap is_none (h (omega arith))))
@@ -137,14 +149,14 @@ eight a b c d x y v w e =
 pub one_less : (p : ℕ) → suc p - 1 ≡ p
 one_less p = omega arith
 
-runner-is : (m : Model) (w : Runner) → runner_good m w ≡ true → (t : ℕ) → w ≡ Task t → t < length m.tasks
+runner-is : (m : Model) (w : Option ℕ) → runner_good m w ≡ true → (t : ℕ) → w ≡ Some t → t < length m.tasks
 unfolding runner_good
 runner-is m w e t q = leb-false (length m.tasks) t (not-true (no_task m t) (sym (ap (runner_good m) q) ∙ e))
 
-runner-make : (m : Model) (w : Runner) → ((t : ℕ) → w ≡ Task t → t < length m.tasks) → runner_good m w ≡ true
+runner-make : (m : Model) (w : Option ℕ) → ((t : ℕ) → w ≡ Some t → t < length m.tasks) → runner_good m w ≡ true
 unfolding runner_good
-runner-make m Nobody h = refl
-runner-make m (Task t) h = ap not (lt-leb (length m.tasks) t (h t refl))
+runner-make m None h = refl
+runner-make m (Some t) h = ap not (lt-leb (length m.tasks) t (h t refl))
 
 -- whoever is queued is at most at the highest queue
 pub under-highest : (m : Model) (u : ℕ) → length m.ready ≡ last_priority →
@@ -243,13 +255,13 @@ module _ (m : Model) (e : sound m ≡ true) where
   due-are t d h q =
       due-is m.now (task_at m t).place (below_at (length m.tasks) (λ u. due_good m.now (task_at m u).place) clauses.3 t h) d q
 
-  highest-is : (t u : ℕ) → m.running ≡ Task t → 0 < queued m.ready u → active m u ≤ active m t
+  highest-is : (t u : ℕ) → m.running ≡ Some t → 0 < queued m.ready u → active m u ≤ active m t
   unfolding highest_runs
   highest-is t u q g =
       let f : leb (highest m) (active m t) ≡ true = sym (ap (highest_runs m) q) ∙ clauses.4 in
       omega (arith, leb-true (highest m) (active m t) f, under-highest m u numbers-are.queues level-at g)
 
-  busy-is : (u : ℕ) → 0 < queued m.ready u → m.running ≡ Nobody → ⊥
+  busy-is : (u : ℕ) → 0 < queued m.ready u → m.running ≡ None → ⊥
   unfolding highest_runs
   busy-is u g q =
       let f : eqb (highest m) 0 ≡ true = sym (ap (highest_runs m) q) ∙ clauses.4 in
@@ -270,7 +282,7 @@ module _ (m : Model) (e : sound m ≡ true) where
   unfolding holders_here
   present-are t h = present-is (task_at m t) (below_at (length m.tasks) _ clauses.6 t h)
 
-  calm-are : (t : ℕ) → t < length m.tasks → depth (task_at m t) ≡ 0 → (task_at m t).waiting ≡ none
+  calm-are : (t : ℕ) → t < length m.tasks → depth (task_at m t) ≡ 0 → (task_at m t).waiting ≡ None
   unfolding waiting_inside
   calm-are t h = calm-is (task_at m t) (below_at (length m.tasks) _ clauses.7 t h)
 
@@ -339,13 +351,13 @@ module _ (m : Model) (s : Sound m) where
       s.level (highest m - 1) t l (subst (λ (v : ℕ). 0 < times_in t (get_or m.ready v [])) (sym (one_less (highest m - 1))) h) in
       omega (arith, e)
 
-  make-highest : (w : Runner) → m.running ≡ w → highest_runs m w ≡ true
+  make-highest : (w : Option ℕ) → m.running ≡ w → highest_runs m w ≡ true
   unfolding highest_runs
-  make-highest Nobody e =
+  make-highest None e =
       eq-eqb (highest m) 0 (compare 1 (highest m)
       (λ g. let v = highest-has m g in absurd (s.busy v.0 (omega (arith, v.1.1, queued-at m.ready (highest m - 1) v.0)) e))
       (λ g. omega arith))
-  make-highest (Task t) e =
+  make-highest (Some t) e =
       le-leb (highest m) (active m t) (compare (highest m) (active m t) (λ g. g)
       (λ g.
       let v = highest-has m (omega arith) in

@@ -6,14 +6,13 @@ use Prim.Native.Nat.{ℕ, zero, suc, ◌≤◌, ◌<◌}
 use native.Mathlib.Omega.{arith}
 use borrow.Author.Tests.{leb-false, lt-leb, not-true}
 use lib.ListN.{length, get_or, get_or-eq_default}
+use Rattle.std.specs.Prelude.{None, Option, Some, ℕ}
 use Rattle.rules.specs.Limits.{task_limit, last_priority}
 use Rattle.rules.specs.Priorities.{in_range}
 use Rattle.rules.specs.Model.{Model, task_at, queue, ceiling_of, active}
 use Rattle.rules.specs.Events.{apply}
 use Rattle.rules.specs.Sound.{runs, queued, is_running, is_ready, sound}
 use Rattle.rules.specs.declared.Event.{Event}
-use Rattle.rules.specs.declared.Runner.{Runner}
-use Rattle.rules.specs.declared.Runner.TheVariants.{Nobody, Task}
 use Rattle.rules.specs.Lists.{all_of, times_in}
 use Rattle.rules.specs.Histories.{delay_fits, KeptClaim}
 use Rattle.rules.specs.Clauses.{Numbers, Sound}
@@ -42,10 +41,10 @@ module _ (m : Model) (s : Sound m) where
   k : Numbers m
   k = s.numbers
 
-  out-runs : (w : Runner) (u : ℕ) → m.running ≡ w → length m.tasks ≤ u → runs w u ≡ 0
+  out-runs : (w : Option ℕ) (u : ℕ) → m.running ≡ w → length m.tasks ≤ u → runs w u ≡ 0
   unfolding runs
-  out-runs Nobody u e g = refl
-  out-runs (Task t) u e g = runs-apart t u (λ i. omega (arith, g, i, k.runner t e))
+  out-runs None u e g = refl
+  out-runs (Some t) u e g = runs-apart t u (λ i. omega (arith, g, i, k.runner t e))
 
   runners : (u : ℕ) → runs m.running u ≡ running (task_at m u)
   unfolding is_running

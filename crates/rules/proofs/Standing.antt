@@ -6,12 +6,11 @@ use Prim.Native.Nat.{ℕ, suc, ◌+◌, ◌≤◌, ◌<◌}
 use native.Mathlib.Nat.{not-suc-le-zero}
 use native.Mathlib.Omega.{arith}
 use lib.ListN.{length, get_or, set, drop}
+use Rattle.std.specs.Prelude.{None, Option, Some, ℕ}
 use Rattle.rules.specs.Limits.{last_priority}
 use Rattle.rules.specs.Model.{TaskRecord, ceiling_of, active_of, with_place}
 use Rattle.rules.specs.Sound.{queued, is_ready, is_running, runs}
 use Rattle.rules.specs.declared.Place.TheVariants.{Running, Ready}
-use Rattle.rules.specs.declared.Runner.{Runner}
-use Rattle.rules.specs.declared.Runner.TheVariants.{Nobody, Task}
 use Rattle.rules.specs.Lists.{times_in, without}
 use Rattle.rules.proofs.Choices.{split, compare}
 use Rattle.rules.proofs.Counts.{times-same, times-other, times-cons, times-append, times-behind, times-head, times-tail}
@@ -22,7 +21,7 @@ use Rattle.rules.proofs.TaskLaws.{put_same, put_other, put_keeps, row_same, row_
 
 -- The tasks ts with the ceilings cs, the ready queues qs and the runner w. The task x is on its way: it stands nowhere and holds
 -- nothing, whatever its record says; with x past the last task nobody is on the way. With ord the ceiling order holds too.
-pub record Stand (ord : Bool) (cs : List ℕ) (ts : List TaskRecord) (qs : List (List ℕ)) (w : Runner) (x : ℕ) : Type 0 where
+pub record Stand (ord : Bool) (cs : List ℕ) (ts : List TaskRecord) (qs : List (List ℕ)) (w : Option ℕ) (x : ℕ) : Type 0 where
   -- places
   pub runner : (u : ℕ) → (u ≡ x → ⊥) → runs w u ≡ running (entry ts u)
   pub queueing : (u : ℕ) → (u ≡ x → ⊥) → queued qs u ≡ ready (entry ts u)
@@ -39,7 +38,7 @@ pub record Stand (ord : Bool) (cs : List ℕ) (ts : List TaskRecord) (qs : List 
       base_of (entry ts u) ≤ active_of cs (entry ts t) → base_of (entry ts t) ≤ active_of cs (entry ts u) → ⊥
 
 -- mutual exclusion: nobody else holds what t holds, where ceilings are not below the bases of the holders
-pub exclusive : {cs : List ℕ} {ts : List TaskRecord} {qs : List (List ℕ)} {w : Runner} {x : ℕ} → Stand true cs ts qs w x →
+pub exclusive : {cs : List ℕ} {ts : List TaskRecord} {qs : List (List ℕ)} {w : Option ℕ} {x : ℕ} → Stand true cs ts qs w x →
     ((u o : ℕ) → 0 < times_in o (entry ts u).held → base_of (entry ts u) ≤ ceiling_of cs o) →
     (t u o : ℕ) → 0 < times_in o (entry ts t).held → 0 < times_in o (entry ts u).held → (t ≡ u → ⊥) → ⊥
 unfolding times_in
@@ -52,7 +51,7 @@ exclusive {cs} {ts} s c t u o h g n =
     holder [] e = e
     holder (y ∷ l) e = omega arith
 
-module _ {ord : Bool} (cs : List ℕ) (ts : List TaskRecord) (qs : List (List ℕ)) (w : Runner) (x : ℕ)
+module _ {ord : Bool} (cs : List ℕ) (ts : List TaskRecord) (qs : List (List ℕ)) (w : Option ℕ) (x : ℕ)
     (s : Stand ord cs ts qs w x) where
   -- with nobody on the way
   pub all_runs : length ts ≤ x → (u : ℕ) → runs w u ≡ running (entry ts u)
@@ -94,7 +93,7 @@ module _ {ord : Bool} (cs : List ℕ) (ts : List TaskRecord) (qs : List (List �
       omega (arith, put_other ready ts t k u n, put_other running ts t k u n, was))
 
   -- the running task goes on its way
-  pub stand-out : (t : ℕ) → length ts ≤ x → 0 < runs w t → depth (entry ts t) ≡ 0 → Stand ord cs ts qs Nobody t
+  pub stand-out : (t : ℕ) → length ts ≤ x → 0 < runs w t → depth (entry ts t) ≡ 0 → Stand ord cs ts qs None t
   unfolding runs
   stand-out t o r h = record {
     runner = λ u n. omega (arith, all_runs o u, runs-one w t u r n);
@@ -245,7 +244,7 @@ module _ {ord : Bool} (cs : List ℕ) (ts : List TaskRecord) (qs : List (List �
   -- the running task t stops, and goes to the head of its queue
   pub stand-preempt : (t p : ℕ) → length qs ≡ last_priority → t < length ts → length ts ≤ x → 0 < runs w t →
       active_of cs (entry ts t) ≡ suc p → p < last_priority →
-      Stand ord cs (set ts t (with_place (entry ts t) Ready)) (set qs p (t ∷ get_or qs p [])) Nobody x
+      Stand ord cs (set ts t (with_place (entry ts t) Ready)) (set qs p (t ∷ get_or qs p [])) None x
   unfolding is_ready is_running runs
   stand-preempt t p len low o r a top = record {
     runner = λ u n. split u t (λ e. omega (arith, put_same running ts t k u e low))
@@ -313,10 +312,10 @@ module _ {ord : Bool} (cs : List ℕ) (ts : List TaskRecord) (qs : List (List �
   pub stand-start : (p : ℕ) → length qs ≡ last_priority → p < last_priority → length ts ≤ x →
       ((u : ℕ) → runs w u ≡ 0) → 0 < length (get_or qs p []) → ((q u : ℕ) → p < q → q < last_priority → times_in u (get_or qs q []) ≡ 0) →
       Stand ord cs (set ts (get_or (get_or qs p []) 0 0) (with_place (entry ts (get_or (get_or qs p []) 0 0)) Running))
-      (set qs p (drop 1 (get_or qs p []))) (Task (get_or (get_or qs p []) 0 0)) x
+      (set qs p (drop 1 (get_or qs p []))) (Some (get_or (get_or qs p []) 0 0)) x
   unfolding is_ready is_running
   stand-start p len low o r full top = record {
-    runner = λ u n. split u t (λ e. omega (arith, ap (runs (Task t)) e, runs-self t, put_same running ts t k u e there))
+    runner = λ u n. split u t (λ e. omega (arith, ap (runs (Some t)) e, runs-self t, put_same running ts t k u e there))
         (λ m. omega (arith, all_runs o u, r u, runs-apart t u m, put_other running ts t k u m));
     queueing =
         λ u n. split u t

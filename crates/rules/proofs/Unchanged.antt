@@ -7,8 +7,9 @@ use Prim.Native.Nat.{ℕ, zero, suc, ◌+◌, ◌≤◌}
 use native.Mathlib.Omega.{arith}
 use lib.Dec.{eqb, leb}
 use lib.ListN.{length, length-set}
+use Rattle.std.specs.Prelude.{None, Option, Some, ℕ}
 use Rattle.rules.specs.Limits.{longest_advance}
-use Rattle.rules.specs.Model.{Model, NextBase, none, waits, TaskRecord, with_running, with_ready, with_now, task_at, with_task, with_queue}
+use Rattle.rules.specs.Model.{Model, TaskRecord, with_running, with_ready, with_now, task_at, with_task, with_queue}
 use Rattle.rules.specs.Model.{queue, active}
 use Rattle.rules.specs.Moves.{stopped, become_ready, preempt, start, highest, dispatch_by, dispatch}
 use Rattle.rules.specs.Moved.{Moved, accepted}
@@ -21,8 +22,6 @@ use Rattle.rules.specs.declared.Place.{Place}
 use Rattle.rules.specs.declared.Place.TheVariants.{Running, Ready, Delayed, Suspended, Ended}
 use Rattle.rules.specs.declared.Event.{Event}
 use Rattle.rules.specs.declared.Event.TheVariants.{Enter, Leave, Delay, Suspend, Release, Clock, Set, Work, Finish}
-use Rattle.rules.specs.declared.Runner.{Runner}
-use Rattle.rules.specs.declared.Runner.TheVariants.{Nobody, Task}
 use Rattle.rules.specs.Lists.{without}
 use Rattle.rules.proofs.Choices.{both_ways}
 use Rattle.rules.proofs.Readings.{reading-early, reading-near}
@@ -31,14 +30,14 @@ use Rattle.rules.proofs.Refusals.{each-done}
 module _ (P : Model → Type 0)
     (put : (m : Model) (t : ℕ) (k : TaskRecord) → P m → P (with_task m t k))
     (line : (m : Model) (qs : List (List ℕ)) → P m → P (with_ready m qs))
-    (run : (m : Model) (w : Runner) → P m → P (with_running m w)) where
+    (run : (m : Model) (w : Option ℕ) → P m → P (with_running m w)) where
   pub on-ready : (m : Model) (t : ℕ) → P m → P (become_ready m t)
   unfolding become_ready
   on-ready m t h = put (with_queue m (active m t) _) t _ (line m _ h)
 
   on-stopped : (m : Model) → P m → P (stopped m)
   unfolding stopped
-  on-stopped m h = run m Nobody h
+  on-stopped m h = run m None h
 
   on-start : (m : Model) (p : ℕ) → P m → P (start m p)
   unfolding start
@@ -46,24 +45,24 @@ module _ (P : Model → Type 0)
 
   on-preempt : (m : Model) (t : ℕ) → P m → P (preempt m t)
   unfolding preempt stopped
-  on-preempt m t h = put (with_queue (stopped m) (active m t) _) t _ (line (stopped m) _ (run m Nobody h))
+  on-preempt m t h = put (with_queue (stopped m) (active m t) _) t _ (line (stopped m) _ (run m None h))
 
   pub on-dispatch : (m : Model) → P m → P (dispatch m)
   unfolding dispatch dispatch_by
   on-dispatch m h = go m.running
     where
-      go : (w : Runner) → P (dispatch_by m w)
-      go Nobody = both_ways P (eqb (highest m) 0) m _ (λ e. h) (λ e. on-start m (highest m) h)
-      go (Task t) =
+      go : (w : Option ℕ) → P (dispatch_by m w)
+      go None = both_ways P (eqb (highest m) 0) m _ (λ e. h) (λ e. on-start m (highest m) h)
+      go (Some t) =
           both_ways P (leb (highest m) (active m t)) m _ (λ e. h) (λ e. on-start (preempt m t) (highest m) (on-preempt m t h))
 
   on-settle : (m : Model) (t : ℕ) → P m → P (settle m t)
   unfolding settle settle_with
   on-settle m t h = both_ways P (inside (task_at m t)) m _ (λ e. h) (λ e. go (task_at m t).waiting)
     where
-      go : (w : NextBase) → P (settle_with m t w)
-      go none = h
-      go (waits p) = on-ready _ t (on-stopped _ (put m t _ h))
+      go : (w : Option ℕ) → P (settle_with m t w)
+      go None = h
+      go (Some p) = on-ready _ t (on-stopped _ (put m t _ h))
 
   on-wake : (m : Model) (x : Due) → P m → P (wake m x)
   unfolding wake
@@ -103,16 +102,16 @@ module _ (P : Model → Type 0)
 
   on-rest : (m : Model) (t : ℕ) → P m → P (rest m t)
   unfolding rest stopped
-  on-rest m t h = both_ways P (task_at m t).permit _ _ (λ e. put m t _ h) (λ e. put (stopped m) t _ (run m Nobody h))
+  on-rest m t h = both_ways P (task_at m t).permit _ _ (λ e. put m t _ h) (λ e. put (stopped m) t _ (run m None h))
 
   on-end : (m : Model) (t : ℕ) → P m → P (end m t)
   unfolding stopped
-  on-end m t h = put (stopped m) t _ (run m Nobody h)
+  on-end m t h = put (stopped m) t _ (run m None h)
 
-  on-runner : (m : Model) (w : Runner) (f : ℕ → Model) → P m → ((t : ℕ) → P (f t)) → P (for_runner m w f)
+  on-runner : (m : Model) (w : Option ℕ) (f : ℕ → Model) → P m → ((t : ℕ) → P (f t)) → P (for_runner m w f)
   unfolding for_runner
-  on-runner m Nobody f h g = h
-  on-runner m (Task t) f h g = g t
+  on-runner m None f h g = h
+  on-runner m (Some t) f h g = g t
 
   -- up to the dispatch of any event; `read` is for a Clock
   pub on_effect : (m : Model) (e : Event) → P m → ((r : ℕ) → bad_reading m.now r ≡ false → P (with_now m r)) →
@@ -132,7 +131,7 @@ module _ (P : Model → Type 0)
   pub on-apply : (m : Model) (e : Event) → P m → ((r : ℕ) → bad_reading m.now r ≡ false → P (with_now m r)) → P (apply m e).model
   unfolding accepted applies_at table
   on-apply m e h read =
-      each-done (λ (r : Moved). P r.model) m e (λ a n. h) (λ none. on-dispatch (effect m e) (on_effect m e h read (none 3)))
+      each-done (λ (r : Moved). P r.model) m e (λ a. h) (λ none. on-dispatch (effect m e) (on_effect m e h read (none 3)))
 
 pub ceilings-kept : (m : Model) (e : Event) → (apply m e).model.ceilings ≡ m.ceilings
 ceilings-kept m e =

@@ -1,18 +1,16 @@
 -- What every accepted event has done when its one dispatch begins, in one table: proofs/Ways.antt shows that an event is the dispatch of
 -- this, or a refusal.
-use Rattle.std.specs.Prelude.{ℕ}
+use Rattle.std.specs.Prelude.{ℕ, None, Option, Some}
 use Rattle.rules.specs.Model.{Model, task_at}
 use Rattle.rules.specs.Moves.{stopped}
 use Rattle.rules.specs.Events.{take_hold, give_up, settle, put_off, rest, release_from, take_reading, rebase, end}
 use Rattle.rules.specs.declared.Event.{Event}
 use Rattle.rules.specs.declared.Event.TheVariants.{Enter, Leave, Delay, Suspend, Release, Clock, Set, Work, Finish}
-use Rattle.rules.specs.declared.Runner.{Runner}
-use Rattle.rules.specs.declared.Runner.TheVariants.{Nobody, Task}
 
 -- what is done for the running task; nothing where nobody runs
-unfoldable pub for_runner : Model → Runner → (ℕ → Model) → Model
-for_runner m Nobody f = m
-for_runner m (Task t) f = f t
+unfoldable pub for_runner : Model → Option ℕ → (ℕ → Model) → Model
+for_runner m None f = m
+for_runner m (Some t) f = f t
 
 -- the line of document 01 for each event ("Enter: .." to "Finish: .."), what stands before "After every accepted event"
 unfoldable pub effect : Model → Event → Model

@@ -1,9 +1,10 @@
 -- The nine events: what each answers and reports, and the Model after it.
 use Rattle.std.specs.Prelude.{Bool, true, false, cond, not, ◌&&◌, ◌||◌, List, [], ◌∷◌, ◌++◌, ℕ, zero, suc, ◌+◌, ◌-◌, eqb, leb, ltb, length}
+use Rattle.std.specs.Prelude.{None, Option, Some}
 use Rattle.std.specs.Prelude.{get_or, take}
 use Rattle.rules.specs.Limits.{last_reading, longest_advance}
 use Rattle.rules.specs.Priorities.{in_range}
-use Rattle.rules.specs.Model.{TaskRecord, Model, NextBase, none, waits, with_place, with_base, with_waiting, with_permit, with_held}
+use Rattle.rules.specs.Model.{TaskRecord, Model, with_place, with_base, with_waiting, with_permit, with_held}
 use Rattle.rules.specs.Model.{with_now, task_at, with_task, queue, with_queue, ceiling_of, active}
 use Rattle.rules.specs.Moves.{become_ready, stopped}
 use Rattle.rules.specs.Moved.{Moved, accepted, refuse_if, refuse_if_nobody}
@@ -11,8 +12,8 @@ use Rattle.rules.specs.declared.Place.{Place}
 use Rattle.rules.specs.declared.Place.TheVariants.{Running, Ready, Delayed, Suspended, Ended}
 use Rattle.rules.specs.declared.Event.{Event}
 use Rattle.rules.specs.declared.Event.TheVariants.{Enter, Leave, Delay, Suspend, Release, Clock, Set, Work, Finish}
-use Rattle.rules.specs.declared.Answer.TheVariants.{NoSuchTask, NoSuchObject, BadPriority, BadReading, EndedTask}
-use Rattle.rules.specs.declared.Answer.TheVariants.{InsideAction, AboveCeiling, NotInnermost}
+use Rattle.rules.specs.declared.Refusal.TheVariants.{NoSuchTask, NoSuchObject, BadPriority, BadReading, EndedTask}
+use Rattle.rules.specs.declared.Refusal.TheVariants.{InsideAction, AboveCeiling, NotInnermost}
 use Rattle.rules.specs.Lists.{times_in, without}
 
 -- answer 1: "no such task"; answer 2: "no such object"
@@ -57,9 +58,9 @@ give_up m t = with_task m t (with_held (task_at m t) (take (length (task_at m t)
 
 -- "The task runs on, unless a waiting base is due": it "takes effect when t leaves its outermost object: t then goes to the
 -- tail, even where p equals the base"
-unfoldable pub settle_with : Model → ℕ → NextBase → Model
-settle_with m t none = m
-settle_with m t (waits p) = become_ready (stopped (with_task m t (with_waiting (with_base (task_at m t) p) none))) t
+unfoldable pub settle_with : Model → ℕ → Option ℕ → Model
+settle_with m t None = m
+settle_with m t (Some p) = become_ready (stopped (with_task m t (with_waiting (with_base (task_at m t) p) None))) t
 
 unfoldable pub settle : Model → ℕ → Model
 settle m t = cond (inside (task_at m t)) m (settle_with m t (task_at m t).waiting)
@@ -168,7 +169,7 @@ requeue m t stood Ended = m
 unfoldable pub rebase : Model → ℕ → ℕ → Model
 rebase m t p =
     cond (inside (task_at m t))
-    (with_task m t (with_waiting (task_at m t) (waits p)))
+    (with_task m t (with_waiting (task_at m t) (Some p)))
     (requeue (with_task m t (with_base (task_at m t) p)) t (active m t) (task_at m t).place)
 
 unfoldable pub is_ended : Place → Bool

@@ -1,13 +1,12 @@
 -- The fresh start.
-use Rattle.std.specs.Prelude.{◌≡◌, Bool, true, false, cond, not, ◌&&◌, List, [], ◌∷◌, ℕ, zero, suc, ◌≤◌, length, replicate}
+use Rattle.std.specs.Prelude.{◌≡◌, Bool, true, false, cond, not, ◌&&◌, List, [], ◌∷◌, ℕ, zero, suc, ◌≤◌, length, replicate, None, Ok, Err}
 use Rattle.rules.specs.Limits.{task_limit, object_limit, last_priority, counts_good}
 use Rattle.rules.specs.Priorities.{in_range}
-use Rattle.rules.specs.Model.{TaskRecord, Model, none}
+use Rattle.rules.specs.Model.{TaskRecord, Model}
 use Rattle.rules.specs.Moves.{become_ready, dispatch}
 use Rattle.rules.specs.declared.Place.TheVariants.{Suspended}
-use Rattle.rules.specs.declared.Runner.TheVariants.{Nobody}
-use Rattle.rules.specs.declared.Answer.{Answer}
-use Rattle.rules.specs.declared.Answer.TheVariants.{Done, BadCounts, BadBases}
+use Rattle.rules.specs.Answers.{Answer}
+use Rattle.rules.specs.declared.Refusal.TheVariants.{BadCounts, BadBases}
 use Rattle.rules.specs.Lists.{all_of}
 
 -- "A fresh state is made from ceilings and bases alone": what a fresh start is made from
@@ -17,7 +16,7 @@ pub record Setup : Type 0 where
 
 -- a task of base p that has not joined a queue yet: "permits are off"
 abbrev pub new_task : ℕ → TaskRecord
-new_task p = record { place = Suspended; base = p; waiting = none; permit = false; held = [] }
+new_task p = record { place = Suspended; base = p; waiting = None; permit = false; held = [] }
 
 unfoldable pub new_tasks : List ℕ → List TaskRecord
 new_tasks [] = []
@@ -26,7 +25,7 @@ new_tasks (p ∷ ps) = new_task p ∷ new_tasks ps
 -- "now is 0"; no task is ready yet
 abbrev pub unstarted : Setup → Model
 unstarted s =
-    record { now = 0; running = Nobody; tasks = new_tasks s.bases; ceilings = s.ceilings; ready = replicate last_priority [] }
+    record { now = 0; running = None; tasks = new_tasks s.bases; ceilings = s.ceilings; ready = replicate last_priority [] }
 
 -- "tasks join in number order the tail of the queue for their base": n tasks from t on
 unfoldable pub join_from : ℕ → ℕ → Model → Model
@@ -59,9 +58,9 @@ pub record Begun : Type 0 where
 -- "A fresh start is refused with 13 for counts out of range, else with 15 for a bad base or ceiling"
 unfoldable pub fresh : Setup → Begun
 fresh s =
-    cond (not (setup_counted s)) (record { answer = BadCounts; model = refused_fresh })
-    (cond (not (setup_in_range s)) (record { answer = BadBases; model = refused_fresh })
-    (record { answer = Done; model = fresh_model s }))
+    cond (not (setup_counted s)) (record { answer = Err BadCounts; model = refused_fresh })
+    (cond (not (setup_in_range s)) (record { answer = Err BadBases; model = refused_fresh })
+    (record { answer = Ok tt; model = fresh_model s }))
 
 -- the same said apart: what a fresh start accepts
 pub record Startable (s : Setup) : Type 0 where

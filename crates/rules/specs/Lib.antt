@@ -2,6 +2,7 @@ pub mod Limits
 pub mod Lists
 pub mod Priorities
 pub mod Answers
+pub mod Kinds
 pub mod Model
 pub mod Moves
 pub mod Moved

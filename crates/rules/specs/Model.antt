@@ -1,34 +1,29 @@
 -- What a state of the dispatcher means: a Model, in which every list has its true length. One setter for each field.
 -- Task numbers, object numbers and priorities are numbers here; what has no entry reads as a blank.
-use Rattle.std.specs.Prelude.{Bool, false, List, [], ◌∷◌, ℕ, ◌-◌, max, get_or, set}
+use Rattle.std.specs.Prelude.{Bool, false, List, [], ◌∷◌, ℕ, ◌-◌, max, get_or, set, Option, None}
 use Rattle.rules.specs.declared.Place.{Place}
 use Rattle.rules.specs.declared.Place.TheVariants.{Ended}
-use Rattle.rules.specs.declared.Runner.{Runner}
 
--- a base that waits for the task's outermost Leave ("Inside an action p waits"), or none
-pub data NextBase : Type 0 where
-  none : NextBase
-  waits : ℕ → NextBase
-
--- what is known of one task; held objects stand outermost first
+-- what is known of one task: waiting is the base that waits for its outermost Leave ("Inside an action p waits"), if there is one;
+-- held objects stand outermost first
 pub record TaskRecord : Type 0 where
   pub place : Place
   pub base : ℕ
-  pub waiting : NextBase
+  pub waiting : Option ℕ
   pub permit : Bool
   pub held : List ℕ
 
 -- the ready queue for priority p stands at p - 1, its head first
 pub record Model : Type 0 where
   pub now : ℕ
-  pub running : Runner
+  pub running : Option ℕ
   pub tasks : List TaskRecord
   pub ceilings : List ℕ
   pub ready : List (List ℕ)
 
 -- what a task number past the last reads as
 abbrev pub blank : TaskRecord
-blank = record { place = Ended; base = 0; waiting = none; permit = false; held = [] }
+blank = record { place = Ended; base = 0; waiting = None; permit = false; held = [] }
 
 -- the task with another place, base, waiting base, permit, held list
 abbrev pub with_place : TaskRecord → Place → TaskRecord
@@ -37,7 +32,7 @@ with_place k x = record { place = x; base = k.base; waiting = k.waiting; permit 
 abbrev pub with_base : TaskRecord → ℕ → TaskRecord
 with_base k p = record { place = k.place; base = p; waiting = k.waiting; permit = k.permit; held = k.held }
 
-abbrev pub with_waiting : TaskRecord → NextBase → TaskRecord
+abbrev pub with_waiting : TaskRecord → Option ℕ → TaskRecord
 with_waiting k w = record { place = k.place; base = k.base; waiting = w; permit = k.permit; held = k.held }
 
 abbrev pub with_permit : TaskRecord → Bool → TaskRecord
@@ -46,15 +41,18 @@ with_permit k b = record { place = k.place; base = k.base; waiting = k.waiting; 
 abbrev pub with_held : TaskRecord → List ℕ → TaskRecord
 with_held k l = record { place = k.place; base = k.base; waiting = k.waiting; permit = k.permit; held = l }
 
--- the Model with another reading, running task, task list, ready queues
+-- the Model with another reading, running task, task list, ceilings, ready queues
 abbrev pub with_now : Model → ℕ → Model
 with_now m r = record { now = r; running = m.running; tasks = m.tasks; ceilings = m.ceilings; ready = m.ready }
 
-abbrev pub with_running : Model → Runner → Model
+abbrev pub with_running : Model → Option ℕ → Model
 with_running m w = record { now = m.now; running = w; tasks = m.tasks; ceilings = m.ceilings; ready = m.ready }
 
 abbrev pub with_tasks : Model → List TaskRecord → Model
 with_tasks m ks = record { now = m.now; running = m.running; tasks = ks; ceilings = m.ceilings; ready = m.ready }
+
+abbrev pub with_ceilings : Model → List ℕ → Model
+with_ceilings m cs = record { now = m.now; running = m.running; tasks = m.tasks; ceilings = cs; ready = m.ready }
 
 abbrev pub with_ready : Model → List (List ℕ) → Model
 with_ready m qs = record { now = m.now; running = m.running; tasks = m.tasks; ceilings = m.ceilings; ready = qs }

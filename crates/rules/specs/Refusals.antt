@@ -1,22 +1,21 @@
 -- The table of refusals, as document 01 prints it: which rows apply to an event, and that the lowest number wins.
-use Rattle.std.specs.Prelude.{◌≡◌, ◌↔◌, Bool, true, false, cond, not, List, [], ◌∷◌, ℕ, zero, suc, ◌<◌}
+use Rattle.std.specs.Prelude.{◌≡◌, ◌↔◌, Bool, true, false, cond, not, List, [], ◌∷◌, ℕ, zero, suc, ◌<◌, None, Option, Some, Ok, Err}
 use Rattle.rules.specs.Priorities.{in_range}
 use Rattle.rules.specs.Answers.{number_of}
 use Rattle.rules.specs.Model.{Model, task_at}
 use Rattle.rules.specs.Moved.{is_nobody}
 use Rattle.rules.specs.Events.{no_task, no_object, holds, inside, over_ceiling, innermost, bad_reading, is_ended, apply}
-use Rattle.rules.specs.declared.Runner.{Runner}
-use Rattle.rules.specs.declared.Runner.TheVariants.{Nobody, Task}
 use Rattle.rules.specs.declared.Event.{Event}
 use Rattle.rules.specs.declared.Event.TheVariants.{Enter, Leave, Delay, Suspend, Release, Clock, Set, Work, Finish}
-use Rattle.rules.specs.declared.Answer.{Answer}
-use Rattle.rules.specs.declared.Answer.TheVariants.{Done, NoSuchTask, NoSuchObject, BadPriority, BadReading, NobodyRuns, EndedTask}
-use Rattle.rules.specs.declared.Answer.TheVariants.{InsideAction, AboveCeiling, NotInnermost}
+use Rattle.rules.specs.Answers.{Answer}
+use Rattle.rules.specs.declared.Refusal.{Refusal}
+use Rattle.rules.specs.declared.Refusal.TheVariants.{NoSuchTask, NoSuchObject, BadPriority, BadReading, NobodyRuns, EndedTask}
+use Rattle.rules.specs.declared.Refusal.TheVariants.{InsideAction, AboveCeiling, NotInnermost}
 
 -- a test of the running task; it does not hold where nobody runs
-unfoldable pub of_runner : Runner → (ℕ → Bool) → Bool
-of_runner Nobody f = false
-of_runner (Task t) f = f t
+unfoldable pub of_runner : Option ℕ → (ℕ → Bool) → Bool
+of_runner None f = false
+of_runner (Some t) f = f t
 
 -- 1 "no such task"
 unfoldable pub no_such_task : Model → Event → Bool
@@ -126,28 +125,28 @@ not_innermost m (Set t p) = false
 not_innermost m Work = false
 not_innermost m Finish = false
 
--- a row of the table: its answer, and when it applies
+-- a row of the table: its refusal, and when it applies
 pub record Row : Type 0 where
-  pub answer : Answer
+  pub refusal : Refusal
   pub applies : Bool
 
 -- the rows from 1 to 9, lowest first
 unfoldable pub table : Model → Event → List Row
 table m e =
-    record { answer = NoSuchTask; applies = no_such_task m e } ∷
-    record { answer = NoSuchObject; applies = no_such_object m e } ∷
-    record { answer = BadPriority; applies = bad_priority m e } ∷
-    record { answer = BadReading; applies = bad_clock m e } ∷
-    record { answer = NobodyRuns; applies = nobody_runs m e } ∷
-    record { answer = EndedTask; applies = ended_task m e } ∷
-    record { answer = InsideAction; applies = inside_action m e } ∷
-    record { answer = AboveCeiling; applies = above_ceiling m e } ∷
-    record { answer = NotInnermost; applies = not_innermost m e } ∷ []
+    record { refusal = NoSuchTask; applies = no_such_task m e } ∷
+    record { refusal = NoSuchObject; applies = no_such_object m e } ∷
+    record { refusal = BadPriority; applies = bad_priority m e } ∷
+    record { refusal = BadReading; applies = bad_clock m e } ∷
+    record { refusal = NobodyRuns; applies = nobody_runs m e } ∷
+    record { refusal = EndedTask; applies = ended_task m e } ∷
+    record { refusal = InsideAction; applies = inside_action m e } ∷
+    record { refusal = AboveCeiling; applies = above_ceiling m e } ∷
+    record { refusal = NotInnermost; applies = not_innermost m e } ∷ []
 
 -- "the lowest number wins"; 0 where no row applies
 unfoldable pub lowest : List Row → Answer
-lowest [] = Done
-lowest (r ∷ rs) = cond r.applies r.answer (lowest rs)
+lowest [] = Ok tt
+lowest (r ∷ rs) = cond r.applies (Err r.refusal) (lowest rs)
 
 -- whether the row with the number suc j applies; past the last none does
 unfoldable pub applies_at : List Row → ℕ → Bool
@@ -166,9 +165,9 @@ pub record Answered (m : Model) (e : Event) : Type 0 where
   pub wins : (apply m e).answer ≡ lowest (table m e)
   -- number suc j exactly when that row applies and no lower one does; 0 exactly when none does
   pub exactly : (j : ℕ) → (number_of (apply m e).answer ≡ suc j) ↔ First (table m e) j
-  pub done : ((apply m e).answer ≡ Done) ↔ ((j : ℕ) → applies_at (table m e) j ≡ false)
+  pub done : ((apply m e).answer ≡ Ok tt) ↔ ((j : ℕ) → applies_at (table m e) j ≡ false)
   -- "Any refusal returns the state unchanged."
-  pub unchanged : ((apply m e).answer ≡ Done → ⊥) → (apply m e).model ≡ m
+  pub unchanged : ((apply m e).answer ≡ Ok tt → ⊥) → (apply m e).model ≡ m
 
 -- of every Model and every event
 abbrev pub RefusalsClaim : Type 0

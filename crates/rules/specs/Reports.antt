@@ -1,5 +1,5 @@
 -- What the reports mean (2026-10), of every Model and every event; and reports of some histories.
-use Rattle.std.specs.Prelude.{◌≡◌, ◌↔◌, true, List, [], ◌∷◌, map, ℕ}
+use Rattle.std.specs.Prelude.{◌≡◌, ◌↔◌, true, List, [], ◌∷◌, map, ℕ, Some, Ok}
 use Rattle.rules.specs.Answers.{report_number}
 use Rattle.rules.specs.Model.{Model, queue, active}
 use Rattle.rules.specs.Moves.{preempt, start, highest}
@@ -11,18 +11,16 @@ use Rattle.rules.specs.Histories.{delay_fits}
 use Rattle.rules.specs.Cases.{to}
 use Rattle.rules.specs.declared.Event.{Event}
 use Rattle.rules.specs.declared.Event.TheVariants.{Enter, Leave, Delay, Suspend, Release, Clock, Set, Work, Finish}
-use Rattle.rules.specs.declared.Runner.TheVariants.{Task}
 use Rattle.rules.specs.declared.Report.TheVariants.{Unchanged, Preempted, Changed}
-use Rattle.rules.specs.declared.Answer.TheVariants.{Done}
 
 -- a task ran before the event and still runs when its dispatch begins; the dispatch preempts it and starts the head of the highest queue;
 -- another runs then
 pub record Preempts (m : Model) (e : Event) : Type 0 where
   pub task : ℕ
-  pub ran : m.running ≡ Task task
-  pub still : (effect m e).running ≡ Task task
+  pub ran : m.running ≡ Some task
+  pub still : (effect m e).running ≡ Some task
   pub sent : (apply m e).model ≡ start (preempt (effect m e) task) (highest (effect m e))
-  pub other : (apply m e).model.running ≡ Task task → ⊥
+  pub other : (apply m e).model.running ≡ Some task → ⊥
 
 pub record ReportsClaim (m : Model) (e : Event) : Type 0 where
   -- "0 no change": the same task runs before and after, or nobody does
@@ -35,7 +33,7 @@ pub record ReportsClaim (m : Model) (e : Event) : Type 0 where
   -- "2 any other change"
   pub changed : ((apply m e).report ≡ Changed) ↔ (((apply m e).model.running ≡ m.running → ⊥) × (Preempts m e → ⊥))
   -- "A refused event reports 0."
-  pub refused : ((apply m e).answer ≡ Done → ⊥) → (apply m e).report ≡ Unchanged
+  pub refused : ((apply m e).answer ≡ Ok tt → ⊥) → (apply m e).report ≡ Unchanged
 
 -- what a start is made from, the events, and the number that each reports
 pub record ReportCase : Type 0 where

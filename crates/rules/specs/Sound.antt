@@ -1,14 +1,12 @@
 -- What is unsound, clause by clause in document 01's order ("Unsound means: .."). Each definition below says that its clause is kept.
-use Rattle.std.specs.Prelude.{Bool, true, false, not, ◌&&◌, ◌||◌, List, [], ◌∷◌, ℕ, suc, ◌+◌, eqb, leb, ltb, length}
+use Rattle.std.specs.Prelude.{Bool, true, false, not, ◌&&◌, ◌||◌, List, [], ◌∷◌, ℕ, suc, ◌+◌, eqb, leb, ltb, length, None, Option, Some}
 use Rattle.rules.specs.Limits.{last_priority, last_reading, last_delay, counts_good}
 use Rattle.rules.specs.Priorities.{in_range}
-use Rattle.rules.specs.Model.{TaskRecord, Model, NextBase, none, waits, task_at, queue, ceiling_of, active}
+use Rattle.rules.specs.Model.{TaskRecord, Model, task_at, queue, ceiling_of, active}
 use Rattle.rules.specs.Moves.{highest}
 use Rattle.rules.specs.Events.{no_task, no_object, inside}
 use Rattle.rules.specs.declared.Place.{Place}
 use Rattle.rules.specs.declared.Place.TheVariants.{Running, Ready, Delayed, Suspended, Ended}
-use Rattle.rules.specs.declared.Runner.{Runner}
-use Rattle.rules.specs.declared.Runner.TheVariants.{Nobody, Task}
 use Rattle.rules.specs.Lists.{below, all_of, times_in}
 
 -- a test of every task's record; of every priority
@@ -25,17 +23,17 @@ sizes_good m =
     leb m.now last_reading && all_of in_range m.ceilings
 
 -- .. the bases, the waiting bases and the held objects
-unfoldable pub waiting_good : NextBase → Bool
-waiting_good none = true
-waiting_good (waits p) = in_range p
+unfoldable pub waiting_good : Option ℕ → Bool
+waiting_good None = true
+waiting_good (Some p) = in_range p
 
 abbrev pub record_good : Model → TaskRecord → Bool
 record_good m k = in_range k.base && waiting_good k.waiting && all_of (λ o. not (no_object m o)) k.held
 
 -- .. and the tasks that are named as running or ready
-unfoldable pub runner_good : Model → Runner → Bool
-runner_good m Nobody = true
-runner_good m (Task t) = not (no_task m t)
+unfoldable pub runner_good : Model → Option ℕ → Bool
+runner_good m None = true
+runner_good m (Some t) = not (no_task m t)
 
 unfoldable pub numbers_good : Model → Bool
 numbers_good m =
@@ -57,9 +55,9 @@ is_ready (Delayed d) = 0
 is_ready Suspended = 0
 is_ready Ended = 0
 
-unfoldable pub runs : Runner → ℕ → ℕ
-runs Nobody t = 0
-runs (Task u) t = times_in t (u ∷ [])
+unfoldable pub runs : Option ℕ → ℕ → ℕ
+runs None t = 0
+runs (Some u) t = times_in t (u ∷ [])
 
 unfoldable pub queued : List (List ℕ) → ℕ → ℕ
 queued [] t = 0
@@ -96,9 +94,9 @@ unfoldable pub due_ahead : Model → Bool
 due_ahead m = each_task m (λ k. due_good m.now k.place)
 
 -- "a running task below a ready one, or nobody running while one is ready"
-unfoldable pub highest_runs : Model → Runner → Bool
-highest_runs m Nobody = eqb (highest m) 0
-highest_runs m (Task t) = leb (highest m) (active m t)
+unfoldable pub highest_runs : Model → Option ℕ → Bool
+highest_runs m None = eqb (highest m) 0
+highest_runs m (Some t) = leb (highest m) (active m t)
 
 -- "an object twice in one task's held list"
 unfoldable pub distinct : List ℕ → Bool
@@ -118,9 +116,9 @@ unfoldable pub holders_here : Model → Bool
 holders_here m = each_task m (λ k. not (inside k) || eqb (is_ready k.place + is_running k.place) 1)
 
 -- "a waiting base outside an action"
-unfoldable pub is_none : NextBase → Bool
-is_none none = true
-is_none (waits p) = false
+unfoldable pub is_none : Option ℕ → Bool
+is_none None = true
+is_none (Some p) = false
 
 unfoldable pub waiting_inside : Model → Bool
 waiting_inside m = each_task m (λ k. inside k || is_none k.waiting)

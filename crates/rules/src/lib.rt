@@ -1,31 +1,24 @@
-// The kinds of the dispatcher: a roster's limits, priorities, places of tasks, events, answers and reports. Their rules are in specs/.
+// The kinds of the dispatcher: a roster's limits, priorities, places of tasks, events, refusals and reports. Their rules are in specs/.
 #![tactic(auto)]
 
 mod roster;
 
-ghost use Rattle.std.specs.Prelude.{◌≡◌, max};
+ghost use Rattle.std.specs.Prelude.{◌≡◌, ℕ, max};
 ghost use Rattle.rules.specs.Priorities.{in_range, default_of, checked_of, subrange_of};
-ghost use Rattle.rules.specs.Answers.{number_of, report_number};
+ghost use Rattle.rules.specs.Answers.{refusal_number, number_by, report_number};
+ghost use Rattle.rules.specs.Kinds.{kind_of, kind_number, place_of, kind_found};
 
 pub use roster::Roster;
 
 // A priority is a kind of its own. Its field is public, so one out of range can be handed in: rules refuse it.
-#[derive(Clone, Copy)]
+#[derive(Clone, Copy, PartialEq, Eq, PartialOrd, Ord)]
 pub struct Priority(pub u8);
 
-// What the checked constructor finds.
-#[derive(Clone, Copy)]
-pub enum Checked {
-    Good(Priority),
-    OutOfRange,
-}
-
-// The two subranges of Annex D (D.1), or neither.
-#[derive(Clone, Copy)]
+// The two subranges of Annex D (D.1).
+#[derive(Clone, Copy, PartialEq, Eq)]
 pub enum Subrange {
     Priority,
     InterruptPriority,
-    Neither,
 }
 
 impl Priority {
@@ -37,62 +30,54 @@ impl Priority {
 
     pub const FIRST_INTERRUPT: Priority = Priority(31);
 
-    // The default under a promise, which a constant does not have; the other three are pinned by `checked` and `subrange`.
-    pub fn default() -> Priority
-        ensures { result ≡ default_of }
-    {
-        Priority::DEFAULT
-    }
-
     // Whether a value that was handed in is a priority.
     pub fn in_range(self) -> bool
         ensures { result ≡ in_range self.0 }
     {
-        in_range(self.0 as u64)
+        self >= Priority::FIRST && self <= Priority::LAST
     }
 
     pub fn higher(self, other: Priority) -> Priority
         ensures { result.0 ≡ max self.0 other.0 }
     {
-        if self.0 < other.0 { other } else { self }
+        self.max(other)
     }
 
-    pub fn checked(value: u64) -> Checked
+    // A value that was handed in as a priority, where it is one.
+    pub fn checked(value: u64) -> Option<Priority>
         ensures { result ≡ checked_of value }
     {
-        if in_range(value) {
-            return Checked::Good(Priority(value as u8));
-        }
-        Checked::OutOfRange
+        u8::try_from(value)
+            .ok()
+            .map(Priority)
+            .filter(|p| p.in_range())
     }
 
-    pub fn subrange(self) -> Subrange
+    // The subrange of a priority that is in range.
+    pub fn subrange(self) -> Option<Subrange>
         ensures { result ≡ subrange_of self }
     {
-        let interrupt = Priority::FIRST_INTERRUPT;
-        if self.in_range() {
-            if self.0 < interrupt.0 {
-                return Subrange::Priority;
-            }
-            return Subrange::InterruptPriority;
+        if !self.in_range() {
+            return None;
         }
-        Subrange::Neither
+        if self < Priority::FIRST_INTERRUPT {
+            return Some(Subrange::Priority);
+        }
+        Some(Subrange::InterruptPriority)
     }
 }
 
-fn in_range(value: u64) -> bool
-    ensures { result ≡ in_range value }
-{
-    let first = Priority::FIRST;
-    let last = Priority::LAST;
-    if value < (first.0 as u64) {
-        return false;
+// The default under a promise, which a constant does not have; the other three are pinned by `checked` and `subrange`.
+impl Default for Priority {
+    ghost is_default = { λ p. p ≡ default_of };
+
+    fn default() -> Self {
+        Priority::DEFAULT
     }
-    value <= (last.0 as u64)
 }
 
 // Where a task is; a delayed one carries its due time.
-#[derive(Clone, Copy)]
+#[derive(Clone, Copy, PartialEq, Eq)]
 pub enum Place {
     Running,
     Ready,
@@ -101,27 +86,91 @@ pub enum Place {
     Ended,
 }
 
-// The base that waits for a task's outermost Leave, if there is one.
-#[derive(Clone, Copy)]
-pub enum WaitingBase {
-    Nothing,
-    Base(Priority),
+impl Place {
+    pub fn kind(self) -> PlaceKind
+        ensures { result ≡ kind_of self }
+    {
+        match self {
+            Place::Running => PlaceKind::Running,
+            Place::Ready => PlaceKind::Ready,
+            Place::Delayed(_) => PlaceKind::Delayed,
+            Place::Suspended => PlaceKind::Suspended,
+            Place::Ended => PlaceKind::Ended,
+        }
+    }
 }
 
-// A task's record; the objects that it holds are kept beside it.
+// Where a task is, without its due time: the number of each is its byte in a state and on a board.
+#[derive(Clone, Copy, PartialEq, Eq)]
+pub enum PlaceKind {
+    Running = 0,
+    Ready = 1,
+    Delayed = 2,
+    Suspended = 3,
+    Ended = 4,
+}
+
+impl PlaceKind {
+    // The place of this kind; a delayed task's has its due time.
+    pub fn place(self, due: u64) -> Place
+        ensures { result ≡ place_of self due }
+    {
+        match self {
+            PlaceKind::Running => Place::Running,
+            PlaceKind::Ready => Place::Ready,
+            PlaceKind::Delayed => Place::Delayed(due),
+            PlaceKind::Suspended => Place::Suspended,
+            PlaceKind::Ended => Place::Ended,
+        }
+    }
+}
+
+// A number that is none of a place kind.
+#[derive(Clone, Copy, PartialEq, Eq)]
+pub struct NoSuchKind(pub u8);
+
+impl From<PlaceKind> for u8 {
+    ghost from_gives = { λ k n. n ≡ kind_number k };
+
+    fn from(kind: PlaceKind) -> u8 {
+        kind as u8
+    }
+}
+
+impl TryFrom<u8> for PlaceKind {
+    type Error = NoSuchKind;
+
+    ghost try_from_gives = { λ n r. r ≡ kind_found n };
+
+    fn try_from(n: u8) -> Result<Self, NoSuchKind> {
+        match n {
+            0 => Ok(PlaceKind::Running),
+            1 => Ok(PlaceKind::Ready),
+            2 => Ok(PlaceKind::Delayed),
+            3 => Ok(PlaceKind::Suspended),
+            4 => Ok(PlaceKind::Ended),
+            _ => Err(NoSuchKind(n)),
+        }
+    }
+}
+
+// A task's record, with the base that waits for its outermost Leave, if there is one; the objects that it holds are kept beside it.
 #[derive(Clone, Copy)]
 pub struct Task {
     pub place: Place,
     pub base: Priority,
-    pub waiting: WaitingBase,
+    pub waiting: Option<Priority>,
     pub permit: bool,
 }
 
-// Who has the processor.
-#[derive(Clone, Copy)]
-pub enum Runner {
-    Nobody,
-    Task(u8),
+impl Task {
+    // The record of no task.
+    pub const BLANK: Task = Task {
+        place: Place::Ended,
+        base: Priority(0),
+        waiting: None,
+        permit: false,
+    };
 }
 
 // What can happen to a state. Task numbers, object numbers and readings are as wide as a caller may say them.
@@ -138,62 +187,66 @@ pub enum Event {
     Finish,
 }
 
-// What an event or a fresh start answers; number_of in specs/ has the number of each.
-#[derive(Clone, Copy)]
-pub enum Answer {
-    Done,
-    NoSuchTask,
-    NoSuchObject,
-    BadPriority,
-    BadReading,
-    NobodyRuns,
-    EndedTask,
-    InsideAction,
-    AboveCeiling,
-    NotInnermost,
-    Unsound,
-    BadCounts,
-    BadBases,
+// Why an event or a fresh start is refused, each with its number in the table of answers.
+#[derive(Clone, Copy, PartialEq, Eq)]
+pub enum Refusal {
+    NoSuchTask = 1,
+    NoSuchObject = 2,
+    BadPriority = 3,
+    BadReading = 4,
+    NobodyRuns = 5,
+    EndedTask = 6,
+    InsideAction = 7,
+    AboveCeiling = 8,
+    NotInnermost = 9,
+    Unsound = 10,
+    BadCounts = 13,
+    BadBases = 15,
 }
 
-impl Answer {
-    pub fn number(self) -> u8
-        ensures { result ≡ number_of self }
-    {
+// What an event or a fresh start answers: done, or why not.
+pub type Answer = Result<(), Refusal>;
+
+// What has a number in the table of answers.
+pub trait Numbered {
+    ghost number: { Self → ℕ };
+
+    fn number(self) -> u8
+        ensures { result ≡ number self };
+}
+
+impl Numbered for Refusal {
+    ghost number = { refusal_number };
+
+    fn number(self) -> u8 {
+        self as u8
+    }
+}
+
+// Done is 0.
+impl<T: Drop, E: Numbered> Numbered for Result<T, E> {
+    ghost number = { number_by E.number };
+
+    fn number(self) -> u8 {
         match self {
-            Answer::Done => 0,
-            Answer::NoSuchTask => 1,
-            Answer::NoSuchObject => 2,
-            Answer::BadPriority => 3,
-            Answer::BadReading => 4,
-            Answer::NobodyRuns => 5,
-            Answer::EndedTask => 6,
-            Answer::InsideAction => 7,
-            Answer::AboveCeiling => 8,
-            Answer::NotInnermost => 9,
-            Answer::Unsound => 10,
-            Answer::BadCounts => 13,
-            Answer::BadBases => 15,
+            Ok(_) => 0,
+            Err(e) => e.number(),
         }
     }
 }
 
-// Why the processor changed hands at an event; report_number in specs/ has the number of each.
-#[derive(Clone, Copy)]
+// Why the processor changed hands at an event, each with its number.
+#[derive(Clone, Copy, PartialEq, Eq)]
 pub enum Report {
-    Unchanged,
-    Preempted,
-    Changed,
+    Unchanged = 0,
+    Preempted = 1,
+    Changed = 2,
 }
 
-impl Report {
-    pub fn number(self) -> u8
-        ensures { result ≡ report_number self }
-    {
-        match self {
-            Report::Unchanged => 0,
-            Report::Preempted => 1,
-            Report::Changed => 2,
-        }
+impl Numbered for Report {
+    ghost number = { report_number };
+
+    fn number(self) -> u8 {
+        self as u8
     }
 }

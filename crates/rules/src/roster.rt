@@ -21,22 +21,13 @@ impl Roster {
     pub fn counts_good(tasks: usize, objects: usize) -> bool
         ensures { result ≡ counts_good tasks objects }
     {
-        if tasks < 1 {
-            return false;
-        }
-        if Roster::TASKS < tasks {
-            return false;
-        }
-        objects <= Roster::OBJECTS
+        (1..=Roster::TASKS).contains(&tasks) && objects <= Roster::OBJECTS
     }
 
     // Whether a roster may have so many bytes: 11 follows it.
     pub fn size_good(size: usize) -> bool
         ensures { result ≡ size_good size }
     {
-        if size < Roster::SMALLEST {
-            return false;
-        }
-        size <= Roster::LARGEST
+        (Roster::SMALLEST..=Roster::LARGEST).contains(&size)
     }
 }

@@ -2,6 +2,5 @@
 #![tactic(auto)]
 
 mod pass;
-mod start;
 
 pub use pass::run;

@@ -8,7 +8,8 @@ use native.Mathlib.Omega.{arith}
 use borrow.Author.Tests.{eqb-true, eq-eqb, ne_eqb, ltb-true, ltb-false, not-false}
 use lib.Dec.{eqb}
 use lib.ListN.{length, get_or, take}
-use Rattle.rules.specs.Model.{waits, ceiling_of, highest_of}
+use Rattle.std.specs.Prelude.{Some}
+use Rattle.rules.specs.Model.{ceiling_of, highest_of}
 use Rattle.rules.specs.Lists.{times_in, without}
 use Rattle.rules.specs.declared.Priority.{Priority}
 use Rattle.rules.proofs.Counts.{times-same, times-cons}
@@ -52,7 +53,7 @@ pub record Fits (r : Roster) (t : ℕ) (a : Status) : Type 0 where
   pub within : a.position ≤ length (script_of r t)
   pub held : a.inside ≡ held_before (script_of r t) a.position
   pub based : a.base ≤ top_at r t
-  pub awaits : (p : ℕ) → a.waiting ≡ waits p → p ≤ top_at r t
+  pub awaits : (p : ℕ) → a.waiting ≡ Some p → p ≤ top_at r t
 
 module _ (r : Roster) (k : Orderly r) (t : ℕ) (low : t < length r.bases) (a : Status) (f : Fits r t a) where
   -- the rules of the step that comes next

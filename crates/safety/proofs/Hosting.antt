@@ -4,13 +4,12 @@ use mathlib.Core.Bool.{true}
 use mathlib.Core.List.{List, [], ◌∷◌}
 use native.Mathlib.Omega.{arith}
 use lib.ListN.{length, replicate}
+use Rattle.std.specs.Prelude.{None, Option, Some, ℕ, Err}
 use Rattle.rules.specs.Answers.{number_of}
 use Rattle.rules.specs.Events.{apply}
 use Rattle.rules.specs.Sound.{sound}
 use Rattle.rules.specs.declared.Event.TheVariants as event
-use Rattle.rules.specs.declared.Runner.{Runner}
-use Rattle.rules.specs.declared.Runner.TheVariants.{Nobody, Task}
-use Rattle.rules.specs.declared.Answer.TheVariants.{Unsound}
+use Rattle.rules.specs.declared.Refusal.TheVariants.{Unsound}
 use Rattle.rules.proofs.LimitLaws.{counts-in}
 use Rattle.rules.proofs.Soundness.{good-sound}
 use Rattle.rules.proofs.EventLaws.{work-5}
@@ -56,10 +55,10 @@ module _ (c : Config) (s : sound c.model ≡ true) where
   called_is Again = refl
   called_is Finish = applied-encode c.model s event.Finish
 
-  step_is : (r : Roster) (w : Runner) → c.model.running ≡ w → step_on r (beside c) w ≡ replied (step_by r c w)
+  step_is : (r : Roster) (w : Option ℕ) → c.model.running ≡ w → step_on r (beside c) w ≡ replied (step_by r c w)
   unfolding step_on step_by advance apply
-  step_is r Nobody e = rw (applied-encode c.model s event.Work, work-5 c.model e)
-  step_is r (Task t) e = rw (called_is (next_step r t (position_at c t)))
+  step_is r None e = rw (applied-encode c.model s event.Work, work-5 c.model e)
+  step_is r (Some t) e = rw (called_is (next_step r t (position_at c t)))
 
   call-is : (r : Roster) (e : history.Event) → call r (beside c) e ≡ replied (happen r c (input_of e))
   unfolding call happen outside input_of apply encode
@@ -68,17 +67,17 @@ module _ (c : Config) (s : sound c.model ≡ true) where
   call-is r history.step = step_is r c.model.running refl
 
   -- and none of it answers 10
-  answer-never : (y : Asked) → (answer_to c.model y).answer ≡ Unsound → ⊥
+  answer-never : (y : Asked) → (answer_to c.model y).answer ≡ (Err Unsound) → ⊥
   unfolding answer_to
   answer-never (asks e) u = rule-never c.model e u
   answer-never nothing u = absurd (omega (arith, ap number_of u))
 
-  step-never : (r : Roster) (w : Runner) → (step_by r c w).answer ≡ Unsound → ⊥
+  step-never : (r : Roster) (w : Option ℕ) → (step_by r c w).answer ≡ (Err Unsound) → ⊥
   unfolding step_by advance perform
-  step-never r Nobody u = absurd (omega (arith, ap number_of u))
-  step-never r (Task t) u = answer-never (event_of (next_step r t (position_at c t))) u
+  step-never r None u = absurd (omega (arith, ap number_of u))
+  step-never r (Some t) u = answer-never (event_of (next_step r t (position_at c t))) u
 
-  event-never : (r : Roster) (e : history.Event) → (happen r c (input_of e)).answer ≡ Unsound → ⊥
+  event-never : (r : Roster) (e : history.Event) → (happen r c (input_of e)).answer ≡ (Err Unsound) → ⊥
   unfolding happen outside input_of apply
   event-never r (history.clock x) u = rule-never c.model (event.Clock x) u
   event-never r (history.release t) u = rule-never c.model (event.Release t) u

@@ -8,14 +8,14 @@ use native.Mathlib.Omega.{arith}
 use borrow.Author.Tests.{eqb-true, ltb-true, leb-false}
 use lib.Dec.{eqb, ltb}
 use lib.ListN.{length, get_or, set, take, length-set, length-map, get_or-map}
-use Rattle.rules.specs.Model.{Model, NextBase, none, waits, task_at, ceiling_of, highest_of, active_of}
+use Rattle.std.specs.Prelude.{None, Option, Some, ℕ, Err, Ok}
+use Rattle.rules.specs.Model.{Model, task_at, ceiling_of, highest_of, active_of}
 use Rattle.rules.specs.Moved.{Moved, refused}
 use Rattle.rules.specs.Lists.{times_in, without}
 use Rattle.rules.specs.Events.{no_task, clock, release, apply, bad_reading}
-use Rattle.rules.specs.declared.Runner.{Runner}
-use Rattle.rules.specs.declared.Runner.TheVariants.{Nobody, Task}
-use Rattle.rules.specs.declared.Answer.{Answer}
-use Rattle.rules.specs.declared.Answer.TheVariants.{Done, NoSuchTask, BadReading}
+use Rattle.rules.specs.Answers.{Answer}
+use Rattle.rules.specs.declared.Refusal.{Refusal}
+use Rattle.rules.specs.declared.Refusal.TheVariants.{NoSuchTask, BadReading}
 use Rattle.rules.specs.declared.Event.TheVariants as E
 use Rattle.rules.proofs.Choices.{split, both_ways, cond-true, cond-false, and_left, and_right}
 use Rattle.rules.proofs.TaskLaws.{at_same, at_other, at-keeps}
@@ -80,7 +80,7 @@ read-faces : (x : ℕ) (l : List Status) (u : ℕ) → face (get_or (map (read_a
 unfolding away_after
 read-faces x l u = ap face (get_or-map (read_at x) l u unknown)
 
-done-is : (a : Answer) → a ≡ Done → is_done a ≡ true
+done-is : (a : Answer) → a ≡ Ok tt → is_done a ≡ true
 done-is a e = ap is_done e
 
 -- an event from outside that is accepted or refused
@@ -99,12 +99,12 @@ module _ (r : Roster) (c : Config) (b : Reckoning) (i : Inv r c b) where
         fits = λ u h. fits-face r u (status_at b u) (status_at b₂ u) (g u) (i.fits u h);
       })
 
-  refused-way : (b₂ : Reckoning) (a : Answer) (v : Moved) → v ≡ refused c.model a → is_done a ≡ false →
+  refused-way : (b₂ : Reckoning) (a : Refusal) (v : Moved) → v ≡ refused c.model a → is_done (Err a) ≡ false →
       Inv r (outside c v).config (cond (is_done (outside c v).answer) b₂ b)
   unfolding outside
   refused-way b₂ a v e n =
       subst (λ (y : Moved). Inv r (outside c y).config (cond (is_done (outside c y).answer) b₂ b)) (sym e)
-      (subst (Inv r c) (sym (cond-false (is_done a) b₂ b n)) i)
+      (subst (Inv r c) (sym (cond-false (is_done (Err a)) b₂ b n)) i)
 
   by-clock : (x : ℕ) → Inv r (outside c (clock c.model x)).config
       (cond (is_done (outside c (clock c.model x)).answer) (record { now = x; tasks = map (read_at x) b.tasks }) b)
@@ -164,7 +164,7 @@ none_before steps = refl
 -- the step of the running task t
 module _ (r : Roster) (k : Orderly r) (m : Model) (ps : List ℕ) (b : Reckoning) (h : Good true m) (a : Agree b m.now m.tasks ps)
     (cs : m.ceilings ≡ r.ceilings) (size : length b.tasks ≡ length r.bases)
-    (fit : (u : ℕ) → u < length r.bases → Fits r u (status_at b u)) (t : ℕ) (e : m.running ≡ Task t) where
+    (fit : (u : ℕ) → u < length r.bases → Fits r u (status_at b u)) (t : ℕ) (e : m.running ≡ Some t) where
   low : t < length r.bases
   low = omega (arith, t-in m t h e, a.size, size)
 
@@ -286,11 +286,11 @@ module _ (r : Roster) (k : Orderly r) (m : Model) (ps : List ℕ) (b : Reckoning
     awaits = own.awaits;
   }
 
-  settled : (o : ℕ) → step_due r t (status_at b t) ≡ Leave o → (w : NextBase) → (status_at b t).waiting ≡ w →
+  settled : (o : ℕ) → step_due r t (status_at b t) ≡ Leave o → (w : Option ℕ) → (status_at b t).waiting ≡ w →
       Fits r t (at_position (becomes_base (inside_of (status_at b t) (without o (status_at b t).inside)) w) (suc (status_at b t).position))
   unfolding becomes_base own
-  settled o n none i = left o n
-  settled o n (waits p) i = let f = left o n in record {
+  settled o n None i = left o n
+  settled o n (Some p) i = let f = left o n in record {
     within = f.within;
     held = f.held;
     based = own.awaits p i;
@@ -365,11 +365,11 @@ module _ (r : Roster) (k : Orderly r) (m : Model) (ps : List ℕ) (b : Reckoning
   -- the step itself, with its position in the script
   stepped : (c : Config) → c.model ≡ m → c.positions ≡ ps → (n : ℕ) → n ≡ (status_at b t).position →
       Inv r (advance c t (position_after n (next_step r t n)) (perform m (next_step r t n))).config
-      (cond (is_done (advance c t (position_after n (next_step r t n)) (perform m (next_step r t n))).answer) (took r b (Task t)) b)
+      (cond (is_done (advance c t (position_after n (next_step r t n)) (perform m (next_step r t n))).answer) (took r b (Some t)) b)
   unfolding took advance low
   stepped c cm cp n i =
       subst (λ (v : ℕ). Inv r (advance c t (position_after v (next_step r t v)) (perform m (next_step r t v))).config
-      (cond (is_done (advance c t (position_after v (next_step r t v)) (perform m (next_step r t v))).answer) (took r b (Task t)) b))
+      (cond (is_done (advance c t (position_after v (next_step r t v)) (perform m (next_step r t v))).answer) (took r b (Some t)) b))
       (sym i)
       (subst (Inv r _) (sym (cond-true (is_done (perform m x).answer) (behind x) b (done-is _ f.done)))
       (record {
@@ -397,11 +397,11 @@ module _ (r : Roster) (k : Orderly r) (m : Model) (ps : List ℕ) (b : Reckoning
           ap (λ (l : List ℕ). set l t at) (sym cp) ∙
           sym (cond-true (is_done (perform m x).answer) (set c.positions t at) c.positions (done-is _ f.done))
 
-by-step : (r : Roster) → Orderly r → (c : Config) (b : Reckoning) → Inv r c b → (w : Runner) → c.model.running ≡ w →
+by-step : (r : Roster) → Orderly r → (c : Config) (b : Reckoning) → Inv r c b → (w : Option ℕ) → c.model.running ≡ w →
     Inv r (step_by r c w).config (cond (is_done (step_by r c w).answer) (took r b w) b)
 unfolding step_by
-by-step r k c b i Nobody e = i
-by-step r k c b i (Task t) e =
+by-step r k c b i None e = i
+by-step r k c b i (Some t) e =
     stepped r k c.model c.positions b i.good i.agree i.ceilings i.size i.fits t e c refl refl (position_at c t)
     (ap (λ (v : Status). v.position) (sym (i.agree.each t)))
 
@@ -415,11 +415,11 @@ by-event r k c b i (free t) = by-release r c b i t
 by-event r k c b i step = by-step r k c b i c.model.running refl
 
 -- a step is done where somebody runs
-pub step-done : (r : Roster) → Orderly r → (c : Config) (b : Reckoning) → Inv r c b → (t : ℕ) → c.model.running ≡ Task t →
-    (step_by r c c.model.running).answer ≡ Done
+pub step-done : (r : Roster) → Orderly r → (c : Config) (b : Reckoning) → Inv r c b → (t : ℕ) → c.model.running ≡ Some t →
+    (step_by r c c.model.running).answer ≡ Ok tt
 unfolding step_by advance
 step-done r k c b i t e =
-    subst (λ (w : Runner). (step_by r c w).answer ≡ Done) (sym e)
-    (subst (λ (v : ℕ). (perform c.model (next_step r t v)).answer ≡ Done) (ap (λ (v : Status). v.position) (i.agree.each t))
+    subst (λ (w : Option ℕ). (step_by r c w).answer ≡ Ok tt) (sym e)
+    (subst (λ (v : ℕ). (perform c.model (next_step r t v)).answer ≡ Ok tt) (ap (λ (v : Status). v.position) (i.agree.each t))
     (performed r k c.model c.positions b i.good i.agree i.ceilings i.size i.fits t e
     (step_due r t (status_at b t)) refl).done)

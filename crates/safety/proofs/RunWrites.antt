@@ -6,21 +6,22 @@ use mathlib.Core.List.{List, [], ◌∷◌, ◌++◌, map}
 use Prim.Native.Nat.{ℕ, suc, ◌+◌, ◌*◌, ◌<◌}
 use native.Mathlib.Omega.{arith}
 use lib.ListN.{length, get_or, drop, length-append, length-map, get_or-append}
+use Rattle.std.specs.Prelude.{Ok, Err}
 use Rattle.rules.specs.Answers.{number_of, report_number}
 use Rattle.rules.proofs.Choices.{cond-true}
 use Rattle.rules.proofs.Refusals.{number-done}
-use Rattle.format.specs.Answers.{passed}
+use Rattle.format.specs.Answers.{Verdict, passed}
 use Rattle.format.specs.Roster.{Roster, roster_of}
 use Rattle.format.specs.Check.{check_of}
 use Rattle.trace.specs.Limits.{reply_size}
 use Rattle.trace.specs.Config.{Config, start_of, happen}
 use Rattle.trace.specs.Answers as run
+use Rattle.trace.specs.Answers.{RunAnswer}
+use Rattle.trace.specs.Run.{after_check}
 use Rattle.trace.specs.Inputs.{inputs_of}
 use Rattle.trace.specs.Run.{answer_of, running_byte, reply_of, replies_from, replies_of, buffer_of}
 use Rattle.trace.proofs.RunLaws.{replies-count}
 use Rattle.trace.specs.declared.Input.{Input}
-use Rattle.trace.specs.declared.RunAnswer.{RunAnswer}
-use Rattle.trace.specs.declared.RunAnswer.TheVariants.{Done as Ran, BadRoster}
 use Rattle.safety.specs.History.{Event, step, input_of, after_from, after}
 use Rattle.safety.specs.Safe.{running, step_answer, Idle}
 use Rattle.safety.specs.RunWrites.{RunWrites}
@@ -49,16 +50,16 @@ module _ (r : Roster) where
   after_last c (x ∷ before) e = after_last (happen r c (input_of x)).config before e
 
 -- a run that is not refused has a roster that passes
-pub ran-passes : (s ev : List ℕ) (size : ℕ) → answer_of s ev size ≡ Ran → passed (check_of s) ≡ true
+pub ran-passes : (s ev : List ℕ) (size : ℕ) → answer_of s ev size ≡ Ok tt → passed (check_of s) ≡ true
 unfolding answer_of
-ran-passes s ev size e = go (passed (check_of s)) refl _ e
+ran-passes s ev size e = go (check_of s) _ e
   where
-    go : (b : Bool) → passed (check_of s) ≡ b → (w : RunAnswer) → cond (not b) (BadRoster (check_of s)) w ≡ Ran → passed (check_of s) ≡ true
-    go true f w g = f
-    go false f w g = absurd (let z : ◌≡◌ {A = ℕ} 0 1 = cc in omega arith)
+    go : (v : Verdict) (w : RunAnswer) → after_check v w ≡ Ok tt → passed v ≡ true
+    go (Ok done) w g = refl
+    go (Err f) w g = absurd (cc g)
 
 -- the three bytes of an event in the buffer of a run that is not refused
-module _ (s ev buffer : List ℕ) (es : List Event) (e : answer_of s ev (length buffer) ≡ Ran) (f : inputs_of ev ≡ map input_of es) where
+module _ (s ev buffer : List ℕ) (es : List Event) (e : answer_of s ev (length buffer) ≡ Ok tt) (f : inputs_of ev ≡ map input_of es) where
   r : Roster
   r = roster_of s
 

@@ -7,9 +7,10 @@ use native.Mathlib.Omega.{arith}
 use borrow.Author.Tests.{eq-eqb, ne_eqb, lt-leb, le-ltb, ltb-true}
 use lib.Dec.{eqb, leb}
 use lib.ListN.{length, get_or, take, length-set, length-map, get_or-map}
+use Rattle.std.specs.Prelude.{None, Option, Some, ℕ, Ok}
 use Rattle.rules.specs.Limits.{last_delay}
 use Rattle.rules.specs.Priorities.{in_range}
-use Rattle.rules.specs.Model.{Model, TaskRecord, NextBase, none, waits, blank, with_place, with_base, with_waiting, with_held, with_now}
+use Rattle.rules.specs.Model.{Model, TaskRecord, blank, with_place, with_base, with_waiting, with_held, with_now}
 use Rattle.rules.specs.Model.{task_at, with_task, ceiling_of, active_of, active}
 use Rattle.rules.specs.Moves.{become_ready, stopped, dispatch}
 use Rattle.rules.specs.Moved.{Moved, accepted}
@@ -19,9 +20,6 @@ use Rattle.rules.specs.Events.{set_base}
 use Rattle.rules.specs.Events.{work, finish, bad_reading, take_reading}
 use Rattle.rules.specs.declared.Place.{Place}
 use Rattle.rules.specs.declared.Place.TheVariants.{Running, Ready, Delayed, Suspended, Ended}
-use Rattle.rules.specs.declared.Runner.{Runner}
-use Rattle.rules.specs.declared.Runner.TheVariants.{Task}
-use Rattle.rules.specs.declared.Answer.TheVariants.{Done}
 use Rattle.rules.specs.Lists.{times_in, without}
 use Rattle.rules.proofs.Choices.{cond-true, cond-false}
 use Rattle.rules.proofs.TaskLaws.{at_same}
@@ -40,12 +38,12 @@ use Rattle.safety.proofs.Agree.{away_of, status_of, Agree, agree-alike, agree-ta
 
 -- an accepted event: the Model after it is good and agrees with the reckoning b
 pub record Fine (ps : List ℕ) (b : Reckoning) (v : Moved) : Type 0 where
-  pub done : v.answer ≡ Done
+  pub done : v.answer ≡ Ok tt
   pub good : Good true v.model
   pub agree : Agree b v.model.now v.model.tasks ps
 
 -- from the Model before its dispatch
-pub fine : (w : Runner) (ps : List ℕ) (b : Reckoning) (v : Moved) (n : Model) → v ≡ accepted w n → Pending true n →
+pub fine : (w : Option ℕ) (ps : List ℕ) (b : Reckoning) (v : Moved) (n : Model) → v ≡ accepted w n → Pending true n →
     Agree b n.now n.tasks ps → Fine ps b v
 unfolding accepted
 fine w ps b v n e p a =
@@ -82,26 +80,26 @@ rejoins ps b m t p a e = joins ps b (stopped m) t a (ap away_of e)
 takes-effect : (ps : List ℕ) (b : Reckoning) (n : Model) (t : ℕ) (y : Status) (p : ℕ) →
     Agree (with_status b t y) n.now n.tasks ps →
     t < length n.tasks → t < length b.tasks → (task_at n t).place ≡ Running →
-    Agree (with_status b t (based_on y p none))
-    (become_ready (stopped (with_task n t (with_waiting (with_base (task_at n t) p) none))) t).now
-    (become_ready (stopped (with_task n t (with_waiting (with_base (task_at n t) p) none))) t).tasks ps
+    Agree (with_status b t (based_on y p None))
+    (become_ready (stopped (with_task n t (with_waiting (with_base (task_at n t) p) None))) t).now
+    (become_ready (stopped (with_task n t (with_waiting (with_base (task_at n t) p) None))) t).tasks ps
 unfolding stopped away_of
 takes-effect ps b n t y p a l g e =
     let b₁ : Reckoning = with_status b t y in
-    let k = with_waiting (with_base (task_at n t) p) none in
-    let x = based_on (status_at b₁ t) p none in
+    let k = with_waiting (with_base (task_at n t) p) None in
+    let x = based_on (status_at b₁ t) p None in
     let own : status_at b₁ t ≡ y = at_same (λ (v : Status). v) unknown b.tasks t y t refl g in
-    let set_to = agree-task b₁ n.now n.tasks ps a t k x l (ap (λ (v : Status). based_on v p none) (a.each t)) in
+    let set_to = agree-task b₁ n.now n.tasks ps a t k x l (ap (λ (v : Status). based_on v p None) (a.each t)) in
     let place = at_same (λ (v : TaskRecord). away_of v.place) blank n.tasks t k t refl l ∙ ap away_of e in
-    let same : with_status b₁ t x ≡ with_status b t (based_on y p none) =
-    ap (λ (v : Status). with_status b₁ t (based_on v p none)) own ∙ status-twice b t y (based_on y p none) in
+    let same : with_status b₁ t x ≡ with_status b t (based_on y p None) =
+    ap (λ (v : Status). with_status b₁ t (based_on v p None)) own ∙ status-twice b t y (based_on y p None) in
     subst (λ (v : Reckoning). Agree v (become_ready (stopped (with_task n t k)) t).now
     (become_ready (stopped (with_task n t k)) t).tasks ps) same
     (joins ps (with_status b₁ t x) (stopped (with_task n t k)) t set_to place)
 
 -- the running task t of a good Model m that agrees with b
 module _ (ps : List ℕ) (b : Reckoning) (m : Model) (h : Good true m) (a : Agree b m.now m.tasks ps) (t : ℕ)
-    (e : m.running ≡ Task t) where
+    (e : m.running ≡ Some t) where
   low : t < length m.tasks
   low = t-in m t h e
 
@@ -213,18 +211,18 @@ module _ (ps : List ℕ) (b : Reckoning) (m : Model) (h : Good true m) (a : Agre
       depth_is : length x.inside ≡ length (task_at m t).held
       depth_is = ap length held-is
 
-      calm : length (task_at m t).held ≡ 0 → (task_at m t).waiting ≡ none
+      calm : length (task_at m t).held ≡ 0 → (task_at m t).waiting ≡ None
       calm = (h.pending.fair t low).calm
 
       moved : status_of (with_base (task_at m t) p) (get_or ps t 0) ≡ based_on x p (task_at m t).waiting
       moved = ap (λ (v : Status). based_on v p (task_at m t).waiting) (sym is)
 
       requeued : length (task_at m t).held ≡ 0 →
-          Agree (with_status b t (based_on x p none)) (requeue (with_task m t (with_base (task_at m t) p)) t (active m t) Running).now
+          Agree (with_status b t (based_on x p None)) (requeue (with_task m t (with_base (task_at m t) p)) t (active m t) Running).now
           (requeue (with_task m t (with_base (task_at m t) p)) t (active m t) Running).tasks ps
       requeued z =
-          rejoins ps (with_status b t (based_on x p none)) (with_task m t (with_base (task_at m t) p)) t (active m t)
-          (agree-task b m.now m.tasks ps a t (with_base (task_at m t) p) (based_on x p none) low
+          rejoins ps (with_status b t (based_on x p None)) (with_task m t (with_base (task_at m t) p)) t (active m t)
+          (agree-task b m.now m.tasks ps a t (with_base (task_at m t) p) (based_on x p None) low
           (ap (based_on x p) (sym (calm z)) ∙ sym moved))
           (at_same (λ (v : TaskRecord). v.place) blank m.tasks t (with_base (task_at m t) p) t refl low ∙ place_is)
 
@@ -233,7 +231,7 @@ module _ (ps : List ℕ) (b : Reckoning) (m : Model) (h : Good true m) (a : Agre
           at-model ps _ (rebase m t p) _ (rebase-inside m t p f)
           (passed-by _ _ ps b t (eqb (length x.inside) 0) _ _
           (ne_eqb (length x.inside) 0 (λ i. omega (arith, i, depth_is, ltb-true 0 (length (task_at m t).held) f)))
-          (agree-task b m.now m.tasks ps a t _ _ low (ap (λ (v : Status). based_on v v.base (waits p)) is)))
+          (agree-task b m.now m.tasks ps a t _ _ low (ap (λ (v : Status). based_on v v.base (Some p)) is)))
       sets false f =
           let z : length (task_at m t).held ≡ 0 = hold-none (task_at m t) f in
           chosen _ _ ps b t (eqb (length x.inside) 0) _ _ (eq-eqb (length x.inside) 0 (depth_is ∙ z))
@@ -281,10 +279,10 @@ module _ (ps : List ℕ) (b : Reckoning) (m : Model) (h : Good true m) (a : Agre
       running-n : (task_at n t).place ≡ Running
       running-n = ap (λ (v : TaskRecord). v.place) at_n ∙ place_is
 
-      by-waiting : (w : NextBase) → (task_at n t).waiting ≡ w → inside (task_at n t) ≡ false →
+      by-waiting : (w : Option ℕ) → (task_at n t).waiting ≡ w → inside (task_at n t) ≡ false →
           Agree (with_status b t (becomes_base y w)) (settle n t).now (settle n t).tasks ps
-      by-waiting none w g = at-model ps _ (settle n t) n (settle-none n t g w) left
-      by-waiting (waits p) w g =
+      by-waiting None w g = at-model ps _ (settle n t) n (settle-none n t g w) left
+      by-waiting (Some p) w g =
           at-model ps _ (settle n t) _ (settle-due n t p g w)
           (takes-effect ps b n t y p left low-n (omega (arith, low, a.size)) running-n)
 
@@ -295,7 +293,7 @@ module _ (ps : List ℕ) (b : Reckoning) (m : Model) (h : Good true m) (a : Agre
           (at-model ps _ (settle n t) n (settle-inside n t g) left)
       settles false g =
           chosen _ _ ps b t (eqb (length y.inside) 0) _ _ (eq-eqb (length y.inside) 0 (depth_is ∙ hold-none (task_at n t) g))
-          (subst (λ (w : NextBase). Agree (with_status b t (becomes_base y w)) (settle n t).now (settle n t).tasks ps) (sym waiting-is)
+          (subst (λ (w : Option ℕ). Agree (with_status b t (becomes_base y w)) (settle n t).now (settle n t).tasks ps) (sym waiting-is)
           (by-waiting (task_at n t).waiting refl g))
 
 -- Release, by an event or a step

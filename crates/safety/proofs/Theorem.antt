@@ -9,15 +9,14 @@ use native.Mathlib.Omega.{arith}
 use borrow.Author.Tests.{eq-eqb, ne_eqb}
 use lib.Dec.{eqb}
 use lib.ListN.{length, get_or, replicate, length-replicate, get_or-eq_default}
+use Rattle.std.specs.Prelude.{None, Option, Some, ℕ, Err, Ok}
 use Rattle.rules.specs.Limits.{task_limit}
 use Rattle.rules.specs.Model.{Model, TaskRecord, blank, with_place, task_at, highest_of, active}
 use Rattle.rules.specs.Fresh.{new_task, fresh_model}
 use Rattle.rules.specs.Sound.{queued, runs, is_ready, is_running}
 use Rattle.rules.specs.declared.Place.{Place}
 use Rattle.rules.specs.declared.Place.TheVariants.{Running, Ready, Delayed, Suspended, Ended}
-use Rattle.rules.specs.declared.Runner.{Runner}
-use Rattle.rules.specs.declared.Runner.TheVariants.{Nobody, Task}
-use Rattle.rules.specs.declared.Answer.TheVariants.{Done, NobodyRuns}
+use Rattle.rules.specs.declared.Refusal.TheVariants.{NobodyRuns}
 use Rattle.rules.specs.Lists.{times_in}
 use Rattle.rules.proofs.Choices.{split, compare, clash, cond-true, cond-false}
 use Rattle.rules.proofs.Counts.{times-same, times-other, queued-at, queued-two, Row, row-of}
@@ -144,19 +143,19 @@ module _ (r : Roster) (c : Config) (b : Reckoning) (i : Inv r c b) where
   away : (u : ℕ) → (status_at b u).away ≡ away_of (task_at c.model u).place
   away u = ap (λ (a : Status). a.away) (i.agree.each u)
 
-  not-runner : (w : Runner) (t : ℕ) → ready_by b w t ≡ true → (runs w t ≡ 0) × (is_here (status_at b t).away ≡ true)
+  not-runner : (w : Option ℕ) (t : ℕ) → ready_by b w t ≡ true → (runs w t ≡ 0) × (is_here (status_at b t).away ≡ true)
   unfolding ready_by runs
-  not-runner Nobody t e = (refl, e)
-  not-runner (Task u) t e =
+  not-runner None t e = (refl, e)
+  not-runner (Some u) t e =
       split t u
       (λ i. absurd (let z : false ≡ true = sym (cond-true (eqb u t) false (is_here (status_at b t).away) (eq-eqb u t (sym i))) ∙ e in
       clash (sym z)))
       (λ n. (times-other u t n, sym (cond-false (eqb u t) false (is_here (status_at b t).away) (ne_eqb u t (λ i. n (sym i)))) ∙ e))
 
-  is-ready : (w : Runner) (t : ℕ) → runs w t ≡ 0 → is_here (status_at b t).away ≡ true → ready_by b w t ≡ true
+  is-ready : (w : Option ℕ) (t : ℕ) → runs w t ≡ 0 → is_here (status_at b t).away ≡ true → ready_by b w t ≡ true
   unfolding ready_by runs
-  is-ready Nobody t z e = e
-  is-ready (Task u) t z e =
+  is-ready None t z e = e
+  is-ready (Some u) t z e =
       cond-false (eqb u t) false (is_here (status_at b t).away) (ne_eqb u t (λ i. omega (arith, z, times-same u t i))) ∙ e
 
   ready-queued : (t : ℕ) → ready_by b c.model.running t ≡ true → queued c.model.ready t ≡ 1
@@ -181,9 +180,9 @@ module _ (r : Roster) (c : Config) (b : Reckoning) (i : Inv r c b) where
       (omega (arith, g, ap (λ (a : Status). times_in o a.inside) (i.agree.each u)))
 
 -- with nobody running a step is refused
-step-refused : (r : Roster) (c : Config) → c.model.running ≡ Nobody → (step_by r c c.model.running).answer ≡ NobodyRuns
+step-refused : (r : Roster) (c : Config) → c.model.running ≡ None → (step_by r c c.model.running).answer ≡ (Err NobodyRuns)
 unfolding step_by
-step-refused r c e = ap (λ (w : Runner). (step_by r c w).answer) e
+step-refused r c e = ap (λ (w : Option ℕ). (step_by r c w).answer) e
 
 refusal : (r : Roster) → Orderly r → (es : List Event) → Refused r es ↔ Idle r es
 unfolding happen input_of
@@ -192,16 +191,16 @@ refusal r k es = (λ n. go (claim.running r es) refl n.is, λ h. record { is = w
     i : Inv r (after r es) (reckoned r es)
     i = invariant r k es
 
-    when : Idle r es → step_answer r es ≡ Done → ⊥
+    when : Idle r es → step_answer r es ≡ Ok tt → ⊥
     when h f =
-        let n : step_answer r es ≡ NobodyRuns = step-refused r (after r es) h.nobody in let z : ◌≡◌ {A = ℕ} 0 1 = cc in omega arith
+        let n : step_answer r es ≡ (Err NobodyRuns) = step-refused r (after r es) h.nobody in let z : ◌≡◌ {A = ℕ} 0 1 = cc in omega arith
 
-    go : (w : Runner) → claim.running r es ≡ w → (step_answer r es ≡ Done → ⊥) → Idle r es
-    go Nobody f n = record {
+    go : (w : Option ℕ) → claim.running r es ≡ w → (step_answer r es ≡ Ok tt → ⊥) → Idle r es
+    go None f n = record {
       nobody = f;
       none_ready = λ t h. i.good.top.busy t (omega (arith, ready-queued r (after r es) (reckoned r es) i t h.is)) f;
     }
-    go (Task t) f n = absurd (n (step-done r k (after r es) (reckoned r es) i t f))
+    go (Some t) f n = absurd (n (step-done r k (after r es) (reckoned r es) i t f))
 
 just-once : (qs : List (List ℕ)) (t : ℕ) → queued qs t ≡ 1 → Once qs t
 just-once qs t e =

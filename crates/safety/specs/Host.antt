@@ -1,11 +1,9 @@
 -- A caller of the dispatcher's own methods: it holds a State and each task's position, and folds the methods over the same list.
-use Rattle.std.specs.Prelude.{◌≡◌, true, cond, List, [], ◌∷◌, ℕ, length, get_or, set, replicate}
-use Rattle.rules.specs.declared.Runner.{Runner}
-use Rattle.rules.specs.declared.Runner.TheVariants.{Nobody, Task}
+use Rattle.std.specs.Prelude.{◌≡◌, true, cond, List, [], ◌∷◌, ℕ, length, get_or, set, replicate, None, Option, Some, Err, Ok}
 use Rattle.rules.specs.declared.Report.{Report}
 use Rattle.rules.specs.declared.Report.TheVariants.{Unchanged}
-use Rattle.rules.specs.declared.Answer.{Answer}
-use Rattle.rules.specs.declared.Answer.TheVariants.{Done, Unsound}
+use Rattle.rules.specs.Answers.{Answer}
+use Rattle.rules.specs.declared.Refusal.TheVariants.{Unsound}
 use Rattle.words.specs.Words.{Bytes}
 use Rattle.format.specs.Answers.{passed}
 use Rattle.format.specs.Roster.{Roster, roster_of, setup_of}
@@ -41,7 +39,7 @@ called s Work = work_of s
 called s Suspend = suspend_of s
 called s (Release t) = release_of s t
 called s (Set t p) = set_of s t p
-called s Again = record { answer = Done; report = Unchanged; state = s }
+called s Again = record { answer = Ok tt; report = Unchanged; state = s }
 called s Finish = finish_of s
 
 abbrev pub kept : Host → Stepped → Reply
@@ -57,9 +55,9 @@ moved_to h t k x =
     }
 
 -- a step of the running task; with nobody running, Work, which answers 5
-unfoldable pub step_on : Roster → Host → Runner → Reply
-step_on r h Nobody = kept h (work_of h.state)
-step_on r h (Task t) =
+unfoldable pub step_on : Roster → Host → Option ℕ → Reply
+step_on r h None = kept h (work_of h.state)
+step_on r h (Some t) =
     moved_to h t (position_after (get_or h.positions t 0) (next_step r t (get_or h.positions t 0)))
     (called h.state (next_step r t (get_or h.positions t 0)))
 
@@ -81,7 +79,7 @@ pub record Hosted (r : Roster) (es : List Event) : Type 0 where
   pub positions : (host r es).positions ≡ (after r es).positions
   pub answer : (e : Event) → (call r (host r es) e).answer ≡ (happen r (after r es) (input_of e)).answer
   pub report : (e : Event) → (call r (host r es) e).report ≡ (happen r (after r es) (input_of e)).report
-  pub never : (e : Event) → (call r (host r es) e).answer ≡ Unsound → ⊥
+  pub never : (e : Event) → (call r (host r es) e).answer ≡ (Err Unsound) → ⊥
 
 abbrev pub Bridge : Type 0
 Bridge = (s : List ℕ) → Bytes s → passed (check_of s) ≡ true → (es : List Event) → Hosted (roster_of s) es

@@ -1,5 +1,5 @@
 -- What a run writes is what the claim speaks of: of the three bytes of each event, the answer of a Step, the task and the report.
-use Rattle.std.specs.Prelude.{◌≡◌, ◌↔◌, List, [], ◌∷◌, ◌++◌, map, ℕ, ◌+◌, ◌*◌, length, get_or}
+use Rattle.std.specs.Prelude.{◌≡◌, ◌↔◌, List, [], ◌∷◌, ◌++◌, map, ℕ, ◌+◌, ◌*◌, length, get_or, Ok}
 use Rattle.words.specs.Words.{Bytes}
 use Rattle.format.specs.Roster.{roster_of}
 use Rattle.rules.specs.Answers.{report_number}
@@ -7,7 +7,6 @@ use Rattle.trace.specs.Limits.{reply_size}
 use Rattle.trace.specs.Config.{happen}
 use Rattle.trace.specs.Inputs.{inputs_of}
 use Rattle.trace.specs.Run.{answer_of, running_byte, buffer_of}
-use Rattle.trace.specs.declared.RunAnswer.TheVariants.{Done}
 use Rattle.safety.specs.History.{Event, step, input_of, after}
 use Rattle.safety.specs.Safe.{running, Idle}
 
@@ -27,5 +26,5 @@ pub record Wrote (s ev buffer : List ℕ) (es : List Event) : Type 0 where
 -- every run that is done, with no Set from outside: a roster's bytes, the events' bytes and what they say, a lent buffer
 abbrev pub RunWrites : Type 0
 RunWrites =
-    (s ev buffer : List ℕ) (es : List Event) → Bytes s → answer_of s ev (length buffer) ≡ Done → inputs_of ev ≡ map input_of es →
+    (s ev buffer : List ℕ) (es : List Event) → Bytes s → answer_of s ev (length buffer) ≡ Ok tt → inputs_of ev ≡ map input_of es →
     Wrote s ev buffer es

@@ -1,87 +1,76 @@
--- Laws of the counts of queued tasks: none counted, a queue begun, an entry counted, a queue done, and that no count is large.
-use mathlib.Core.Path.{◌≡◌, refl, ap, ◌∙◌, sym, subst}
-use mathlib.Core.Bool.{Bool, true, false}
-use mathlib.Core.List.{List, [], ◌∷◌}
-use Prim.Native.Nat.{ℕ, suc, ◌+◌, ◌-◌, ◌*◌, ◌≤◌, ◌<◌}
-use native.Mathlib.Nat.{suc-mul}
-use native.Mathlib.Numerals.{add-one}
-use native.Mathlib.Omega.{arith}
-use borrow.Author.Tests.{eqb-true, eqb-false}
-use lib.Dec.{eqb}
-use lib.ListN.{length, drop, get_or, set, replicate, get_or-replicate, length-set, drop_of_length-le}
-use lib.Seq.{drop-cons, get_or-set_same, get_or-set_other}
-use Rattle.rules.specs.Limits.{task_limit, last_priority}
+-- Laws of the counts of queued tasks: none counted, a queue begun, an entry counted, a queue done, all done.
+use Rattle.std.proofs.Common.{◌≡◌, refl, ap, ◌∙◌, sym, List, [], ◌∷◌, ℕ, zero, suc, ◌+◌, ◌-◌, ◌≤◌, ◌<◌}
+use Rattle.std.proofs.Common.{length, drop, get_or, set, replicate, arith, add-one, drop-cons}
+use Rattle.std.proofs.lemmas.List.{length-set, get_or-replicate, drop_all}
+use Rattle.std.proofs.Math.Seq.{get_or-set_same, get_or-set_other}
+use Rattle.std.proofs.Math.ListN.{get_or-eq_default}
+use Rattle.rules.specs.Limits.{task_limit, first_priority}
 use Rattle.rules.specs.Sound.{queued}
 use Rattle.rules.specs.Lists.{times_in}
+use Rattle.rules.proofs.Choices.{split, compare}
 use Rattle.rules.proofs.Counts.{times-cons, times-same, times-other}
-use Rattle.memory.specs.Rows.{queue_width, queues_in, Queues}
-use Rattle.memory.proofs.RowLaws.{times-length}
-use Rattle.memory.proofs.GridLaws.{list_count, list-room}
 use Rattle.soundness.specs.Tested.{Counted}
 
--- a task stands at most k times in each of the queues
-queued-few : (k t : ℕ) (qs : List (List ℕ)) → ((i : ℕ) → i < length qs → length (get_or qs i []) ≤ k) → queued qs t ≤ length qs * k
-unfolding queued
-queued-few k t [] h = omega arith
-queued-few k t (q ∷ qs) h =
-    let first : length q ≤ k = h 0 (omega arith) in
-    let rest = queued-few k t qs (λ i g. h (suc i) (omega arith)) in
-    let sum : suc (length qs) * k ≡ length qs * k + k = suc-mul (length qs) k in
-    omega (arith, first, rest, sum, times-length t q)
-
 -- none is counted
-pub counted_none : (qs : List (List ℕ)) → Counted (replicate task_limit 0) qs qs
-counted_none qs = record { size = refl; sum = λ t h. rw (get_or-replicate {A = ℕ} task_limit t 0 0 h) (omega arith) }
+pub counted_none : (qs : List (List ℕ)) → Counted (replicate task_limit 0) 0 qs qs
+counted_none qs = record { size = refl; few = λ t. omega (arith, none t); sum = λ t h. omega (arith, none t) }
+  where
+    none : (t : ℕ) → get_or {A = ℕ} (replicate task_limit 0) t 0 ≡ 0
+    none t = compare task_limit t (λ h. get_or-eq_default {A = ℕ} (replicate task_limit 0) 0 {n = t} h)
+        (λ h. get_or-replicate {A = ℕ} task_limit t 0 0 h)
 
-module _ {cs : List ℕ} {all : List (List ℕ)} where
+-- the rest of the queues begins with the queue at i
+queued-next : (t : ℕ) (qs : List (List ℕ)) (i : ℕ) → queued (drop i qs) t ≡ queued (get_or qs i [] ∷ drop (suc i) qs) t
+unfolding queued times_in
+queued-next t [] zero = refl
+queued-next t [] (suc i) = refl
+queued-next t (q ∷ qs) zero = refl
+queued-next t (q ∷ qs) (suc i) = queued-next t qs i
+
+module _ {cs : List ℕ} {all : List (List ℕ)} (n : ℕ) where
   -- the queue for p is begun
-  pub counted-begun : (p : ℕ) (qs : List (List ℕ)) → 1 ≤ p → p ≤ length qs → Counted cs (drop (p - 1) qs) all →
-      Counted cs (get_or qs (p - 1) [] ∷ drop p qs) all
-  counted-begun p qs low high x =
-      let e : suc (p - 1) ≡ p = omega arith in
-      subst (λ (r : List (List ℕ)). Counted cs r all)
-      (drop-cons qs (p - 1) [] (omega arith) ∙ ap (λ (n : ℕ). get_or qs (p - 1) [] ∷ drop n qs) e) x
+  pub counted-begun : (p : ℕ) (q : List ℕ) (qs : List (List ℕ)) → first_priority ≤ p → q ≡ get_or qs (p - 1) [] →
+      Counted cs n (drop (p - 1) qs) all → Counted cs (n + 0) (q ∷ drop p qs) all
+  counted-begun p q qs low e x =
+      let f : suc (p - 1) ≡ p = omega arith in
+      let g : (t : ℕ) → queued (drop (p - 1) qs) t ≡ queued (q ∷ drop p qs) t = λ t.
+      queued-next t qs (p - 1) ∙ ap (λ (i : ℕ). queued (get_or qs (p - 1) [] ∷ drop i qs) t) f ∙
+      ap (λ (l : List ℕ). queued (l ∷ drop p qs) t) (sym e) in
+      record { size = x.size; few = λ t. omega (arith, x.few t); sum = λ t h. omega (arith, x.sum t h, g t) }
 
-  module _ (l : List ℕ) (rest : List (List ℕ)) (i : ℕ) (x : Counted cs (drop i l ∷ rest) all) where
+  module _ (l : List ℕ) (rest : List (List ℕ)) (i : ℕ) (x : Counted cs (n + i) (drop i l ∷ rest) all) where
     -- all its entries are counted
-    pub counted-done : length l ≤ i → Counted cs rest all
+    pub counted-done : (k : ℕ) → length l ≤ i → n + i ≤ k → Counted cs k rest all
     unfolding queued times_in
-    counted-done h =
-        let none : (t : ℕ) → queued (drop i l ∷ rest) t ≡ queued rest t = λ t. rw (drop_of_length-le l {i = i} h) (omega arith) in
-        record { size = x.size; sum = λ t g. omega (arith, x.sum t g, none t) }
+    counted-done k h b =
+        let none : (t : ℕ) → queued (drop i l ∷ rest) t ≡ queued rest t = λ t. rw (drop_all i l h) (omega arith) in
+        record { size = x.size; few = λ t. omega (arith, x.few t); sum = λ t g. omega (arith, x.sum t g, none t) }
 
     -- its entry u is counted
     pub counted-more : (u : ℕ) → i < length l → u ≡ get_or l i 0 → u < task_limit →
-        Counted (set cs u (get_or cs u 0 + 1)) (drop (i + 1) l ∷ rest) all
+        Counted (set cs u (get_or cs u 0 + 1)) (n + (i + 1)) (drop (i + 1) l ∷ rest) all
     unfolding queued
-    counted-more u h e g = record { size = simp length-set x.size; sum = λ t b. go t b (eqb t u) refl }
+    counted-more u h e g =
+        record {
+          size = length-set cs u (get_or cs u 0 + 1) ∙ x.size;
+          few = λ t. split t u (λ q. omega (arith, x.few u, same t q)) (λ q. omega (arith, x.few t, other t q));
+          sum = λ t b. split t u
+              (λ q. omega (arith, x.sum t b, parts t, times-same u t (sym q), same t q, ap (λ (v : ℕ). get_or cs v 0) q))
+              (λ q. omega (arith, x.sum t b, parts t, times-other u t q, other t q));
+        }
       where
-        split : (t : ℕ) → queued (drop i l ∷ rest) t ≡ times_in t (u ∷ []) + times_in t (drop (i + 1) l) + queued rest t
-        split t = rw (add-one, drop-cons l i 0 h, ← e, times-cons t u (drop (suc i) l))
+        parts : (t : ℕ) → queued (drop i l ∷ rest) t ≡ times_in t (u ∷ []) + times_in t (drop (i + 1) l) + queued rest t
+        parts t = rw (add-one, drop-cons l i 0 h, ← e, times-cons t u (drop (suc i) l))
 
-        go : (t : ℕ) → t < task_limit → (b : Bool) → eqb t u ≡ b →
-            get_or (set cs u (get_or cs u 0 + 1)) t 0 + (times_in t (drop (i + 1) l) + queued rest t) ≡ queued all t
-        go t k true f =
-            let same = eqb-true t u f in
-            let more = ap (λ (n : ℕ). get_or (set cs u (get_or cs u 0 + 1)) n 0) same ∙
-            get_or-set_same cs u (get_or cs u 0 + 1) 0 (omega (arith, x.size)) in
-            let was = ap (λ (n : ℕ). get_or cs n 0) same in
-            omega (arith, x.sum t k, split t, times-same u t (sym same), more, was)
-        go t k false f =
-            let other = eqb-false t u f in
-            let as_it_was = get_or-set_other cs u t (get_or cs u 0 + 1) 0 other in
-            omega (arith, x.sum t k, split t, times-other u t other, as_it_was)
+        same : (t : ℕ) → t ≡ u → get_or (set cs u (get_or cs u 0 + 1)) t 0 ≡ get_or cs u 0 + 1
+        same t q =
+            ap (λ (v : ℕ). get_or (set cs u (get_or cs u 0 + 1)) v 0) q ∙
+            get_or-set_same cs u (get_or cs u 0 + 1) 0 (omega (arith, x.size))
 
--- all queues are counted
-pub counted-all : {cs : List ℕ} {all : List (List ℕ)} (t : ℕ) → t < task_limit → Counted cs [] all → get_or cs t 0 ≡ queued all t
+        other : (t : ℕ) → (t ≡ u → ⊥) → get_or (set cs u (get_or cs u 0 + 1)) t 0 ≡ get_or cs t 0
+        other t q = get_or-set_other cs u t (get_or cs u 0 + 1) 0 q
+
+-- all are counted
+pub counted-all : {cs : List ℕ} {n : ℕ} {all : List (List ℕ)} (t : ℕ) → t < task_limit → Counted cs n [] all → get_or cs t 0 ≡ queued all t
 unfolding queued
 counted-all t h x = omega (arith, x.sum t h)
-
--- a count fits its cell
-pub counted-few : {cs qs : List ℕ} {rest : List (List ℕ)} (t : ℕ) → t < task_limit → Queues qs → Counted cs rest (queues_in qs) →
-    get_or cs t 0 ≤ last_priority * task_limit
-counted-few {cs} {qs} {rest} t h g x =
-    let count = list_count queue_width last_priority qs in
-    let short : (i : ℕ) → i < length (queues_in qs) → length (get_or (queues_in qs) i []) ≤ task_limit = λ i k.
-    omega (arith, list-room queue_width last_priority i qs g (omega (arith, count))) in
-    omega (arith, x.sum t h, queued-few task_limit t (queues_in qs) short, count)

@@ -1,3 +1,4 @@
-pub mod CountLaws
+pub mod DistinctLaws
 pub mod TestedLaws
+pub mod CountLaws
 pub mod ClauseLaws

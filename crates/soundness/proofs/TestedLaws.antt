@@ -1,36 +1,62 @@
 -- Laws of the test of soundness: its clauses regrouped, and the loops of each clause.
-use mathlib.Core.Path.{◌≡◌, refl, ap, ◌∙◌}
+use mathlib.Core.Path.{◌≡◌, refl, ap, ◌∙◌, sym}
 use mathlib.Core.Bool.{Bool, true, false, not, ◌&&◌}
-use mathlib.Core.List.{List}
-use Prim.Native.Nat.{ℕ, zero, suc, ◌+◌, ◌-◌, ◌≤◌, ◌<◌}
+use mathlib.Core.List.{List, [], ◌∷◌, map}
+use Rattle.std.specs.List.{list_all}
+use Prim.Native.Nat.{ℕ, suc, ◌+◌, ◌-◌, ◌≤◌, ◌<◌}
 use native.Mathlib.Numerals.{add-one}
 use native.Mathlib.Omega.{arith}
-use borrow.Author.Tests.{le-leb, lt-leb, lt-ltb, le-ltb, leb-true, eqb-true}
+use borrow.Author.Tests.{le-leb, lt-leb, lt-ltb, leb-true, eqb-true}
 use lib.Dec.{eqb, leb, ltb}
 use lib.ListN.{length, drop, get_or, drop_of_length-le, get_or-eq_default}
 use lib.Seq.{drop-cons}
 use Rattle.rules.specs.Limits.{last_priority, last_delay}
 use Rattle.rules.specs.Model.{Model, TaskRecord, blank, task_at, queue, ceiling_of, highest_of, active}
 use Rattle.rules.specs.Events.{no_task}
-use Rattle.rules.specs.Sound.{sizes_good, record_good, runner_good, runs}
+use Rattle.rules.specs.Sound.{sizes_good, record_good, runner_good}
 use Rattle.rules.specs.Sound.{highest_runs, due_good, rising, each_task, each_priority}
 use Rattle.rules.specs.Sound.{numbers_good, in_one_place, one_place, own_queue, due_ahead, held_good, holders_here, waiting_inside, sound}
 use Rattle.rules.specs.declared.Place.{Place}
-use Rattle.rules.specs.declared.Place.TheVariants.{Delayed}
+use Rattle.rules.specs.declared.Place.TheVariants.{Running, Ready, Delayed, Suspended, Ended}
+use Rattle.rules.specs.declared.Priority.{Priority}
+use Rattle.rules.specs.Priorities.{level}
 use Rattle.rules.specs.Lists.{all_of, times_in, below}
-use Rattle.rules.proofs.Choices.{compare, and_left, and_right, and-make}
+use Rattle.rules.proofs.Choices.{clash, compare, and_left, and_right}
 use Rattle.rules.proofs.HeldLaws.{all-at, all-make}
-use Rattle.rules.proofs.TaskLaws.{runs-self, runs-apart}
 use Rattle.rules.proofs.SoundLaws.{below_at, below-make}
-use Rattle.memory.specs.Memory.{runner_of}
 use Rattle.soundness.specs.Tested.{held_good_at, holder_here, waits_inside, task_sound, queue_sound}
-use Rattle.memory.proofs.TestLaws.{same_test, fails-first, holds-first}
+
+-- two tests that hold together are equal
+pub same_test : (a b : Bool) → (a ≡ true → b ≡ true) → (b ≡ true → a ≡ true) → a ≡ b
+same_test true b f g = sym (f refl)
+same_test false true f g = g refl
+same_test false false f g = refl
+
+-- an "and" whose first part fails, or holds
+pub fails-first : (a b : Bool) → a ≡ false → (a && b) ≡ false
+fails-first true b e = clash e
+fails-first false b e = refl
+
+pub holds-first : (a b : Bool) → a ≡ true → (a && b) ≡ b
+holds-first true b e = refl
+holds-first false b e = clash (sym e)
 
 -- all clauses
 unfoldable pub tested : Model → Bool
 tested m =
     sizes_good m && runner_good m m.running && highest_runs m m.running && each_priority (queue_sound m) &&
     below (length m.tasks) (task_sound m)
+
+-- a test of each of some numbers, of some priorities
+pub all-listed : (f : ℕ → Bool) (l : List ℕ) → list_all f l ≡ all_of f l
+unfolding all_of
+all-listed f [] = refl
+all-listed f (x ∷ l) = ap (λ (b : Bool). f x && b) (all-listed f l)
+
+pub all-levels : (f : ℕ → Bool) (ps : List Priority) → list_all (λ p. f p.0) ps ≡ all_of f (map level ps)
+unfolding all_of
+all-levels f [] = refl
+all-levels f (p ∷ ps) = ap (λ (b : Bool). f p.0 && b) (all-levels f ps)
 
 -- ceilings that do not fall, in a loop from the front
 module _ (cs : List ℕ) (b low i : ℕ) (l : List ℕ) (e : rising cs b l ≡ rising cs low (drop i l)) where
@@ -47,10 +73,6 @@ module _ (cs : List ℕ) (b low i : ℕ) (l : List ℕ) (e : rising cs b l ≡ r
   rising-end h = e ∙ rw (drop_of_length-le l {i = i} h)
 
 -- a due time after now, and not too far
-pub due-passed : (now d : ℕ) (x : Place) → x ≡ Delayed d → d ≤ now → due_good now x ≡ false
-unfolding due_good
-due-passed now d x e h = ap (due_good now) e ∙ fails-first (ltb now d) _ (le-ltb now d h)
-
 pub due-ahead : (now d : ℕ) (x : Place) → x ≡ Delayed d → now < d → due_good now x ≡ leb (d - now) last_delay
 unfolding due_good
 due-ahead now d x e h =
@@ -60,15 +82,13 @@ due-ahead now d x e h =
     (λ f. le-leb (d - now) last_delay (omega (arith, leb-true d (now + last_delay) f)))
     (λ f. le-leb d (now + last_delay) (omega (arith, leb-true (d - now) last_delay f))))
 
--- who is named as running
-pub named-is : (v t : ℕ) → v ≡ t + 1 → runs (runner_of v) t ≡ 1
-unfolding runner_of
-named-is v t e = ap (λ (n : ℕ). runs (runner_of n) t) (e ∙ add-one t) ∙ runs-self t
-
-pub named_other : (v t : ℕ) → (v ≡ t + 1 → ⊥) → runs (runner_of v) t ≡ 0
-unfolding runs runner_of
-named_other zero t n = refl
-named_other (suc u) t n = runs-apart u t (λ e. n (omega (arith, e)))
+pub due-free : (now : ℕ) (x : Place) → ((d : ℕ) → x ≡ Delayed d → ⊥) → due_good now x ≡ true
+unfolding due_good
+due-free now Running n = refl
+due-free now Ready n = refl
+due-free now (Delayed d) n = absurd (n d refl)
+due-free now Suspended n = refl
+due-free now Ended n = refl
 
 -- "and" of several, taken apart and made
 four-each : (a b c d : Bool) → (a && b && c && d) ≡ true → (a ≡ true) × (b ≡ true) × (c ≡ true) × (d ≡ true)
@@ -76,9 +96,6 @@ four-each a b c d e =
     let abc = and_left (a && b && c) d e in
     let ab = and_left (a && b) c abc in
     (and_left a b ab, and_right a b ab, and_right (a && b) c abc, and_right (a && b && c) d e)
-
-four-all : (a b c d : Bool) → a ≡ true → b ≡ true → c ≡ true → d ≡ true → (a && b && c && d) ≡ true
-four-all a b c d e f g h = and-make (a && b && c) d (and-make (a && b) c (and-make a b e f) g) h
 
 five-each : (a b c d e : Bool) → (a && b && c && d && e) ≡ true → (a ≡ true) × (b ≡ true) × (c ≡ true) × (d ≡ true) × (e ≡ true)
 five-each a b c d e h =
@@ -103,6 +120,9 @@ pub active-none : (m : Model) (t : ℕ) → length m.tasks ≤ t → active m t 
 unfolding highest_of
 active-none m t h =
     ap (λ (k : TaskRecord). highest_of m.ceilings k.base k.held) (get_or-eq_default m.tasks blank {n = t} h)
+
+pub active-few : (m : Model) (t p : ℕ) → 1 ≤ p → active m t ≡ p → t < length m.tasks
+active-few m t p h e = compare (length m.tasks) t (λ g. absurd (omega (arith, e, active-none m t g))) (λ g. g)
 
 -- the clauses of a Model that passes the one test, and the other
 module _ (m : Model) where

@@ -1,6 +1,6 @@
 -- The clauses of soundness as the engine tests them: those about one task together, and those about one queue; and
 -- the counts of the queued tasks.
-use Rattle.std.specs.Prelude.{◌≡◌, Bool, not, ◌&&◌, ◌||◌, List, ℕ, ◌+◌, ◌<◌, eqb, length, get_or}
+use Rattle.std.specs.Prelude.{◌≡◌, Bool, not, ◌&&◌, ◌||◌, List, ℕ, ◌+◌, ◌≤◌, ◌<◌, eqb, leb, length, get_or}
 use Rattle.rules.specs.Limits.{task_limit}
 use Rattle.rules.specs.Model.{Model, TaskRecord, task_at, queue, active}
 use Rattle.rules.specs.Events.{inside}
@@ -28,8 +28,13 @@ task_sound m t =
 unfoldable pub queue_sound : Model → ℕ → Bool
 queue_sound m p = all_of (λ t. eqb (active m t) p) (queue m p)
 
+-- all numbers of a list are below n
+abbrev pub all_below : ℕ → List ℕ → Bool
+all_below n l = all_of (λ x. not (leb n x)) l
+
 -- How often each task stands in the queues, while they are counted: what is counted, and what stands in the rest of them, is what
--- stands in all.
-pub record Counted (counts : List ℕ) (rest all : List (List ℕ)) : Type 0 where
+-- stands in all; and none is counted more than n times.
+pub record Counted (counts : List ℕ) (n : ℕ) (rest all : List (List ℕ)) : Type 0 where
   pub size : length counts ≡ task_limit
+  pub few : (t : ℕ) → get_or counts t 0 ≤ n
   pub sum : (t : ℕ) → t < task_limit → get_or counts t 0 + queued rest t ≡ queued all t

@@ -1,437 +1,225 @@
-// Internal: pub only for our own crates. The test of soundness, clause by clause as in specs/Sound.antt of crate rules, of slices
-// that are laid out, and of the word of marks.
+// Internal: pub only for our own crates. The test of soundness, clause by clause as in specs/Sound.antt of crate rules, of a memory,
+// and of the word of marks that a state holds.
 #![tactic(auto)]
 
-ghost use Rattle.std.specs.Prelude.{◌≡◌, true, ◌&&◌, [], ◌+◌, ◌-◌, ◌≤◌, ◌<◌, eqb, length, take, drop, get_or};
-ghost use Rattle.rules.specs.Limits.{task_limit};
-ghost use Rattle.rules.specs.Priorities.{in_range};
-ghost use Rattle.rules.specs.Model.{task_at, active};
-ghost use Rattle.rules.specs.Sound.{each_priority, waiting_good, record_good, runs, is_running, is_ready, due_good, is_none};
-ghost use Rattle.rules.specs.Sound.{in_one_place, rising, sizes_good, runner_good, highest_runs, sound};
+ghost use Rattle.std.specs.Prelude.{◌≡◌, true, ◌&&◌, [], ◌-◌, ◌*◌, ◌<◌, eqb, length, map, drop};
+ghost use Rattle.rules.specs.Limits.{task_limit, last_priority};
+ghost use Rattle.rules.specs.Priorities.{in_range, level};
+ghost use Rattle.rules.specs.Model.{task_at};
+ghost use Rattle.rules.specs.Sound.{each_priority, waiting_good, record_good, due_good, in_one_place, distinct, rising};
+ghost use Rattle.rules.specs.Sound.{sizes_good, runner_good, highest_runs, sound};
 ghost use Rattle.rules.specs.Lists.{all_of, below};
-ghost use Rattle.marks.specs.Marks.{marks_of};
-ghost use Rattle.memory.specs.Rows.{HasQueue, queues_in, held_by, Held};
-ghost use Rattle.memory.specs.Memory.{running_cell, task_count_in, runner_of, waiting_in, model_of, LaidOut};
-ghost use Rattle.soundness.specs.Tested.{held_good_at, task_sound, queue_sound, Counted};
+ghost use Rattle.marks.specs.Marks.{word_bits, marks_of};
+ghost use Rattle.memory.specs.Memory.{waiting_in, HasQueue};
+ghost use Rattle.soundness.specs.Tested.{all_below, held_good_at, holder_here, waits_inside, task_sound, queue_sound, Counted};
 
-use memory::sizes::{
-    HEAD_WIDTH, HELD_WIDTH, LAST_DELAY, LAST_READING, MARKS_CELL, NOW_CELL, OBJECTS_CELL,
-    QUEUE_WIDTH, RUNNING_CELL, TASKS_CELL,
-};
-use memory::{held, priorities, queues, tasks};
-use rules::{Place, Priority, Roster, WaitingBase};
+use memory::Memory;
+use memory::objects::ceiling_of;
+use memory::sizes::{LAST_DELAY, LAST_READING};
+use rules::{Place, Priority, Roster};
 
-fn waiting_good(waiting: WaitingBase) -> bool
+// The ceilings are in range.
+fn ceilings_good(ceilings: &[Priority]) -> bool
+    ensures { result ≡ all_of in_range (map level ceilings.now) }
+{
+    ceilings.iter().all(|p| p.in_range())
+}
+
+// Who runs is a task.
+fn runner_good(memory: &Memory) -> bool
+    ensures { result ≡ runner_good memory.entry.now memory.entry.now.running }
+{
+    let n = memory.task_count();
+    memory.running().is_none_or(|t| t < n)
+}
+
+fn waiting_good(waiting: Option<Priority>) -> bool
     ensures { result ≡ waiting_good (waiting_in waiting) }
 {
-    match waiting {
-        WaitingBase::Nothing => true,
-        WaitingBase::Base(p) => p.in_range(),
-    }
+    waiting.is_none_or(|p| p.in_range())
 }
 
-fn is_none(waiting: WaitingBase) -> bool
-    ensures { result ≡ is_none (waiting_in waiting) }
+fn all_below(held: &[u8], n: u8) -> bool
+    ensures { result ≡ all_below n held.now }
 {
-    match waiting {
-        WaitingBase::Nothing => true,
-        WaitingBase::Base(_) => false,
-    }
+    held.iter().all(|&o| o < n)
 }
 
-// 1 where the place is Running; where it is Ready.
-fn is_running(place: Place) -> usize
-    ensures { result ≡ is_running place }
-{
-    match place {
-        Place::Running => 1,
-        Place::Ready => 0,
-        Place::Delayed(_) => 0,
-        Place::Suspended => 0,
-        Place::Ended => 0,
-    }
-}
-
-fn is_ready(place: Place) -> usize
-    ensures { result ≡ is_ready place }
-{
-    match place {
-        Place::Running => 0,
-        Place::Ready => 1,
-        Place::Delayed(_) => 0,
-        Place::Suspended => 0,
-        Place::Ended => 0,
-    }
-}
-
-// A due time not after now, or too far past it, is not good.
+// A due time after now, and not too far past it.
 fn due_good(now: u64, place: Place) -> bool
     ensures { result ≡ due_good now place }
 {
     match place {
-        Place::Running => true,
-        Place::Ready => true,
-        Place::Delayed(due) => {
-            if due <= now {
-                return false;
-            }
-            due - now <= LAST_DELAY
-        }
-        Place::Suspended => true,
-        Place::Ended => true,
+        Place::Delayed(due) => now < due && due - now <= LAST_DELAY,
+        _ => true,
     }
 }
 
-// 1 where the head's running cell names the task t.
-fn named(running: u64, t: usize) -> usize
-    requires { t < task_limit }
-    ensures { result ≡ runs (runner_of running) t }
+// No object stands twice: those seen are noted in a word of bits.
+fn distinct(held: &[u8]) -> bool
+    requires { all_below word_bits held.now ≡ true }
+    ensures { result ≡ distinct held.now }
 {
-    if running == t as u64 + 1 {
-        return 1;
-    }
-    0
-}
-
-fn ceilings_good(ceilings: &[u8], n: usize) -> bool
-    requires { n ≤ length ceilings.now }
-    ensures { result ≡ all_of in_range (take n ceilings.now) }
-{
-    let mut i: usize = 0;
-    while i < n {
-        if !Priority(ceilings[i]).in_range() {
+    let mut seen = 0;
+    for &o in held {
+        if marks::has_bit(seen, o as usize) {
             return false;
         }
-        i += 1;
+        seen = marks::with_bit(seen, o as usize);
     }
     true
 }
 
-// The ceilings of what t holds do not fall, from p on.
-fn rises(held: &[u8], ceilings: &[u8], n: usize, t: usize, p: Priority) -> bool
-    requires t_lt_task_limit { t < task_limit }
-    requires n_in_bounds { n ≤ length ceilings.now }
-    requires held { Held held.now }
-    ensures { result ≡ rising (take n ceilings.now) p.0 (held_by held.now t) }
+// The ceilings of what is held do not fall, from p on.
+fn rises(ceilings: &[Priority], p: Priority, held: &[u8]) -> bool
+    ensures { result ≡ rising (map level ceilings.now) p.0 held.now }
 {
-    let row = t * HELD_WIDTH;
-    let size = held[row] as usize;
     let mut low = p;
-    let mut i: usize = 0;
-    while i < size {
-        let c = priorities::ceiling(ceilings, n, held[row + (i + 1)]);
-        if c.0 < low.0 {
+    for &o in held {
+        let c = ceiling_of(ceilings, o);
+        if c < low {
             return false;
         }
         low = c;
-        i += 1;
     }
     true
 }
 
 // The counts, now, the ceilings and the running task are in range.
-fn head_good(
-    head: &[u64; HEAD_WIDTH],
-    tasks: &[u64],
-    held: &[u8],
-    ceilings: &[u8],
-    queues: &[u8],
-) -> bool
-    requires { LaidOut head.now tasks.now held.now ceilings.now queues.now }
-    ensures { result ≡
-        (sizes_good
-        (model_of head.now tasks.now held.now ceilings.now queues.now) &&
-        runner_good
-        (model_of head.now tasks.now held.now ceilings.now queues.now)
-        (runner_of (get_or head.now running_cell 0))) }
+fn head_good(memory: &Memory) -> bool
+    requires { length memory.now.ready ≡ last_priority }
+    ensures { result ≡ (sizes_good memory.entry.now && runner_good memory.entry.now memory.entry.now.running) }
 {
-    if head[TASKS_CELL] == 0 {
-        return false;
-    }
-    if LAST_READING < head[NOW_CELL] {
-        return false;
-    }
-    if !ceilings_good(ceilings, head[OBJECTS_CELL] as usize) {
-        return false;
-    }
-    head[RUNNING_CELL] <= head[TASKS_CELL]
-}
-
-// The active priority of any number; 0 where there is no such task.
-fn active_of(
-    head: &[u64; HEAD_WIDTH],
-    tasks: &[u64],
-    held: &[u8],
-    ceilings: &[u8],
-    queues: &[u8],
-    t: usize,
-) -> Priority
-    requires { LaidOut head.now tasks.now held.now ceilings.now queues.now }
-    ensures { result.0 ≡
-        active
-        (model_of head.now tasks.now held.now ceilings.now queues.now)
-        t }
-{
-    if head[TASKS_CELL] <= t as u64 {
-        return Priority(0);
-    }
-    priorities::active(head, tasks, held, ceilings, queues, t)
+    Roster::counts_good(memory.task_count() as usize, memory.object_count() as usize)
+        && memory.now() <= LAST_READING
+        && ceilings_good(memory.ceilings())
+        && runner_good(memory)
 }
 
 // No ready task is above the running one, and somebody runs if one is ready.
-fn highest_runs(
-    head: &[u64; HEAD_WIDTH],
-    tasks: &[u64],
-    held: &[u8],
-    ceilings: &[u8],
-    queues: &[u8],
-) -> bool
-    requires { LaidOut head.now tasks.now held.now ceilings.now queues.now }
-    ensures { result ≡
-        highest_runs
-        (model_of head.now tasks.now held.now ceilings.now queues.now)
-        (runner_of (get_or head.now running_cell 0)) }
+fn highest_runs(memory: &Memory) -> bool
+    ensures { result ≡ highest_runs memory.entry.now memory.entry.now.running }
 {
-    let p = queues::highest(head, queues);
-    let running = head[RUNNING_CELL];
-    if running == 0 {
-        return p.0 == 0;
+    let top = memory.highest();
+    match memory.running() {
+        None => top.0 == 0,
+        Some(t) => top <= memory.active(t),
     }
-    let a = active_of(head, tasks, held, ceilings, queues, (running - 1) as usize);
-    p.0 <= a.0
 }
 
 // The bases and the held objects of t are in range.
-fn record_good(
-    head: &[u64; HEAD_WIDTH],
-    tasks: &[u64],
-    held: &[u8],
-    ceilings: &[u8],
-    queues: &[u8],
-    t: usize,
-) -> bool
-    requires laid_out { LaidOut head.now tasks.now held.now ceilings.now queues.now }
-    requires t_bound { t < task_count_in head.now }
-    ensures { result ≡
-        record_good
-        (model_of head.now tasks.now held.now ceilings.now queues.now)
-        (task_at
-        (model_of head.now tasks.now held.now ceilings.now queues.now)
-        t) }
+fn record_good(memory: &Memory, t: u8) -> bool
+    requires { t < length memory.now.tasks }
+    ensures { result ≡ record_good memory.entry.now (task_at memory.entry.now t) }
 {
-    let base = tasks::base(tasks, t);
-    if !base.in_range() {
-        return false;
-    }
-    if !waiting_good(tasks::waiting(tasks, t)) {
-        return false;
-    }
-    held::all_below(held, t, head[OBJECTS_CELL] as usize)
+    memory.base(t).in_range()
+        && waiting_good(memory.waiting(t))
+        && all_below(memory.held(t), memory.object_count())
 }
 
 // t is in one place.
-fn one_place(
-    head: &[u64; HEAD_WIDTH],
-    tasks: &[u64],
-    held: &[u8],
-    ceilings: &[u8],
-    queues: &[u8],
-    counts: &[u16],
-    t: usize,
-) -> bool
-    requires laid_out { LaidOut head.now tasks.now held.now ceilings.now queues.now }
-    requires t_bound { t < task_count_in head.now }
-    requires counted { Counted counts.now [] (queues_in queues.now) }
-    ensures { result ≡
-        in_one_place
-        (model_of head.now tasks.now held.now ceilings.now queues.now)
-        t }
+fn one_place(memory: &Memory, counts: &[u16; Roster::TASKS], t: u8) -> bool
+    requires sizes { sizes_good memory.now ≡ true }
+    requires there { t < length memory.now.tasks }
+    requires counted { Counted counts.now (last_priority * task_limit) [] memory.now.ready }
+    ensures { result ≡ in_one_place memory.entry.now t }
 {
-    let place = tasks::place(tasks, t);
-    if named(head[RUNNING_CELL], t) != is_running(place) {
-        return false;
-    }
-    counts[t] as usize == is_ready(place)
+    let place = memory.place(t);
+    (memory.running() == Some(t)) == (place == Place::Running)
+        && counts[t as usize] == u16::from(place == Place::Ready)
 }
 
-// What t holds is held once, with ceilings that do not fall.
-fn held_good(
-    head: &[u64; HEAD_WIDTH],
-    tasks: &[u64],
-    held: &[u8],
-    ceilings: &[u8],
-    queues: &[u8],
-    t: usize,
-) -> bool
-    requires laid_out { LaidOut head.now tasks.now held.now ceilings.now queues.now }
-    requires t_bound { t < task_count_in head.now }
-    ensures { result ≡
-        held_good_at
-        (model_of head.now tasks.now held.now ceilings.now queues.now)
-        (task_at
-        (model_of head.now tasks.now held.now ceilings.now queues.now)
-        t) }
+// What t, whose record is good, holds is held once, with ceilings that do not fall.
+fn held_good(memory: &Memory, t: u8) -> bool
+    requires sizes { sizes_good memory.now ≡ true }
+    requires there { t < length memory.now.tasks }
+    requires good { record_good memory.now (task_at memory.now t) ≡ true }
+    ensures { result ≡ held_good_at memory.entry.now (task_at memory.entry.now t) }
 {
-    if !held::distinct(held, t) {
-        return false;
-    }
-    let base = tasks::base(tasks, t);
-    rises(held, ceilings, head[OBJECTS_CELL] as usize, t, base)
+    distinct(memory.held(t)) && rises(memory.ceilings(), memory.base(t), memory.held(t))
 }
 
-// All clauses about t. Where it holds nothing, no base may wait; a holder is ready or running.
-fn task_good(
-    head: &[u64; HEAD_WIDTH],
-    tasks: &[u64],
-    held: &[u8],
-    ceilings: &[u8],
-    queues: &[u8],
-    counts: &[u16],
-    t: usize,
-) -> bool
-    requires laid_out { LaidOut head.now tasks.now held.now ceilings.now queues.now }
-    requires t_bound { t < task_count_in head.now }
-    requires counted { Counted counts.now [] (queues_in queues.now) }
-    ensures { result ≡
-        task_sound
-        (model_of head.now tasks.now held.now ceilings.now queues.now)
-        t }
+// A holder is ready or running; who holds nothing has no base that waits.
+fn holder_good(memory: &Memory, t: u8) -> bool
+    requires { t < length memory.now.tasks }
+    ensures { result ≡ (holder_here (task_at memory.entry.now t) && waits_inside (task_at memory.entry.now t)) }
 {
-    if !record_good(head, tasks, held, ceilings, queues, t) {
-        return false;
+    if memory.held(t).is_empty() {
+        memory.waiting(t).is_none()
+    } else {
+        matches!(memory.place(t), Place::Ready | Place::Running)
     }
-    if !one_place(head, tasks, held, ceilings, queues, counts, t) {
-        return false;
-    }
-    let place = tasks::place(tasks, t);
-    if !due_good(head[NOW_CELL], place) {
-        return false;
-    }
-    if held::depth(held, t) == 0 {
-        return is_none(tasks::waiting(tasks, t));
-    }
-    if !held_good(head, tasks, held, ceilings, queues, t) {
-        return false;
-    }
-    is_ready(place) + is_running(place) == 1
 }
 
-fn tasks_good(
-    head: &[u64; HEAD_WIDTH],
-    tasks: &[u64],
-    held: &[u8],
-    ceilings: &[u8],
-    queues: &[u8],
-    counts: &[u16],
-) -> bool
-    requires laid_out { LaidOut head.now tasks.now held.now ceilings.now queues.now }
-    requires counted { Counted counts.now [] (queues_in queues.now) }
-    ensures { result ≡
-        below (task_count_in head.now)
-        (task_sound
-        (model_of head.now tasks.now held.now ceilings.now queues.now)) }
+// All clauses about t.
+fn task_good(memory: &Memory, counts: &[u16; Roster::TASKS], t: u8) -> bool
+    requires sizes { sizes_good memory.now ≡ true }
+    requires there { t < length memory.now.tasks }
+    requires counted { Counted counts.now (last_priority * task_limit) [] memory.now.ready }
+    ensures { result ≡ task_sound memory.entry.now t }
 {
-    let n = head[TASKS_CELL] as usize;
-    let mut t: usize = 0;
-    while t < n {
-        if !task_good(head, tasks, held, ceilings, queues, counts, t) {
-            return false;
-        }
-        t += 1;
-    }
-    true
+    record_good(memory, t)
+        && one_place(memory, counts, t)
+        && due_good(memory.now(), memory.place(t))
+        && held_good(memory, t)
+        && holder_good(memory, t)
 }
 
 // All tasks in the queue for p have the active priority p, so that each is a task; and each entry is counted.
-fn queue_good(
-    head: &[u64; HEAD_WIDTH],
-    tasks: &[u64],
-    held: &[u8],
-    ceilings: &[u8],
-    queues: &[u8],
-    counts: &mut [u16],
-    p: Priority,
-) -> bool
-    requires laid_out { LaidOut head.now tasks.now held.now ceilings.now queues.now }
-    requires has_queue { HasQueue p.0 }
-    requires counted { Counted counts.old (drop (p.0 - 1) (queues_in queues.now)) (queues_in queues.now) }
-    ensures value { result ≡
-        queue_sound
-        (model_of head.now tasks.now held.now ceilings.now queues.now)
-        p.0 }
-    ensures counted_2 { result ≡ true → Counted counts.new (drop p.0 (queues_in queues.now)) (queues_in queues.now) }
+fn queue_good(memory: &Memory, counts: &mut [u16; Roster::TASKS], p: Priority) -> bool
+    requires sizes { sizes_good memory.now ≡ true }
+    requires level { HasQueue p.0 }
+    requires counted { Counted counts.old ((p.0 - 1) * task_limit) (drop (p.0 - 1) memory.now.ready) memory.now.ready }
+    ensures value { result ≡ queue_sound memory.entry.now p.0 }
+    ensures counted { result ≡ true → Counted counts.new (p.0 * task_limit) (drop p.0 memory.entry.now.ready) memory.entry.now.ready }
 {
-    let row = (p.0 as usize - 1) * QUEUE_WIDTH;
-    let size = queues[row] as usize;
-    let mut i: usize = 0;
-    while i < size {
-        let t = queues[row + (i + 1)] as usize;
-        let a = active_of(head, tasks, held, ceilings, queues, t);
-        if a.0 != p.0 {
+    let queue = memory.queue(p);
+    for &t in queue {
+        if memory.active(t) != p {
             return false;
         }
-        counts[t] += 1;
-        i += 1;
+        counts[t as usize] += 1;
     }
     true
 }
 
 // All clauses about the queues; and how often each task stands in them, in one pass.
-fn queues_good(
-    head: &[u64; HEAD_WIDTH],
-    tasks: &[u64],
-    held: &[u8],
-    ceilings: &[u8],
-    queues: &[u8],
-    counts: &mut [u16],
-) -> bool
-    requires laid_out { LaidOut head.now tasks.now held.now ceilings.now queues.now }
-    requires counted { Counted counts.old (queues_in queues.now) (queues_in queues.now) }
-    ensures value { result ≡
-        each_priority
-        (queue_sound
-        (model_of head.now tasks.now held.now ceilings.now queues.now)) }
-    ensures counted_2 { result ≡ true → Counted counts.new [] (queues_in queues.now) }
+fn queues_good(memory: &Memory, counts: &mut [u16; Roster::TASKS]) -> bool
+    requires sizes { sizes_good memory.now ≡ true }
+    requires counted { Counted counts.old 0 memory.now.ready memory.now.ready }
+    ensures value { result ≡ each_priority (queue_sound memory.entry.now) }
+    ensures counted { result ≡ true → Counted counts.new (last_priority * task_limit) [] memory.entry.now.ready }
 {
-    let last = Priority::LAST;
-    let mut p: u8 = 0;
-    while p < last.0 {
-        if !queue_good(head, tasks, held, ceilings, queues, counts, Priority(p + 1)) {
+    for i in 0..Priority::LAST.0 {
+        if !queue_good(memory, counts, Priority(i + 1)) {
             return false;
         }
-        p += 1;
+    }
+    true
+}
+
+fn tasks_good(memory: &Memory, counts: &[u16; Roster::TASKS]) -> bool
+    requires sizes { sizes_good memory.now ≡ true }
+    requires counted { Counted counts.now (last_priority * task_limit) [] memory.now.ready }
+    ensures { result ≡ below (length memory.entry.now.tasks) (task_sound memory.entry.now) }
+{
+    for t in 0..memory.task_count() {
+        if !task_good(memory, counts, t) {
+            return false;
+        }
     }
     true
 }
 
 // The word of marks that the state holds is that of its queues, and all clauses hold.
-pub fn sound(
-    head: &[u64; HEAD_WIDTH],
-    tasks: &[u64],
-    held: &[u8],
-    ceilings: &[u8],
-    queues: &[u8],
-    marks: u32,
-) -> bool
-    requires { LaidOut head.now tasks.now held.now ceilings.now queues.now }
-    ensures { result ≡
-        (eqb marks (marks_of (queues_in queues.now)) &&
-        sound
-        (model_of head.now tasks.now held.now ceilings.now queues.now)) }
+pub fn sound(memory: &Memory, marks: u32) -> bool
+    ensures { result ≡ (eqb marks (marks_of memory.entry.now.ready) && sound memory.entry.now) }
 {
-    let word = head[MARKS_CELL];
-    if marks as u64 != word {
-        return false;
-    }
-    if !head_good(head, tasks, held, ceilings, queues) {
-        return false;
-    }
-    if !highest_runs(head, tasks, held, ceilings, queues) {
-        return false;
-    }
-    let mut counts = [0u16; Roster::TASKS];
-    if !queues_good(head, tasks, held, ceilings, queues, &mut counts) {
-        return false;
-    }
-    tasks_good(head, tasks, held, ceilings, queues, &counts)
+    let word = memory.marks();
+    let mut counts = [0; Roster::TASKS];
+    marks == word
+        && head_good(memory)
+        && highest_runs(memory)
+        && queues_good(memory, &mut counts)
+        && tasks_good(memory, &counts)
 }

@@ -1,18 +1,15 @@
 -- A run's configuration, the Model and the script positions, moved by Clock, Release, Step and Set.
-use Rattle.std.specs.Prelude.{Bool, cond, List, ℕ, suc, eqb, length, get_or, set, replicate}
-use Rattle.rules.specs.Answers.{number_of}
+use Rattle.std.specs.Prelude.{Bool, cond, List, ℕ, suc, eqb, length, get_or, set, replicate, None, Option, Some, Ok, Err}
+use Rattle.rules.specs.Answers.{Answer, number_of}
 use Rattle.rules.specs.Model.{Model}
 use Rattle.rules.specs.Moved.{Moved}
 use Rattle.rules.specs.Fresh.{fresh_model}
 use Rattle.rules.specs.Events.{release, clock, set_base, apply}
 use Rattle.rules.specs.declared.Event.{Event}
 use Rattle.rules.specs.declared.Event.TheVariants as E
-use Rattle.rules.specs.declared.Runner.{Runner}
-use Rattle.rules.specs.declared.Runner.TheVariants.{Nobody, Task}
 use Rattle.rules.specs.declared.Report.{Report}
 use Rattle.rules.specs.declared.Report.TheVariants.{Unchanged}
-use Rattle.rules.specs.declared.Answer.{Answer}
-use Rattle.rules.specs.declared.Answer.TheVariants.{Done, NobodyRuns}
+use Rattle.rules.specs.declared.Refusal.TheVariants.{NobodyRuns}
 use Rattle.format.specs.Steps.{step_in}
 use Rattle.format.specs.Roster.{Roster, setup_of, script_of}
 use Rattle.format.specs.declared.Step.{Step}
@@ -54,7 +51,7 @@ event_of Finish = event E.Finish
 
 -- Again: "the state stays", and the answer and the report are 0
 abbrev pub stays : Model → Moved
-stays m = record { answer = Done; report = Unchanged; model = m }
+stays m = record { answer = Ok tt; report = Unchanged; model = m }
 
 -- an event by its rule
 unfoldable pub answer_to : Model → Asked → Moved
@@ -97,9 +94,9 @@ abbrev pub position_at : Config → ℕ → ℕ
 position_at c t = get_or c.positions t 0
 
 -- a Step is taken by the running task; answer 5 where nobody runs
-unfoldable pub step_by : Roster → Config → Runner → Outcome
-step_by r c Nobody = record { answer = NobodyRuns; report = Unchanged; config = c }
-step_by r c (Task t) =
+unfoldable pub step_by : Roster → Config → Option ℕ → Outcome
+step_by r c None = record { answer = Err NobodyRuns; report = Unchanged; config = c }
+step_by r c (Some t) =
     advance c t (position_after (position_at c t) (next_step r t (position_at c t))) (perform c.model (next_step r t (position_at c t)))
 
 -- Clock, Release and Set are the rules' own, and move no position

@@ -1,15 +1,17 @@
 // The kinds of a run: its events, decoded, and what it answers. Their meaning, and what a run writes, is in specs/.
 #![tactic(auto)]
 
-ghost use Rattle.std.specs.Prelude.{◌≡◌};
-ghost use Rattle.trace.specs.Answers.{number_of, task_of, position_of};
+ghost use Rattle.std.specs.Prelude.{◌≡◌, ℕ};
+ghost use Rattle.trace.specs.Answers.{error_number, error_task, error_position};
+ghost use Rattle.trace.specs.declared.RunError.TheVariants.{BadRoster};
 
-use format::Verdict;
+use format::{Fault, Placed};
+use rules::Numbered;
 
 pub mod sizes;
 
 // An event of a run, decoded. Fields that an event does not use are gone; the others may be out of range.
-#[derive(Clone, Copy)]
+#[derive(Clone, Copy, PartialEq, Eq)]
 pub enum Input {
     Clock(u64),
     Release(u8),
@@ -17,55 +19,54 @@ pub enum Input {
     Set(u8, u64),
 }
 
-// What a record of eight bytes is: an event, or nothing that a run takes.
-#[derive(Clone, Copy)]
-pub enum Decoded {
-    Good(Input),
-    Bad,
-}
-
-// What a run answers: done, what the roster's check found, bad events, or a buffer shorter than needed.
-#[derive(Clone, Copy)]
-pub enum RunAnswer {
-    Done,
-    BadRoster(Verdict),
+// Why a run is refused: what the roster's check found, bad events, or a buffer shorter than needed.
+#[derive(Clone, Copy, PartialEq, Eq)]
+pub enum RunError {
+    BadRoster(Fault),
     BadEvents,
     ShortBuffer,
 }
 
-impl RunAnswer {
-    pub fn number(self) -> u8
-        ensures { result ≡ number_of self }
-    {
+// What a run answers: done, or why not.
+pub type RunAnswer = Result<(), RunError>;
+
+impl From<Fault> for RunError {
+    ghost from_gives = { λ f e. e ≡ BadRoster f };
+
+    fn from(f: Fault) -> RunError {
+        RunError::BadRoster(f)
+    }
+}
+
+impl Numbered for RunError {
+    ghost number = { error_number };
+
+    fn number(self) -> u8 {
         match self {
-            RunAnswer::Done => 0,
-            RunAnswer::BadRoster(v) => v.number(),
-            RunAnswer::BadEvents => 21,
-            RunAnswer::ShortBuffer => 22,
+            RunError::BadRoster(fault) => fault.number(),
+            RunError::BadEvents => 21,
+            RunError::ShortBuffer => 22,
+        }
+    }
+}
+
+// Bad events and a short buffer are at 0, 0.
+impl Placed for RunError {
+    ghost task = { error_task };
+
+    ghost position = { error_position };
+
+    fn task(self) -> u8 {
+        match self {
+            RunError::BadRoster(fault) => fault.task(),
+            _ => 0,
         }
     }
 
-    // The task of the fault, or 0.
-    pub fn task(self) -> u8
-        ensures { result ≡ task_of self }
-    {
+    fn position(self) -> usize {
         match self {
-            RunAnswer::Done => 0,
-            RunAnswer::BadRoster(v) => v.task(),
-            RunAnswer::BadEvents => 0,
-            RunAnswer::ShortBuffer => 0,
-        }
-    }
-
-    // The step of the fault, or 0.
-    pub fn position(self) -> usize
-        ensures { result ≡ position_of self }
-    {
-        match self {
-            RunAnswer::Done => 0,
-            RunAnswer::BadRoster(v) => v.position(),
-            RunAnswer::BadEvents => 0,
-            RunAnswer::ShortBuffer => 0,
+            RunError::BadRoster(fault) => fault.position(),
+            _ => 0,
         }
     }
 }

@@ -1,3 +1,3 @@
-pub mod StepLaws
-pub mod MoveLaws
 pub mod ScriptLaws
+pub mod RunLaws
+pub mod StartLaws

@@ -1,1 +1,3 @@
-pub mod Slices
+pub mod Run
+pub mod ScriptsView
+pub mod MachineView

@@ -1,35 +1,63 @@
-// The scripts of a run: where each starts and how long it is, read once from the roster's task table.
-ghost use Rattle.std.specs.Prelude.{◌≡◌, ◌+◌, ◌≤◌, ◌<◌, length};
-ghost use Rattle.format.specs.Format.{task_count, start_at, length_at, part_at};
-ghost use Rattle.format.specs.Steps.{steps_of, step_in};
-ghost use Rattle.turns.specs.Slices.{ScriptsRead};
+// The scripts of a run: each task's part of the roster, found once.
+ghost use Rattle.std.specs.Prelude.{◌≡◌, ◌<◌, Ok, length};
+ghost use Rattle.format.specs.Format.{task_count, part_at};
+ghost use Rattle.format.specs.Form.{form_of};
+ghost use Rattle.format.specs.Roster.{roster_of};
+ghost use Rattle.trace.specs.Config.{next_step, position_after};
 
 use fields::steps;
 use format::Step;
+use rules::Roster;
+use std::marker::Model;
 
-// The starts and lengths, in the first cells.
-pub fn read_scripts(s: &[u8], starts: &mut [u16], lengths: &mut [u16])
-    requires s_in_bounds { task_count s.now ≤ length starts.old }
-    requires s_in_bounds_2 { task_count s.now ≤ length lengths.old }
-    ensures { ScriptsRead s.now starts.new lengths.new }
-{
-    let n = fields::task_count(s);
-    let mut t: u8 = 0;
-    while t < n {
-        starts[t as usize] = fields::start_at(s, t);
-        lengths[t as usize] = fields::length_at(s, t);
-        t += 1;
-    }
+// A contract sees the roster that the parts are of. Those behind its last task's are empty.
+#[derive(Drop)]
+pub struct Scripts<'a> {
+    roster: &'a [u8],
+    parts: [&'a [u8]; Roster::TASKS],
 }
 
-// The step at position k of a listed task's script; Finish past the last.
-pub fn step_in(s: &[u8], starts: &[u16], lengths: &[u16], t: usize, k: u16) -> Step
-    requires scripts_read { ScriptsRead s.now starts.now lengths.now }
-    requires t_bound { t < task_count s.now }
-    requires t_in_bounds { start_at s.now t + length_at s.now t ≤ length s.now }
-    ensures { result ≡ step_in (steps_of (part_at s.now t)) k }
+impl<'a> Model for Scripts<'a> {
+    ghost use Rattle.format.specs.Roster.{Roster};
+
+    ghost Value = { Roster };
+
+    ghost use Rattle.turns.specs.ScriptsView.{roster_in, Found};
+
+    ghost view = { roster_in };
+
+    ghost invariant = { Found };
+}
+
+// The bytes of a listed task's script.
+fn part_of(s: &[u8], t: u8) -> &[u8]
+    requires form { form_of s.now ≡ Ok tt }
+    requires listed { t < task_count s.now }
+    ensures { result.now ≡ part_at s.now t }
 {
-    let start = starts[t] as usize;
-    let end = start + lengths[t] as usize;
-    steps::step_at(&s[start..end], k as usize)
+    let start = fields::start_at(s, t) as usize;
+    let length = fields::length_at(s, t) as usize;
+    &s[start..start + length]
+}
+
+impl<'a> Scripts<'a> {
+    pub fn new(roster: &'a [u8]) -> Self
+        requires { form_of roster.now ≡ Ok tt }
+        ensures { result ≡ roster_of roster.now }
+    {
+        let mut parts: [&'a [u8]; Roster::TASKS] = [&roster[..0]; Roster::TASKS];
+        for t in 0..fields::task_count(roster) {
+            parts[t as usize] = part_of(roster, t);
+        }
+        Scripts { roster, parts }
+    }
+
+    // The step at position k of a task's script; Finish past the last.
+    pub fn step(&self, t: u8, k: u16) -> Step
+        requires { t < length self.now.scripts }
+        ensures value { result ≡ next_step self.entry.now t k }
+        ensures short { position_after k result < 65536 }
+    {
+        steps::step_at(self.parts[t as usize], k as usize)
+    }
 }

@@ -1,10 +1,12 @@
--- Laws of plain lists: an element read with another default, lists of one value, and each element mapped.
+-- Laws of plain lists: an element read with another default, lists of one value, chunks, and each element mapped.
 use mathlib.Core.Path.{◌≡◌, refl, ap, ◌∙◌}
 use mathlib.Core.List.{List, [], ◌∷◌, map}
-use Prim.Native.Nat.{ℕ, zero, suc, ◌-◌, ◌≤◌, ◌<◌}
-use native.Mathlib.Nat.{sub-zero, suc-sub-suc, zero-sub, not-suc-le-zero, le_of_suc-le-suc}
+use Prim.Native.Nat.{ℕ, zero, suc, ◌+◌, ◌-◌, ◌*◌, ◌<◌}
+use native.Mathlib.Nat.{mul-zero, mul-suc, sub-zero, suc-sub-suc, zero-sub, not-suc-le-zero, le_of_suc-le-suc}
 use native.Mathlib.Omega.{arith}
-use lib.ListN.{length, take, drop, get_or, set, replicate, get_or-map, length-map}
+use lib.Seq.{drop-drop, get_or-take, get_or-drop}
+use Rattle.std.specs.Simd.{first_chunks}
+use lib.ListN.{length, take, drop, get_or, replicate, get_or-map, length-map}
 
 module _ {A : Type 0} where
   -- an element that is there does not depend on the default
@@ -18,24 +20,23 @@ module _ {A : Type 0} where
   drop-replicate (suc n) zero x = rw (zero-sub (suc n))
   drop-replicate (suc n) (suc m) x = drop-replicate n m x ∙ rw (suc-sub-suc m n)
 
-  pub take-replicate : (n m : ℕ) (x : A) → n ≤ m → take n (replicate m x) ≡ replicate n x
-  take-replicate zero m x h = refl
-  take-replicate (suc n) zero x h = absurd (not-suc-le-zero h)
-  take-replicate (suc n) (suc m) x h = ap (λ (v : List A). x ∷ v) (take-replicate n m x (le_of_suc-le-suc h))
+  -- a chunk of as many as each of the first k has
+  pub chunk_at : (l : List A) (n k i : ℕ) → i < k → get_or (first_chunks n k l) i [] ≡ take n (drop (n * i) l)
+  chunk_at l n zero i h = absurd (not-suc-le-zero h)
+  chunk_at l n (suc k) zero h = rw (mul-zero n)
+  chunk_at l n (suc k) (suc i) h =
+      let e : n + n * i ≡ n * suc i = omega (arith, mul-suc n i) in
+      chunk_at (drop n l) n k i (le_of_suc-le-suc h) ∙ ap (take n) (drop-drop (n * i) n l ∙ ap (λ (j : ℕ). drop j l) e)
+
+  -- an element of one
+  pub chunk-item : (l : List A) (n k i j : ℕ) (d : A) → i < k → j < n →
+      get_or (get_or (first_chunks n k l) i []) j d ≡ get_or l (n * i + j) d
+  chunk-item l n k i j d h g =
+      ap (λ (c : List A). get_or c j d) (chunk_at l n k i h) ∙ (get_or-take n (drop (n * i) l) j d g ∙ get_or-drop (n * i) l j d)
 
 module _ {A B : Type 0} (f : A → B) where
   pub map_at : (l : List A) (i : ℕ) (z : A) (y : B) → i < length l → get_or (map f l) i y ≡ f (get_or l i z)
   map_at l i z y h = get_d_any (map f l) i y (f z) (omega (arith, length-map l f)) ∙ get_or-map f l i z
-
-  pub map-set : (l : List A) (i : ℕ) (x : A) → map f (set l i x) ≡ set (map f l) i (f x)
-  map-set [] i x = refl
-  map-set (y ∷ l) zero x = refl
-  map-set (y ∷ l) (suc i) x = ap (λ (v : List B). f y ∷ v) (map-set l i x)
-
-  pub map-take : (n : ℕ) (l : List A) → map f (take n l) ≡ take n (map f l)
-  map-take zero l = refl
-  map-take (suc n) [] = refl
-  map-take (suc n) (x ∷ l) = ap (λ (v : List B). f x ∷ v) (map-take n l)
 
   pub map-replicate : (n : ℕ) (x : A) → map f (replicate n x) ≡ replicate n (f x)
   map-replicate zero x = refl

@@ -1,6 +1,6 @@
 -- Bytes and little-endian numbers of a list, a list given entry by entry, and one written over another. What lies past the last byte
 -- reads as 0.
-use Rattle.std.specs.Prelude.{List, [], ◌∷◌, ◌++◌, ℕ, zero, suc, ◌+◌, ◌*◌, ◌/◌, ◌%◌, ◌<◌, length, drop, get_or}
+use Rattle.std.specs.Prelude.{◌≡◌, List, [], ◌∷◌, ◌++◌, ℕ, zero, suc, ◌+◌, ◌*◌, ◌/◌, ◌%◌, ◌<◌, length, drop, get_or}
 
 abbrev pub byte_at : List ℕ → ℕ → ℕ
 byte_at s i = get_or s i 0
@@ -8,6 +8,10 @@ byte_at s i = get_or s i 0
 -- every element is a byte, as in a lent slice
 pub record Bytes (s : List ℕ) : Type 0 where
   pub below : (i : ℕ) → byte_at s i < 256
+
+-- n bytes are those at i
+abbrev pub BytesAt : List ℕ → ℕ → ℕ → List ℕ → Type 0
+BytesAt s i n bytes = (k : ℕ) → k < n → byte_at bytes k ≡ byte_at s (i + k)
 
 -- "Little-endian": a number of two bytes, one of four, and one of eight
 unfoldable pub word_at : List ℕ → ℕ → ℕ

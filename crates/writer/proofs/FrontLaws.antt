@@ -12,10 +12,6 @@ use Rattle.encoding.proofs.PieceLaws.{pieces_more}
 pub over-length : (l out : List ℕ) → length l ≤ length out → length (over_front l out) ≡ length out
 over-length l out h = omega (arith, length-append l (drop (length l) out), length-drop (length l) out)
 
--- exactly what was written
-pub over-taken : (l out v : List ℕ) (n : ℕ) → v ≡ over_front l out → n ≡ length l → take n v ≡ l
-over-taken l out v n e f = ap (take n) e ∙ take_at l (drop (length l) out) n (sym f)
-
 -- the part of a lent list that begins at a, and what a call on it that leaves ys there makes of the whole
 abbrev pub part_from : List ℕ → ℕ → List ℕ
 part_from v a = take (length v - a) (drop a v)

@@ -1,2 +1,4 @@
 pub mod FrontLaws
 pub mod TableLaws
+pub mod PartLaws
+pub mod WholeLaws

@@ -1,36 +1,17 @@
--- Laws of the tables: a row as it was written, and the file part by part.
-use mathlib.Core.Path.{◌≡◌, refl, ap, sym, ◌∙◌}
+-- Laws of the tables: each row as it was written, and the loops over them.
+use mathlib.Core.Path.{◌≡◌, refl, ap, ◌∙◌}
 use mathlib.Core.List.{List, [], ◌∷◌, ◌++◌}
-use Prim.Native.Nat.{ℕ, ◌+◌, ◌-◌, ◌≤◌}
+use Prim.Native.Nat.{ℕ, ◌+◌, ◌*◌, ◌≤◌}
 use native.Mathlib.Omega.{arith}
-use lib.ListN.{length, get_or, take, drop}
-use Rattle.rules.specs.Limits.{largest_roster}
+use lib.ListN.{length, get_or}
 use Rattle.words.specs.Words.{word, over_front}
-use Rattle.format.specs.Limits.{trailer_size}
-use Rattle.format.specs.Form.{steps_form}
-use Rattle.format.specs.declared.Verdict.{Verdict}
-use Rattle.encoding.specs.File.{Parts, tasks_of, objects_of, bytes_before, script_size, script_at, task_row_bytes, object_row_bytes}
-use Rattle.encoding.specs.File.{task_rows, object_rows, task_start, object_start, trailer_of, file_of}
-use Rattle.encoding.specs.Answers.{lent_script_form, write_answer_of}
-use Rattle.encoding.specs.declared.WriteAnswer.TheVariants.{Done}
-use Rattle.encoding.proofs.FileLaws.{trailer_start, task-rows, object-rows, trailer-length, front_length, tables-length}
-use Rattle.encoding.proofs.FileLaws.{file-whole, file-length, Sizes}
-use Rattle.encoding.proofs.AnswerLaws.{sizes, done-file, done-room}
-use Rattle.writer.proofs.FrontLaws.{over-length, part_from, lent_from, part-over}
-
--- 16, of one script's part
-pub script-here : (p : Parts) (n m t start end : ℕ) (v : Verdict) → n ≡ tasks_of p → m ≡ objects_of p → start ≡ bytes_before p.lengths t →
-    end ≡ start + script_size p.lengths t → v ≡ steps_form n m t (take (end - start) (drop start p.steps)) → v ≡ lent_script_form p t
-unfolding lent_script_form script_at
-script-here p n m t start end v a b e f g =
-    let k : end - start ≡ script_size p.lengths t = omega arith in
-    let part = take (script_size p.lengths t) (drop (bytes_before p.lengths t) p.steps) in
-    g ∙ (ap (λ (x : ℕ). steps_form n m t (take x (drop start p.steps))) k ∙
-    (ap (λ (x : ℕ). steps_form n m t (take (script_size p.lengths t) (drop x p.steps))) e ∙
-    (ap (λ (x : ℕ). steps_form x m t part) a ∙ ap (λ (x : ℕ). steps_form (tasks_of p) x t part) b)))
+use Rattle.format.specs.Limits.{task_row_size, object_row_size}
+use Rattle.encoding.specs.File.{pieces, bytes_before, script_size, task_row_bytes, object_row_bytes}
+use Rattle.encoding.proofs.FileLaws.{before-none, before_more, task-rows, object-rows}
+use Rattle.writer.proofs.FrontLaws.{over-length, part_from, lent_from, row-over}
 
 -- a row as it was written is the row
-pub task-row : (bases lengths : List ℕ) (t base start size : ℕ) → base ≡ get_or bases t 0 → start ≡ bytes_before lengths t →
+task-row : (bases lengths : List ℕ) (t base start size : ℕ) → base ≡ get_or bases t 0 → start ≡ bytes_before lengths t →
     size ≡ script_size lengths t → base ∷ 0 ∷ (word start ++ word size) ≡ task_row_bytes bases lengths t
 unfolding task_row_bytes
 task-row bases lengths t base start size e f g =
@@ -38,53 +19,55 @@ task-row bases lengths t base start size e f g =
     (ap (λ (x : ℕ). get_or bases t 0 ∷ 0 ∷ (word x ++ word size)) f ∙
     ap (λ (x : ℕ). get_or bases t 0 ∷ 0 ∷ (word (bytes_before lengths t) ++ word x)) g)
 
-pub object-row : (ceilings : List ℕ) (o ceiling : ℕ) → ceiling ≡ get_or ceilings o 0 → ceiling ∷ 0 ∷ [] ≡ object_row_bytes ceilings o
+object-row : (ceilings : List ℕ) (o ceiling : ℕ) → ceiling ≡ get_or ceilings o 0 → ceiling ∷ 0 ∷ [] ≡ object_row_bytes ceilings o
 unfolding object_row_bytes
 object-row ceilings o ceiling e = ap (λ (x : ℕ). x ∷ 0 ∷ []) e
 
-module _ (p : Parts) (out : List ℕ) (ok : write_answer_of p (length out) ≡ Done) where
-  pub known : Sizes p
-  known = sizes p (done-file p (length out) ok)
+-- the loop over the tasks
+module _ (bases lengths out : List ℕ) where
+  pub record TasksTo (t start : ℕ) (table : List ℕ) : Type 0 where
+    pub begins : start ≡ bytes_before lengths t
+    pub rows : table ≡ over_front (pieces t (task_row_bytes bases lengths)) out
+    pub room : length table ≡ length out
 
-  pub small : trailer_start p + trailer_size ≤ largest_roster
-  small = omega (arith, file-length p, known.small)
+  pub tasks-start : TasksTo 0 0 out
+  unfolding pieces
+  tasks-start = record { begins = omega (arith, before-none lengths); rows = refl; room = refl }
 
-  pub fits : trailer_start p + trailer_size ≤ length out
-  fits = omega (arith, file-length p, done-room p (length out) ok)
+  pub tasks-go : (t start at size base : ℕ) (table row : List ℕ) → TasksTo t start table → at ≡ task_row_size * t →
+      size ≡ script_size lengths t → base ≡ get_or bases t 0 → task_row_size * (t + 1) ≤ length out →
+      row ≡ over_front (base ∷ 0 ∷ (word start ++ word size)) (part_from table at) →
+      TasksTo (t + 1) (start + size) (lent_from table at row)
+  tasks-go t start at size base table row r e f g room h =
+      let rows = task-rows bases lengths t in
+      let more = row-over (task_row_bytes bases lengths) t _ out table row at (omega (arith, rows)) (omega (arith, rows)) r.rows
+      (task-row bases lengths t base start size g r.begins f) h in
+      record {
+        begins = omega (arith, r.begins, before_more lengths t _ _ refl refl);
+        rows = more;
+        room =
+            ap length more ∙
+            over-length (pieces (t + 1) (task_row_bytes bases lengths)) out (omega (arith, task-rows bases lengths (t + 1)));
+      }
 
-  -- the scripts, then the task table
-  module _ (v ys : List ℕ) (f : v ≡ over_front p.steps out) where
-    pub scripts-count : length v ≡ length out
-    scripts-count = ap length f ∙ over-length p.steps out (omega (arith, fits))
+-- the loop over the objects
+module _ (ceilings out : List ℕ) where
+  pub record ObjectsTo (o : ℕ) (table : List ℕ) : Type 0 where
+    pub rows : table ≡ over_front (pieces o (object_row_bytes ceilings)) out
+    pub room : length table ≡ length out
 
-    pub tasks-written : ys ≡ over_front (task_rows p) (part_from v (task_start p)) →
-        lent_from v (task_start p) ys ≡ over_front (p.steps ++ task_rows p) out
-    tasks-written g =
-        part-over p.steps (task_rows p) out v ys (task_start p) refl
-        (omega (arith, fits, task-rows p.setup.bases p.lengths (tasks_of p))) f g
+  pub objects-start : ObjectsTo 0 out
+  unfolding pieces
+  objects-start = record { rows = refl; room = refl }
 
-  -- then the object table
-  module _ (v ys : List ℕ) (f : v ≡ over_front (p.steps ++ task_rows p) out) where
-    pub tasks-count : length v ≡ length out
-    tasks-count = ap length f ∙ over-length (p.steps ++ task_rows p) out (omega (arith, fits, front_length p))
-
-    pub objects-written : ys ≡ over_front (object_rows p) (part_from v (object_start p)) →
-        lent_from v (object_start p) ys ≡ over_front ((p.steps ++ task_rows p) ++ object_rows p) out
-    objects-written g =
-        part-over (p.steps ++ task_rows p) (object_rows p) out v ys (object_start p) (sym (front_length p))
-        (omega (arith, fits, front_length p, object-rows p.setup.ceilings (objects_of p))) f g
-
-  -- then the trailer, and the file is whole
-  module _ (v ys : List ℕ) (f : v ≡ over_front ((p.steps ++ task_rows p) ++ object_rows p) out) where
-    pub objects-count : length v ≡ length out
-    objects-count = ap length f ∙ over-length ((p.steps ++ task_rows p) ++ object_rows p) out (omega (arith, fits, tables-length p))
-
-    pub file-written : ys ≡ over_front (trailer_of p) (part_from v (trailer_start p)) →
-        lent_from v (trailer_start p) ys ≡ over_front (file_of p) out
-    file-written g =
-        part-over ((p.steps ++ task_rows p) ++ object_rows p) (trailer_of p) out v ys (trailer_start p) (sym (tables-length p))
-        (omega (arith, fits, tables-length p, trailer-length p)) f g ∙
-        ap (λ (z : List ℕ). over_front z out) (file-whole p)
-
-  pub file-count : (v : List ℕ) → v ≡ over_front (file_of p) out → length v ≡ length out
-  file-count v f = ap length f ∙ over-length (file_of p) out (done-room p (length out) ok)
+  pub objects-go : (o at ceiling : ℕ) (table row : List ℕ) → ObjectsTo o table → at ≡ object_row_size * o →
+      ceiling ≡ get_or ceilings o 0 → object_row_size * (o + 1) ≤ length out → row ≡ over_front (ceiling ∷ 0 ∷ []) (part_from table at) →
+      ObjectsTo (o + 1) (lent_from table at row)
+  objects-go o at ceiling table row r e f room h =
+      let rows = object-rows ceilings o in
+      let more = row-over (object_row_bytes ceilings) o _ out table row at (omega (arith, rows)) (omega (arith, rows)) r.rows
+      (object-row ceilings o ceiling f) h in
+      record {
+        rows = more;
+        room = ap length more ∙ over-length (pieces (o + 1) (object_row_bytes ceilings)) out (omega (arith, object-rows ceilings (o + 1)));
+      }

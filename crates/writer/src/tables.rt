@@ -12,11 +12,7 @@ pub fn write_scripts(steps: &[u8], out: &mut [u8])
     requires { length steps.now ≤ length out.old }
     ensures { out.new ≡ over_front steps.now out.old }
 {
-    let mut i: usize = 0;
-    while i < steps.len() {
-        out[i] = steps[i];
-        i += 1;
-    }
+    out[..steps.len()].copy_from_slice(steps);
 }
 
 // One task row.
@@ -26,10 +22,8 @@ fn write_task(base: u8, start: u16, size: u16, row: &mut [u8])
 {
     row[0] = base;
     row[1] = 0;
-    row[2] = (start % 256) as u8;
-    row[3] = (start / 256) as u8;
-    row[4] = (size % 256) as u8;
-    row[5] = (size / 256) as u8;
+    row[2..4].copy_from_slice(&start.to_le_bytes());
+    row[4..6].copy_from_slice(&size.to_le_bytes());
 }
 
 // The task table.
@@ -41,16 +35,12 @@ pub fn write_tasks(bases: &[u8], lengths: &[u16], table: &mut [u8])
     ensures { table.new ≡
         over_front (pieces (length bases.now) (task_row_bytes bases.now lengths.now)) table.old }
 {
-    let n = bases.len();
     let mut start: usize = 0;
-    let mut t: usize = 0;
-    while t < n {
+    for (t, &base) in bases.iter().enumerate() {
         let at = File::TASK_ROW as usize * t;
-        let size = File::STEP * (lengths[t] as usize);
-        let base = bases[t];
+        let size = File::STEP * lengths[t] as usize;
         write_task(base, start as u16, size as u16, &mut table[at..]);
         start += size;
-        t += 1;
     }
 }
 
@@ -70,17 +60,13 @@ pub fn write_objects(ceilings: &[u8], table: &mut [u8])
     ensures { table.new ≡
         over_front (pieces (length ceilings.now) (object_row_bytes ceilings.now)) table.old }
 {
-    let m = ceilings.len();
-    let mut o: usize = 0;
-    while o < m {
-        let at = File::OBJECT_ROW as usize * o;
-        let ceiling = ceilings[o];
-        write_object(ceiling, &mut table[at..]);
-        o += 1;
+    for (o, &ceiling) in ceilings.iter().enumerate() {
+        write_object(ceiling, &mut table[File::OBJECT_ROW as usize * o..]);
     }
 }
 
 // The trailer of so many tasks and objects, with where their tables start.
+#[tactic(auto, unfolding(encoding::specs::File::trailer_bytes))]
 pub fn write_trailer(tasks: u8, objects: u8, object_start: u16, task_start: u16, end: &mut [u8])
     requires { trailer_size ≤ length end.old }
     ensures { end.new ≡ over_front (trailer_bytes tasks objects object_start task_start) end.old }
@@ -89,8 +75,6 @@ pub fn write_trailer(tasks: u8, objects: u8, object_start: u16, task_start: u16,
     end[1] = File::SECOND_MARK;
     end[2] = tasks;
     end[3] = objects;
-    end[4] = (object_start % 256) as u8;
-    end[5] = (object_start / 256) as u8;
-    end[6] = (task_start % 256) as u8;
-    end[7] = (task_start / 256) as u8;
+    end[4..6].copy_from_slice(&object_start.to_le_bytes());
+    end[6..8].copy_from_slice(&task_start.to_le_bytes());
 }

@@ -101,20 +101,39 @@ fn copy_crate(copy: &Path, name: &str) {
 
 /// The types that a source declares, with what it brings in for them.
 fn types(source: &str) -> String {
-    let mut code = String::from("// The declared types alone.\n#![tactic(auto)]\n\n");
-    for line in source.lines() {
-        if line.starts_with("use ") {
-            code.push_str(&format!("{line}\n"));
-        }
-    }
+    let mut declared = String::new();
     let mut before = "";
     for line in source.lines() {
         if line.starts_with("pub struct ") || line.starts_with("pub enum ") {
-            code.push_str(&declaration(source, before, line));
+            declared.push_str(&declaration(source, before, line));
         }
         before = line;
     }
-    code
+    let brought: String = source
+        .lines()
+        .filter_map(|line| kept(line, &declared))
+        .collect();
+    format!("// The declared types alone.\n#![tactic(auto)]\n\n{brought}{declared}")
+}
+
+/// A line that brings names in, with those of them that a declaration uses.
+fn kept(line: &str, declared: &str) -> Option<String> {
+    let (from, names) = line
+        .strip_prefix("use ")?
+        .strip_suffix(';')?
+        .rsplit_once("::")?;
+    let names: Vec<&str> = names
+        .trim_matches(['{', '}'])
+        .split(", ")
+        .filter(|name| uses(declared, name))
+        .collect();
+    (!names.is_empty()).then(|| format!("use {from}::{{{}}};\n", names.join(", ")))
+}
+
+/// Whether a name stands in a text as a word.
+fn uses(text: &str, name: &str) -> bool {
+    text.split(|c: char| !c.is_alphanumeric() && c != '_')
+        .any(|word| word == name)
 }
 
 /// The text of a declaration from its first line up to its end, with the derives that stand on the line before it.
@@ -170,8 +189,8 @@ use mathlib.Core.Bool.{true}
 use mathlib.Core.List.{List, [], ◌∷◌}
 use Prim.Native.Nat.{ℕ}
 use native.Mathlib.Omega.{arith}
-use Rattle.rules.specs.declared.Answer.TheVariants.{Done, AboveCeiling}
-use Rattle.rules.specs.declared.Runner.TheVariants.{Nobody, Task}
+use Rattle.std.specs.Prelude.{None, Some, Ok, Err}
+use Rattle.rules.specs.declared.Refusal.TheVariants.{AboveCeiling}
 use Rattle.format.specs.Answers.{passed}
 use Rattle.format.specs.Check.{check_of}
 use Rattle.format.specs.Roster.{Roster, roster_of}

@@ -1,77 +1,49 @@
 -- `events::delay` meets its contract.
-use Prim.Native.Nat.{◌-◌}
-use native.Mathlib.Omega.{arith}
-use lib.ListN.{get_or}
-use Rattle.rules.specs.Events.{put_off}
-use Rattle.rules.specs.Model.{Model}
-use Rattle.memory.specs.Rulings as Ruling
-use Rattle.rules.proofs.EventLaws.{delay-5, delay-7, delay-0}
+use Rattle.std.proofs.Common.{◌≡◌, sym, ◌∙◌, subst, arith}
+use borrow.Author.Tests.{le-leb}
+use Rattle.rules.specs.Limits.{last_delay}
+use Rattle.rules.specs.Moves.{stopped}
+use Rattle.rules.specs.Events.{apply, put_off}
+use Rattle.rules.specs.Histories.{delay_fits}
+use Rattle.rules.specs.declared.Event.TheVariants.{Delay}
+use Rattle.rules.proofs.EventLaws.{delay-0}
 use Rattle.rules.proofs.Pending.{pending-delay}
-use Rattle.memory.specs.Memory.{running_cell}
-use Rattle.moves.proofs.EffectLaws.{holdable, stop-law, still_read, inside_is, outside-is}
-use Rattle.moves.proofs.EventLaws.{did-not, did}
-use Rattle.memory.proofs.MemoryLaws.{then-means, idle}
+use Rattle.rules.proofs.Soundness.{sound-good}
+use Rattle.moves.specs.Room.{Dispatches}
 use Rattle.moves.proofs.RoomLaws.{delay-joins}
-use Rattle.events.proofs.ValidLaws.{dispatchable, runner, runner-counted, good}
+use Rattle.events.proofs.SoundLaws.{runner-there, dispatchable, did-by, kept-by}
 use Rattle.events.proofs.delay.Goals as goal
+use Rattle.events.proofs.delay.Goals.{After-put_off}
 
-pub returns-then-running-eq0 : goal.returns-then-running-eq0
-returns-then-running-eq0 c =
-    let v = c.requires in
-    let d = v.laid in
-    did-not Ruling.nobody_runs (omega arith) d (delay-5 _ _ (idle d c.if-running-eq0.true))
-
-pub depth-requires : goal.depth-requires
-depth-requires c =
-    let v = c.requires in
-    let d = v.laid in
-    let e = runner v c.if-running-eq0.false in
-    let g = runner-counted v c.if-running-eq0.false in
-    let whole = holdable d _ g in
-    record { t_lt_task_limit = whole.0; held = whole.1 }
-
-pub returns-then-depth-gt0 : goal.returns-then-depth-gt0
-returns-then-depth-gt0 c =
-    let v = c.requires in
-    let d = v.laid in
-    let e = runner v c.if-running-eq0.false in
-    let g = runner-counted v c.if-running-eq0.false in
-    let in-action = inside_is d _ _ g c.depth.ensures c.if-depth-gt0.true in
-    did-not Ruling.inside_action (omega arith) d (delay-7 _ _ _ e in-action)
+pub inside-requires : goal.inside-requires
+inside-requires c = runner-there _ c.requires _ (sym c.in-Some.ensures)
 
 pub put_off-requires : goal.put_off-requires
+unfolding stopped
 put_off-requires c =
-    let v = c.requires in
-    let d = v.laid in
-    let e = runner v c.if-running-eq0.false in
-    let g = runner-counted v c.if-running-eq0.false in
-    let bare = outside-is d _ _ g c.depth.ensures c.if-depth-gt0.false in
-    let x = stop-law d in
-    record {
-      laid_out = x.laid;
-      arrives = rw x.same (delay-joins _ _ (good v) e bare);
-      now_cell_bound = rw (still_read _ _) (good v).pending.sizes.reading;
-    }
+    let m = c.args.memory.now in
+    let g = sound-good m c.requires in
+    rw c.set_running.ensures
+    (record {
+      arrives = delay-joins m _ g (sym c.in-Some.ensures) (sym c.inside.ensures ∙ c.if-inside.false);
+      reading = g.pending.sizes.reading;
+    })
+
+was : (c : After-put_off) → c.put_off.new.memory ≡ put_off (stopped c.args.memory.now) c.in-Some.t c.args.d
+unfolding stopped
+was c = rw c.set_running.ensures at c.put_off.ensures
 
 pub conclude-requires : goal.conclude-requires
 conclude-requires c =
-    let v = c.requires in
-    let d = v.laid in
-    let e = runner v c.if-running-eq0.false in
-    let g = runner-counted v c.if-running-eq0.false in
-    let bare = outside-is d _ _ g c.depth.ensures c.if-depth-gt0.false in
-    let t = get_or c.args.head.now running_cell 0 - 1 in
-    let x = then-means (λ (m : Model). put_off m t c.args.d) (stop-law d) c.put_off.ensures in
-    let whole = dispatchable x (pending-delay _ _ t (omega (arith, c.ranges.d)) (good v) e bare) in
-    record { laid_out = whole.0; dispatches = whole.1 }
+    let m = c.args.memory.now in
+    subst Dispatches (sym (was (goal.at.conclude-requires c).After-put_off))
+    (dispatchable _
+    (pending-delay m c.args.d _ (omega arith) (sound-good m c.requires) (sym c.in-Some.ensures) (sym c.inside.ensures ∙ c.if-inside.false)))
 
 pub returns : goal.returns
+unfolding apply delay_fits
 returns c =
-    let v = c.requires in
-    let d = v.laid in
-    let e = runner v c.if-running-eq0.false in
-    let g = runner-counted v c.if-running-eq0.false in
-    let bare = outside-is d _ _ g c.depth.ensures c.if-depth-gt0.false in
-    let t = get_or c.args.head.now running_cell 0 - 1 in
-    let x = then-means (λ (m : Model). put_off m t c.args.d) (stop-law d) c.put_off.ensures in
-    did _ x c.conclude.ensures (delay-0 _ _ t e bare)
+    let m = c.args.memory.now in
+    let e = delay-0 m c.args.d _ (sym c.in-Some.ensures) (sym c.inside.ensures ∙ c.if-inside.false) in
+    let d = did-by c.conclude.ensures c.in-Some.ensures (was (goal.at.returns c).After-put_off) e in
+    record { did = d; kept = kept-by m (Delay c.args.d) c.requires (le-leb c.args.d last_delay (omega arith)) d }

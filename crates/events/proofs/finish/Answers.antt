@@ -1,64 +1,37 @@
 -- `events::finish` meets its contract.
-use native.Mathlib.Omega.{arith}
-use Rattle.memory.specs.Rulings as Ruling
-use Rattle.rules.specs.declared.Place.TheVariants.{Ended}
-use Rattle.rules.proofs.EventLaws.{finish-5, finish-7, finish-0}
+use Rattle.std.proofs.Common.{◌≡◌, refl, sym, ◌∙◌, subst}
+use Rattle.rules.specs.Moves.{stopped}
+use Rattle.rules.specs.Events.{apply, end}
+use Rattle.rules.specs.Histories.{delay_fits}
+use Rattle.rules.specs.declared.Event.TheVariants.{Finish}
+use Rattle.rules.proofs.EventLaws.{finish-0}
 use Rattle.rules.proofs.Pending.{pending-end}
-use Rattle.moves.proofs.EffectLaws.{readable, holdable, away-law, inside_is, outside-is}
-use Rattle.moves.proofs.EventLaws.{did-not, did}
-use Rattle.memory.proofs.MemoryLaws.{idle}
-use Rattle.events.proofs.ValidLaws.{dispatchable, runner, runner-counted, good}
+use Rattle.rules.proofs.Soundness.{sound-good}
+use Rattle.moves.specs.Room.{Dispatches}
+use Rattle.events.proofs.SoundLaws.{runner-there, dispatchable, did-by, kept-by}
 use Rattle.events.proofs.finish.Goals as goal
+use Rattle.events.proofs.finish.Goals.{After-set_place}
 
-pub returns-then-running-eq0 : goal.returns-then-running-eq0
-returns-then-running-eq0 c =
-    let v = c.requires in
-    let d = v.laid in
-    did-not Ruling.nobody_runs (omega arith) d (finish-5 _ (idle d c.if-running-eq0.true))
-
-pub depth-requires : goal.depth-requires
-depth-requires c =
-    let v = c.requires in
-    let d = v.laid in
-    let e = runner v c.if-running-eq0.false in
-    let g = runner-counted v c.if-running-eq0.false in
-    let whole = holdable d _ g in
-    record { t_lt_task_limit = whole.0; held = whole.1 }
-
-pub returns-then-depth-gt0 : goal.returns-then-depth-gt0
-returns-then-depth-gt0 c =
-    let v = c.requires in
-    let d = v.laid in
-    let e = runner v c.if-running-eq0.false in
-    let g = runner-counted v c.if-running-eq0.false in
-    let in-action = inside_is d _ _ g c.depth.ensures c.if-depth-gt0.true in
-    did-not Ruling.inside_action (omega arith) d (finish-7 _ _ e in-action)
+pub inside-requires : goal.inside-requires
+inside-requires c = runner-there _ c.requires _ (sym c.in-Some.ensures)
 
 pub set_place-requires : goal.set_place-requires
-set_place-requires c =
-    let v = c.requires in
-    let d = v.laid in
-    let e = runner v c.if-running-eq0.false in
-    let g = runner-counted v c.if-running-eq0.false in
-    let whole = readable d _ g in
-    record { t_lt_task_limit = whole.0; tasks = whole.1 }
+set_place-requires c = rw c.set_running.ensures (runner-there _ c.requires _ (sym c.in-Some.ensures))
+
+ended : (c : After-set_place) → c.set_place.new.self ≡ end c.args.memory.now c.in-Some.t
+unfolding stopped
+ended c = rw c.set_running.ensures at c.set_place.ensures
 
 pub conclude-requires : goal.conclude-requires
 conclude-requires c =
-    let v = c.requires in
-    let d = v.laid in
-    let e = runner v c.if-running-eq0.false in
-    let g = runner-counted v c.if-running-eq0.false in
-    let bare = outside-is d _ _ g c.depth.ensures c.if-depth-gt0.false in
-    let whole = dispatchable (away-law d _ Ended g (omega arith) c.set_place.ensures) (pending-end _ _ (good v) e bare) in
-    record { laid_out = whole.0; dispatches = whole.1 }
+    let m = c.args.memory.now in
+    subst Dispatches (sym (ended (goal.at.conclude-requires c).After-set_place))
+    (dispatchable _ (pending-end m _ (sound-good m c.requires) (sym c.in-Some.ensures) (sym c.inside.ensures ∙ c.if-inside.false)))
 
 pub returns : goal.returns
+unfolding apply delay_fits
 returns c =
-    let v = c.requires in
-    let d = v.laid in
-    let e = runner v c.if-running-eq0.false in
-    let g = runner-counted v c.if-running-eq0.false in
-    let bare = outside-is d _ _ g c.depth.ensures c.if-depth-gt0.false in
-    let x = away-law d _ Ended g (omega arith) c.set_place.ensures in
-    did _ x c.conclude.ensures (finish-0 _ _ e bare)
+    let m = c.args.memory.now in
+    let e = finish-0 m _ (sym c.in-Some.ensures) (sym c.inside.ensures ∙ c.if-inside.false) in
+    let d = did-by c.conclude.ensures c.in-Some.ensures (ended (goal.at.returns c).After-set_place) e in
+    record { did = d; kept = kept-by m Finish c.requires refl d }

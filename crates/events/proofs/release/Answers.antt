@@ -1,45 +1,42 @@
 -- `events::release` meets its contract.
-use mathlib.Core.Path.{◌∙◌, sym}
-use native.Mathlib.Omega.{arith}
-use Rattle.memory.specs.Rulings as Ruling
-use Rattle.rules.proofs.EventLaws.{release-1, release-0}
+use Rattle.std.proofs.Common.{◌≡◌, false, length, refl, sym, ◌∙◌, subst, arith}
+use borrow.Author.Tests.{lt-leb}
+use Rattle.rules.specs.Events.{apply, no_task}
+use Rattle.rules.specs.Histories.{delay_fits}
+use Rattle.rules.specs.declared.Event.TheVariants.{Release}
+use Rattle.rules.proofs.EventLaws.{release-0}
 use Rattle.rules.proofs.Pending.{pending-release}
-use Rattle.moves.proofs.EventLaws.{did-not, did, did-quiet, quiet-release}
+use Rattle.rules.proofs.Soundness.{sound-good}
+use Rattle.moves.specs.Room.{Dispatches}
 use Rattle.moves.proofs.RoomLaws.{release-needs}
-use Rattle.events.proofs.ValidLaws.{dispatchable, there, good, known-task, unknown-task}
+use Rattle.moves.proofs.EventLaws.{quiet-release}
+use Rattle.events.proofs.SoundLaws.{dispatchable, did-by, did-still, kept-by}
 use Rattle.events.proofs.release.Goals as goal
-
-pub returns-then-head-t : goal.returns-then-head-t
-returns-then-head-t c =
-    let v = c.requires in
-    let d = v.laid in
-    did-not Ruling.no_such_task (omega arith) d (release-1 _ _ (unknown-task v _ c.if-head-t.true))
 
 pub release_from-requires : goal.release_from-requires
 release_from-requires c =
-    let v = c.requires in
-    let d = v.laid in
-    let l = there v _ c.if-head-t.false in
-    record {
-      laid_out = d;
-      releases = release-needs _ _ (good v).pending.core l;
-    }
+    let m = c.args.memory.now in
+    release-needs m _ (sound-good m c.requires).pending.core (omega arith)
 
 pub returns-then-not-release_from : goal.returns-then-not-release_from
+unfolding apply delay_fits
 returns-then-not-release_from c =
-    let v = c.requires in
-    let no = sym c.release_from.ensures.value ∙ c.if-not-release_from.true in
-    did-quiet c.release_from.ensures.means (quiet-release _ _ _ (good v) no)
-    (release-0 _ _ (known-task v _ c.if-head-t.false))
+    let m = c.args.memory.now in
+    let known : no_task m c.args.t ≡ false = lt-leb (length m.tasks) c.args.t (omega arith) in
+    let q = quiet-release m _ _ (sound-good m c.requires) (sym c.release_from.ensures.value ∙ c.if-not-release_from.true) in
+    let d = did-still q c.release_from.ensures.released (release-0 m c.args.t known) in
+    record { did = d; kept = kept-by m (Release c.args.t) c.requires refl d }
 
 pub conclude-requires : goal.conclude-requires
 conclude-requires c =
-    let v = c.requires in
-    let l = there v _ c.if-head-t.false in
-    let whole = dispatchable c.release_from.ensures.means (pending-release _ _ (good v).pending l) in
-    record { laid_out = whole.0; dispatches = whole.1 }
+    let m = c.args.memory.now in
+    subst Dispatches (sym c.release_from.ensures.released)
+    (dispatchable _ (pending-release m _ (sound-good m c.requires).pending (omega arith)))
 
 pub returns : goal.returns
+unfolding apply delay_fits
 returns c =
-    let v = c.requires in
-    did _ c.release_from.ensures.means c.conclude.ensures (release-0 _ _ (known-task v _ c.if-head-t.false))
+    let m = c.args.memory.now in
+    let known : no_task m c.args.t ≡ false = lt-leb (length m.tasks) c.args.t (omega arith) in
+    let d = did-by c.conclude.ensures c.running-before.ensures c.release_from.ensures.released (release-0 m c.args.t known) in
+    record { did = d; kept = kept-by m (Release c.args.t) c.requires refl d }

@@ -1,75 +1,41 @@
 -- `events::suspend` meets its contract.
-use mathlib.Core.Path.{◌∙◌, sym}
-use native.Mathlib.Omega.{arith}
-use Rattle.memory.specs.Rulings as Ruling
-use Rattle.rules.proofs.EventLaws.{suspend-5, suspend-7, suspend-0}
+use Rattle.std.proofs.Common.{refl, sym, ◌∙◌, subst}
+use Rattle.rules.specs.Events.{apply}
+use Rattle.rules.specs.Histories.{delay_fits}
+use Rattle.rules.specs.declared.Event.TheVariants.{Suspend}
+use Rattle.rules.proofs.EventLaws.{suspend-0}
 use Rattle.rules.proofs.Pending.{pending-rest}
-use Rattle.moves.proofs.EffectLaws.{holdable, inside_is, outside-is}
-use Rattle.moves.proofs.EventLaws.{did-not, did, did-quiet, quiet-rest}
-use Rattle.memory.proofs.MemoryLaws.{idle}
-use Rattle.events.proofs.ValidLaws.{dispatchable, runner, runner-counted, good}
+use Rattle.rules.proofs.Soundness.{sound-good}
+use Rattle.moves.specs.Room.{Dispatches}
+use Rattle.moves.proofs.EventLaws.{quiet-rest}
+use Rattle.events.proofs.SoundLaws.{runner-there, dispatchable, did-by, did-still, kept-by}
 use Rattle.events.proofs.suspend.Goals as goal
 
-pub returns-then-running-eq0 : goal.returns-then-running-eq0
-returns-then-running-eq0 c =
-    let v = c.requires in
-    let d = v.laid in
-    did-not Ruling.nobody_runs (omega arith) d (suspend-5 _ (idle d c.if-running-eq0.true))
-
-pub depth-requires : goal.depth-requires
-depth-requires c =
-    let v = c.requires in
-    let d = v.laid in
-    let e = runner v c.if-running-eq0.false in
-    let g = runner-counted v c.if-running-eq0.false in
-    let whole = holdable d _ g in
-    record { t_lt_task_limit = whole.0; held = whole.1 }
-
-pub returns-then-depth-gt0 : goal.returns-then-depth-gt0
-returns-then-depth-gt0 c =
-    let v = c.requires in
-    let d = v.laid in
-    let e = runner v c.if-running-eq0.false in
-    let g = runner-counted v c.if-running-eq0.false in
-    let in-action = inside_is d _ _ g c.depth.ensures c.if-depth-gt0.true in
-    did-not Ruling.inside_action (omega arith) d (suspend-7 _ _ e in-action)
+pub inside-requires : goal.inside-requires
+inside-requires c = runner-there _ c.requires _ (sym c.in-Some.ensures)
 
 pub rest-requires : goal.rest-requires
-rest-requires c =
-    let v = c.requires in
-    let d = v.laid in
-    let e = runner v c.if-running-eq0.false in
-    let g = runner-counted v c.if-running-eq0.false in
-    record {
-      laid_out = d;
-      t_bound = g;
-    }
+rest-requires c = runner-there _ c.requires _ (sym c.in-Some.ensures)
 
 pub returns-then-rest : goal.returns-then-rest
+unfolding apply delay_fits
 returns-then-rest c =
-    let v = c.requires in
-    let d = v.laid in
-    let e = runner v c.if-running-eq0.false in
-    let g = runner-counted v c.if-running-eq0.false in
-    let bare = outside-is d _ _ g c.depth.ensures c.if-depth-gt0.false in
-    let on = sym c.rest.ensures.value ∙ c.if-rest.true in
-    did-quiet c.rest.ensures.means (quiet-rest _ _ (good v) on) (suspend-0 _ _ e bare)
+    let m = c.args.memory.now in
+    let e = suspend-0 m _ (sym c.in-Some.ensures) (sym c.inside.ensures ∙ c.if-inside.false) in
+    let q = quiet-rest m _ (sound-good m c.requires) (sym c.rest.ensures.value ∙ c.if-rest.true) in
+    let d = did-still q c.rest.ensures.rests e in
+    record { did = d; kept = kept-by m Suspend c.requires refl d }
 
 pub conclude-requires : goal.conclude-requires
 conclude-requires c =
-    let v = c.requires in
-    let d = v.laid in
-    let e = runner v c.if-running-eq0.false in
-    let g = runner-counted v c.if-running-eq0.false in
-    let bare = outside-is d _ _ g c.depth.ensures c.if-depth-gt0.false in
-    let whole = dispatchable c.rest.ensures.means (pending-rest _ _ (good v) e bare) in
-    record { laid_out = whole.0; dispatches = whole.1 }
+    let m = c.args.memory.now in
+    subst Dispatches (sym c.rest.ensures.rests)
+    (dispatchable _ (pending-rest m _ (sound-good m c.requires) (sym c.in-Some.ensures) (sym c.inside.ensures ∙ c.if-inside.false)))
 
 pub returns : goal.returns
+unfolding apply delay_fits
 returns c =
-    let v = c.requires in
-    let d = v.laid in
-    let e = runner v c.if-running-eq0.false in
-    let g = runner-counted v c.if-running-eq0.false in
-    let bare = outside-is d _ _ g c.depth.ensures c.if-depth-gt0.false in
-    did _ c.rest.ensures.means c.conclude.ensures (suspend-0 _ _ e bare)
+    let m = c.args.memory.now in
+    let e = suspend-0 m _ (sym c.in-Some.ensures) (sym c.inside.ensures ∙ c.if-inside.false) in
+    let d = did-by c.conclude.ensures c.in-Some.ensures c.rest.ensures.rests e in
+    record { did = d; kept = kept-by m Suspend c.requires refl d }

@@ -1,22 +1,15 @@
 -- `exports::dispatch_script_start` meets its contract.
-use native.Mathlib.Omega.{arith}
-use Rattle.format.proofs.AnswerLaws.{answered, answered-form, answered-task}
-use Rattle.format.proofs.FormedLaws.{tasks-few}
+use mathlib.Core.Path.{ap, sym, ◌∙◌}
+use Prim.Native.Nat.{ℕ}
+use Rattle.format.specs.Format.{start_at}
 use Rattle.packed.proofs.StartLaws.{start-found, start_none}
 use Rattle.exports.proofs.dispatch_script_start.Goals as goal
 
-pub overflow_cast-t : goal.overflow_cast-t
-overflow_cast-t c =
+pub returns-in-Ok : goal.returns-in-Ok
+returns-in-Ok c =
     let s = c.args.roster.now in
-    let t = c.args.t in
-    let ok = answered s t _ _ c.script_answer.ensures c.passed.ensures c.if-passed.true in
-    omega (arith, answered-task s t ok, tasks-few s (answered-form s t ok))
+    let listed = c.in-Ok.ensures.value in
+    c.start_at.ensures ∙ (ap (λ (t : ℕ). start_at s t) listed.0 ∙ sym (start-found s c.args.t listed.1))
 
-pub returns-then-passed : goal.returns-then-passed
-returns-then-passed c =
-    start-found c.args.roster.now _ _ _ c.script_answer.ensures c.passed.ensures _ c.if-passed.true
-    c.start_at.ensures
-
-pub returns : goal.returns
-returns c =
-    start_none c.args.roster.now _ _ _ c.script_answer.ensures c.passed.ensures c.if-passed.false
+pub returns-in-Err : goal.returns-in-Err
+returns-in-Err c = sym (start_none c.args.roster.now c.args.t _ c.in-Err.ensures.value)

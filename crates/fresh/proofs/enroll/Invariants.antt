@@ -1,19 +1,10 @@
 -- What the loops of `fresh::enroll` keep.
-use mathlib.Core.Path.{◌≡◌}
-use mathlib.Core.List.{map}
-use Prim.Native.Nat.{◌-◌, ◌≤◌}
-use lib.ListN.{length}
-use Rattle.fresh.specs.Slices.{newcomer}
-use Rattle.memory.specs.Tasks.{tasks_in, Tasks}
-use Rattle.words.proofs.CopyLaws.{over}
+use Rattle.std.proofs.Common.{◌≡◌, [], take}
+use Rattle.rules.specs.Fresh.{unstarted}
 use Rattle.fresh.proofs.enroll.Given as goal
 
-abbrev pub invariant-loop-t : goal.invariant-loop-t
-invariant-loop-t l =
-    (l.t ≤ length l.bases) ×
-    (tasks_in l.tasks ≡ over (tasks_in l.initial.tasks) (map newcomer l.bases) l.t) ×
-    Tasks l.tasks ×
-    (length l.tasks ≡ length l.initial.tasks)
+abbrev pub invariant-loop-ceiling : goal.invariant-loop-ceiling
+invariant-loop-ceiling l = l.memory ≡ unstarted (record { bases = []; ceilings = take l.ceiling-index l.ceilings })
 
-abbrev pub decreases-loop-t : goal.decreases-loop-t
-decreases-loop-t l = length l.bases - l.t
+abbrev pub invariant-loop-base : goal.invariant-loop-base
+invariant-loop-base l = l.memory ≡ unstarted (record { bases = take l.base-index l.bases; ceilings = l.fn.ceilings })

@@ -1,32 +1,23 @@
 -- `moves::become_ready` meets its contract.
-use native.Mathlib.Omega.{arith}
-use Rattle.moves.proofs.MoveLaws.{counted, writable, open-queue, base-level, ready-law}
+use Rattle.std.proofs.Common.{◌≡◌, ℕ, [], ◌∷◌, ◌++◌, ap, sym, ◌∙◌, arith, rules}
+use Rattle.rules.specs.Model.{with_place, task_at, with_task, queue, with_queue}
+use Rattle.rules.specs.Moves.{become_ready}
+use Rattle.rules.specs.declared.Place.TheVariants.{Ready}
+use Rattle.moves.proofs.MoveLaws.{arrives-level}
 use Rattle.moves.proofs.become_ready.Goals as goal
-
-pub base-p-requires : goal.base-p-requires
-base-p-requires c =
-    let whole = writable c.requires.laid_out c.requires.arrives.joins.there in
-    record { t_lt_task_limit = whole.0; tasks = whole.1 }
-
-pub overflow_cast-t : goal.overflow_cast-t
-overflow_cast-t c =
-    omega (arith, (writable c.requires.laid_out c.requires.arrives.joins.there).0)
 
 pub push_tail-requires : goal.push_tail-requires
 push_tail-requires c =
-    let d = c.requires.laid_out in
-    let a = c.requires.arrives in
-    let whole = open-queue d _ a.joins (base-level d _ _ (counted d a.joins.there) a.bare c.base-p.ensures) in
-    record { has_queue = whole.0; queues = whole.1.0; marked = whole.1.1.0; p_len_bound = whole.1.1.1 }
-
-pub set_place-requires : goal.set_place-requires
-set_place-requires c =
-    let whole = writable c.requires.laid_out c.requires.arrives.joins.there in
-    record { t_lt_task_limit = whole.0; tasks = whole.1 }
+    let a = c.requires.joins in
+    let e = c.base-p.ensures ∙ sym (arrives-level c.args.memory.now c.args.t c.requires) in
+    record { level = record { low = omega (arith, a.level.low); high = omega (arith, a.level.high) }; room = rw e a.room }
 
 pub returns : goal.returns
+unfolding become_ready
 returns c =
-    let d = c.requires.laid_out in
-    let a = c.requires.arrives in
-    let level = base-level d _ _ (counted d a.joins.there) a.bare c.base-p.ensures in
-    ready-law d _ _ a.joins.there level c.push_tail.ensures c.set_place.ensures
+    let m = c.args.memory.now in
+    let t = c.args.t in
+    let e = c.base-p.ensures ∙ sym (arrives-level m t c.requires) in
+    let ready = λ (p : ℕ). with_task (with_queue m p (queue m p ++ (t ∷ []))) t (with_place (task_at m t) Ready) in
+    let done : c.set_place.new.self ≡ ready c.base-p.result.0 = search rules in
+    done ∙ ap ready e

@@ -1,28 +1,22 @@
 -- `moves::dispatch` meets its contract.
-use native.Mathlib.Omega.{arith}
-use Rattle.rules.specs.Model.{Model}
-use Rattle.rules.specs.Moves.{start}
-use Rattle.memory.proofs.MemoryLaws.{as-laid, means-by, then-means}
+use Rattle.std.proofs.Common.{◌<◌, ◌≤◌, ◌∙◌, arith}
+use Rattle.std.proofs.lemmas.Bool.Decides.{nat_tests}
 use Rattle.moves.proofs.MoveLaws.{highest-starts, vacated-starts, stays, changes}
 use Rattle.moves.proofs.dispatch.Goals as goal
 
-pub returns-then-p-a : goal.returns-then-p-a
-returns-then-p-a c =
-    means-by (as-laid c.requires.laid_out)
-    (stays _ _ c.highest-p.ensures (omega (arith, c.level-a.ensures, c.if-p-a.true)))
-
 pub start-requires : goal.start-requires
 start-requires c =
-    let starts = highest-starts _ _ c.requires.dispatches c.highest-p.ensures (λ e. omega (arith, c.if-p-a.false)) in
-    let x = c.vacate.ensures in
-    let s = vacated-starts _ _ c.requires.dispatches starts (omega (arith, c.level-a.ensures, c.if-p-a.false)) in
-    record {
-      laid_out = x.laid;
-      starts = rw x.same s;
-    }
+    let m = c.args.memory.now in
+    let up : c.level-a.result.0 < c.highest-p.result.0 = grind (arith, nat_tests) in
+    rw c.vacate.ensures
+    (vacated-starts m _ c.requires (highest-starts m _ c.requires c.highest-p.ensures (λ e. omega (arith, e))) (omega arith))
 
-pub returns : goal.returns
-returns c =
-    let p = c.highest-p.result.0 in
-    let x = then-means (λ (m : Model). start m p) c.vacate.ensures c.start.ensures in
-    means-by x (changes _ _ c.highest-p.ensures (omega (arith, c.level-a.ensures, c.if-p-a.false)))
+pub returns-then-gt : goal.returns-then-gt
+returns-then-gt c =
+    let up : c.level-a.result.0 < c.highest-p.result.0 = grind (arith, nat_tests) in
+    rw c.vacate.ensures at c.start.ensures ∙ changes _ _ c.highest-p.ensures (omega arith)
+
+pub returns-else-gt : goal.returns-else-gt
+returns-else-gt c =
+    let low : c.highest-p.result.0 ≤ c.level-a.result.0 = grind (arith, nat_tests) in
+    stays _ _ c.highest-p.ensures (omega arith)

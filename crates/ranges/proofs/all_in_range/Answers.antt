@@ -1,29 +1,16 @@
 -- `ranges::all_in_range` meets its contract.
-use mathlib.Core.Path.{refl, ◌∙◌, sym}
+use Rattle.std.proofs.Common.{◌&&◌, ◌∙◌, refl, rules, tests}
+use Rattle.std.specs.List.{list_all}
+use Rattle.std.proofs.lemmas.Iterator.{YieldsList-from_slice}
+use Rattle.std.proofs.lemmas.Iterator.Search.{all_from_yields_List}
+use Rattle.std.proofs.lemmas.List.Recursion.{same_from_clauses}
 use Rattle.rules.specs.Priorities.{in_range}
-use native.Mathlib.Omega.{arith}
-use borrow.Author.Rules.{rules}
-use Rattle.rules.proofs.AllLaws.{all_more, all-fails, all_end}
+use Rattle.rules.specs.Lists.{all_of}
 use Rattle.ranges.proofs.all_in_range.Goals as goal
 
-pub loop-i-init : goal.loop-i-init
-loop-i-init c = (search rules, refl)
-
-pub loop-i-preserved : goal.loop-i-preserved
-loop-i-preserved c =
-    let l = c.loop-i in
-    let values = c.args.values.now in
-    let good = sym c.in_range.ensures ∙ c.if-in_range.true in
-    (search rules, all_more in_range values l.i l.invariant.1 (omega arith) good)
-
-pub returns-else-in_range : goal.returns-else-in_range
-returns-else-in_range c =
-    let l = c.loop-i in
-    let values = c.args.values.now in
-    let bad = sym c.in_range.ensures ∙ c.if-in_range.false in
-    sym (all-fails in_range values l.i l.invariant.1 (omega arith) bad)
-
 pub returns : goal.returns
+unfolding all_of
 returns c =
-    let l = c.loop-i in
-    sym (all_end in_range c.args.values.now l.i l.invariant.1 (omega arith))
+    let values = c.args.values.now in
+    all_from_yields_List in_range _ _ _ c.all.ensures.ran (YieldsList-from_slice values cc) (λ x b q k. search (rules, tests)) ∙
+    same_from_clauses (list_all in_range) (all_of in_range) (λ x b. in_range x && b) refl (λ _ _. refl) (λ _ _. refl) values

@@ -1,11 +1,13 @@
 -- `soundness::highest_runs` meets its contract.
-use Rattle.soundness.proofs.ClauseLaws.{idle-top, busy-top}
+use Rattle.std.proofs.Common.{◌∙◌, sym, arith}
+use Rattle.std.proofs.lemmas.Bool.Decides.{nat_tests}
+use Rattle.rules.specs.Sound.{highest_runs}
 use Rattle.soundness.proofs.highest_runs.Goals as goal
 
-pub returns-then-running-eq0 : goal.returns-then-running-eq0
-returns-then-running-eq0 c =
-    idle-top _ _ _ c.if-running-eq0.true c.highest-p.ensures
+pub returns-in-None : goal.returns-in-None
+unfolding highest_runs
+returns-in-None c = rw (sym c.running.ensures ∙ c.in-None.is) (grind (arith, nat_tests))
 
-pub returns : goal.returns
-returns c =
-    busy-top _ _ _ _ c.if-running-eq0.false c.highest-p.ensures c.active_of-a.ensures
+pub returns-in-Some : goal.returns-in-Some
+unfolding highest_runs
+returns-in-Some c = rw (sym c.running.ensures ∙ c.in-Some.is) (grind (arith, nat_tests))

@@ -1,87 +1,50 @@
 -- `soundness::queue_good` meets its contract.
-use mathlib.Core.Path.{refl, ◌∙◌, sym}
-use native.Mathlib.Omega.{arith}
-use borrow.Author.Rules.{rules}
-use borrow.Author.Tests.{eq-eqb, ne_eqb}
-use lib.ListN.{length-set}
-use Rattle.rules.specs.Limits.{last_priority}
-use Rattle.rules.proofs.Choices.{clash}
-use Rattle.memory.specs.Rows.{queue_width}
-use Rattle.memory.proofs.GridLaws.{queue-length, queue-size, queue-item, list_count}
+use Rattle.std.proofs.Common.{◌≡◌, false, refl, ◌∙◌, sym, get_or, arith, eqb}
+use borrow.Author.Tests.{eq-eqb}
+use Rattle.std.proofs.lemmas.Bool.Decides.{nat_tests}
+use Rattle.rules.specs.Model.{active}
 use Rattle.rules.proofs.AllLaws.{all_more, all-fails, all_end}
 use Rattle.soundness.specs.Tested.{queue_sound}
-use Rattle.soundness.proofs.CountLaws.{counted-begun, counted-more, counted-done, counted-few}
-use Rattle.soundness.proofs.ClauseLaws.{active-few}
+use Rattle.soundness.proofs.CountLaws.{counted-begun, counted-more, counted-done}
+use Rattle.soundness.proofs.ClauseLaws.{queued_few}
 use Rattle.soundness.proofs.queue_good.Goals as goal
 
-pub loop-i-init : goal.loop-i-init
-loop-i-init c =
-    let d = c.requires.laid_out in
-    let q = c.requires.has_queue in
-    let size = queue-size q d.queues in
-    let count = list_count queue_width last_priority c.args.queues.now in
-    let begun = counted-begun c.args.p.0 _ (omega arith) (omega (arith, count)) c.requires.counted in
-    (search rules, refl, size, omega (arith, size, queue-length q d.queues), begun, refl)
+pub loop-t-init : goal.loop-t-init
+loop-t-init c =
+    record { value = refl; counted = counted-begun _ _ _ _ c.requires.level.low c.queue-queue.ensures.value c.requires.counted }
 
-pub active_of-a-requires : goal.active_of-a-requires
-active_of-a-requires c =
-    c.requires.laid_out
-
-pub returns-then-a-p : goal.returns-then-a-p
+pub returns-then-ne-clause-value : goal.returns-then-ne-clause-value
 unfolding queue_sound
-returns-then-a-p c =
-    let l = c.loop-i in
-    let d = c.requires.laid_out in
-    let item = queue-item c.requires.has_queue d.queues l.i (omega arith) in
-    let own = rw item at c.active_of-a.ensures in
-    let other = ne_eqb _ _ (λ e. c.if-a-p.true (own ∙ e)) in
-    record {
-      value = sym (all-fails _ _ l.i l.invariant.1 (omega arith) other);
-      counted_2 = λ e. clash (sym e);
-    }
-
-pub offset_bounds-counts-t : goal.offset_bounds-counts-t
-offset_bounds-counts-t c =
-    let listed = active-few c.requires.laid_out _ _ _ (omega arith) c.active_of-a.ensures c.if-a-p.false in
-    omega (arith, listed)
+returns-then-ne-clause-value c =
+    let other : eqb (active c.args.memory.now (get_or c.queue-queue.result.now c.loop-t.t-index 0)) c.args.p.0 ≡ false =
+    grind (arith, nat_tests) in
+    sym (rw (← c.queue-queue.ensures.value) (all-fails _ _ _ c.loop-t.invariant.value c.loop-t-test.true other))
 
 pub bounds-counts-t : goal.bounds-counts-t
 bounds-counts-t c =
-    let listed = active-few c.requires.laid_out _ _ _ (omega arith) c.active_of-a.ensures c.if-a-p.false in
-    omega (arith, listed, c.loop-i.invariant.4.size)
+    let own : c.active.result.0 ≡ c.args.p.0 = grind (arith, nat_tests) in
+    queued_few c.args.memory.now c.requires.sizes _ _ c.requires.level.low (sym c.active.ensures ∙ own)
 
-pub overflow_add-counts : goal.overflow_add-counts
-overflow_add-counts c =
-    let listed = active-few c.requires.laid_out _ _ _ (omega arith) c.active_of-a.ensures c.if-a-p.false in
-    omega (arith, counted-few _ listed c.requires.laid_out.queues c.loop-i.invariant.4)
+pub bounds-counts-t-in-loop-t : goal.bounds-counts-t-in-loop-t
+bounds-counts-t-in-loop-t c =
+    let own : c.active.result.0 ≡ c.args.p.0 = grind (arith, nat_tests) in
+    queued_few c.args.memory.now c.requires.sizes _ _ c.requires.level.low (sym c.active.ensures ∙ own)
 
-pub bounds-counts-t-in-loop-i : goal.bounds-counts-t-in-loop-i
-bounds-counts-t-in-loop-i c =
-    let listed = active-few c.requires.laid_out _ _ _ (omega arith) c.active_of-a.ensures c.if-a-p.false in
-    omega (arith, listed, c.loop-i.invariant.4.size)
-
-pub loop-i-preserved : goal.loop-i-preserved
-loop-i-preserved c =
-    let l = c.loop-i in
-    let d = c.requires.laid_out in
-    let listed = active-few c.requires.laid_out _ _ _ (omega arith) c.active_of-a.ensures c.if-a-p.false in
-    let item = queue-item c.requires.has_queue d.queues l.i (omega arith) in
-    let own = rw item at c.active_of-a.ensures in
-    let same = eq-eqb _ _ (sym own ∙ c.if-a-p.false) in
-    let more = counted-more _ _ l.i l.invariant.4 _ (omega arith) item listed in (
-      search rules,
-      all_more _ _ l.i l.invariant.1 (omega arith) same,
-      l.invariant.2,
-      l.invariant.3,
-      more,
-      simp length-set l.invariant.5,
-    )
-
-pub returns : goal.returns
-unfolding queue_sound
-returns c =
-    let l = c.loop-i in
+pub loop-t-preserved : goal.loop-t-preserved
+loop-t-preserved c =
+    let own : c.active.result.0 ≡ c.args.p.0 = grind (arith, nat_tests) in
+    let here = sym c.active.ensures ∙ own in
+    let few = queued_few c.args.memory.now c.requires.sizes _ _ c.requires.level.low here in
     record {
-      value = sym (all_end _ _ l.i l.invariant.1 (omega arith));
-      counted_2 = λ e. counted-done _ _ l.i l.invariant.4 (omega arith);
+      value = all_more _ _ _ c.loop-t.invariant.value c.loop-t-test.true (eq-eqb _ _ here);
+      counted = counted-more _ _ _ _ c.loop-t.invariant.counted _ c.loop-t-test.true refl few;
     }
+
+pub returns-clause-value : goal.returns-clause-value
+unfolding queue_sound
+returns-clause-value c =
+    sym (rw (← c.queue-queue.ensures.value) (all_end _ _ _ c.loop-t.invariant.value c.loop-t-test.false))
+
+pub returns-clause-counted : goal.returns-clause-counted
+returns-clause-counted c = λ e.
+    counted-done _ _ _ _ c.loop-t.invariant.counted _ c.loop-t-test.false (omega (arith, c.queue-queue.ensures.fits))

@@ -1,19 +1,9 @@
--- What the loops of `soundness::rises` keep.
-use mathlib.Core.Path.{◌≡◌}
-use Prim.Native.Nat.{◌-◌, ◌≤◌}
-use lib.ListN.{length, take, drop}
-use Rattle.rules.specs.Limits.{object_limit}
+-- What the loop of `soundness::rises` keeps.
+use Rattle.std.proofs.Common.{◌≡◌, map, drop}
+use Rattle.rules.specs.Priorities.{level}
 use Rattle.rules.specs.Sound.{rising}
-use Rattle.memory.specs.Rows.{held_by}
 use Rattle.soundness.proofs.rises.Given as goal
 
-abbrev pub invariant-loop-i : goal.invariant-loop-i
-invariant-loop-i l =
-    (l.i ≤ l.size) ×
-    (rising (take l.n l.ceilings) l.initial.low.0 (held_by l.held l.t) ≡ rising (take l.n l.ceilings) l.low.0
-    (drop l.i (held_by l.held l.t))) ×
-    (l.size ≡ length (held_by l.held l.t)) ×
-    (l.size ≤ object_limit)
-
-abbrev pub decreases-loop-i : goal.decreases-loop-i
-decreases-loop-i l = l.size - l.i
+abbrev pub invariant-loop-o : goal.invariant-loop-o
+invariant-loop-o l =
+    rising (map level l.ceilings) l.fn.p.0 l.held ≡ rising (map level l.ceilings) l.low.0 (drop l.o-index l.held)

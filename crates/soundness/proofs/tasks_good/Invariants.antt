@@ -1,15 +1,8 @@
--- What the loops of `soundness::tasks_good` keep.
-use mathlib.Core.Path.{◌≡◌}
-use mathlib.Core.Bool.{true}
-use Prim.Native.Nat.{◌-◌, ◌≤◌}
+-- What the loop of `soundness::tasks_good` keeps.
+use Rattle.std.proofs.Common.{◌≡◌, true}
 use Rattle.rules.specs.Lists.{below}
-use Rattle.memory.specs.Memory.{model_of}
 use Rattle.soundness.specs.Tested.{task_sound}
 use Rattle.soundness.proofs.tasks_good.Given as goal
 
 abbrev pub invariant-loop-t : goal.invariant-loop-t
-invariant-loop-t l =
-    (l.t ≤ l.n) × (below l.t (task_sound (model_of l.head l.tasks l.held l.ceilings l.queues)) ≡ true)
-
-abbrev pub decreases-loop-t : goal.decreases-loop-t
-decreases-loop-t l = l.n - l.t
+invariant-loop-t l = below l.t (task_sound l.memory) ≡ true

@@ -1,8 +1,6 @@
 -- `words::number_in` meets its contract.
-use native.Mathlib.Omega.{arith}
-use Rattle.words.specs.Words.{number_at}
+use Rattle.words.proofs.NumberLaws.{number-of}
 use Rattle.words.proofs.number_in.Goals as goal
 
 pub returns : goal.returns
-unfolding number_at
-returns c = omega arith
+returns c = number-of c.args.s.now c.args.i _ _ c.bytes_in.ensures c.from_le_bytes.ensures

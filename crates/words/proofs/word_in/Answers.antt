@@ -1,8 +1,6 @@
 -- `words::word_in` meets its contract.
-use native.Mathlib.Omega.{arith}
-use Rattle.words.specs.Words.{word_at}
+use Rattle.words.proofs.NumberLaws.{word-of}
 use Rattle.words.proofs.word_in.Goals as goal
 
 pub returns : goal.returns
-unfolding word_at
-returns c = omega arith
+returns c = word-of c.args.s.now c.args.i _ _ c.bytes_in.ensures c.from_le_bytes.ensures

@@ -4,5 +4,5 @@ use Rattle.board.proofs.source.row_of.Goals as goal
 
 pub returns : goal.returns
 returns c =
-    row_made c.args.state c.args.t c.task-task.result c.kind_of-kind.result c.active-p.result c.position-at.result
-    c.requires c.task-task.ensures c.kind_of-kind.ensures c.active-p.ensures c.position-at.ensures
+    row_made c.args.state c.args.t c.task.result c.kind-kind.result c.active-priority.result c.position.result
+    c.requires.sound c.requires.there c.task.ensures c.kind-kind.ensures c.active-priority.ensures c.position.ensures

@@ -1,15 +1,13 @@
 -- `board::source::stands_at` meets its contract.
-use mathlib.Core.Path.{sym, ◌∙◌}
+use mathlib.Core.Path.{◌∙◌}
+use Rattle.std.proofs.Common.{arith}
+use Rattle.std.proofs.lemmas.Grind.{common_steps}
 use Rattle.dispatch.specs.Readers.{queue_of}
-use Rattle.board.proofs.SourceLaws.{entry-is, entry-some}
+use Rattle.board.proofs.SourceLaws.{entry-there}
 use Rattle.board.proofs.source.stands_at.Goals as goal
 
-pub returns-in-Number : goal.returns-in-Number
-returns-in-Number c =
+pub returns : goal.returns
+returns c =
     let a = c.args in
-    entry-is (queue_of a.state a.p) a.i a.t c.in-Number.u c.requires (sym c.queue_entry.ensures ∙ c.in-Number.is)
-
-pub returns-in-Nothing : goal.returns-in-Nothing
-returns-in-Nothing c =
-    let a = c.args in
-    entry-some (queue_of a.state a.p) a.i c.requires (sym c.queue_entry.ensures ∙ c.in-Nothing.is)
+    let there = c.queue_entry.ensures ∙ entry-there (queue_of a.state a.p) a.i c.requires in
+    grind (arith, common_steps)

@@ -1,5 +1,5 @@
 -- `dispatch::State::running` meets its contract.
-use mathlib.Core.Path.{refl}
+use Rattle.std.proofs.Common.{refl}
 use Rattle.dispatch.specs.State.{view}
 use Rattle.dispatch.proofs.State.running.Goals as goal
 

@@ -1,18 +1,18 @@
 -- `dispatch::store::store` meets its contract.
-use mathlib.Core.Path.{refl}
-use Rattle.memory.proofs.MemoryLaws.{marked}
-use Rattle.memory.proofs.ReadyLaws.{word_fits}
-use Rattle.dispatch.proofs.EncodeLaws.{encode-back}
-use Rattle.dispatch.proofs.RunnerLaws.{code_fits}
+use Rattle.dispatch.specs.State.{encode}
 use Rattle.dispatch.proofs.store.store.Goals as goal
 
-pub runner-running-requires : goal.runner-running-requires
-runner-running-requires c = code_fits c.requires
-
-pub overflow_cast-result-3 : goal.overflow_cast-result-3
-overflow_cast-result-3 c = record { fits = word_fits (marked c.requires.laid) }
-
 pub returns : goal.returns
+unfolding encode
 returns c =
-    let running = c.runner-running.ensures in
-    encode-back c.requires.laid _ _ _ _ refl refl refl refl _ running _ c.stored_tasks-records.ensures _ c.stored_ceilings-levels.ensures
+    rw (
+      c.now.ensures,
+      c.running.ensures,
+      c.task_count-task_count.ensures.value,
+      c.object_count-object_count.ensures.value,
+      c.marks-marks.ensures.value,
+      c.tasks.ensures,
+      c.store_held.ensures,
+      c.ceilings.ensures,
+      c.store_queues.ensures,
+    )

@@ -1,28 +1,15 @@
 -- `roster::forms::task_rows_good` meets its contract.
-use native.Mathlib.Omega.{arith}
-use mathlib.Core.Path.{refl}
-use Rattle.rules.specs.Lists.{below}
+use mathlib.Core.Path.{refl, ◌∙◌}
+use Rattle.std.proofs.Common.{rules, arith}
+use Rattle.std.proofs.lemmas.Iterator.{YieldsList-from_range}
+use Rattle.std.proofs.lemmas.Iterator.Search.{all_from_yields_List}
 use Rattle.format.specs.Form.{task_row_good}
-use Rattle.format.proofs.TestLaws.{turn-fails, turn_on, turns-end}
+use Rattle.format.proofs.TestLaws.{below-range}
 use Rattle.roster.proofs.forms.task_rows_good.Goals as goal
-
-pub loop-t-init : goal.loop-t-init
-unfolding below
-loop-t-init c = (omega arith, refl)
-
-pub returns-then-not-task_row_good : goal.returns-then-not-task_row_good
-returns-then-not-task_row_good c =
-    turn-fails (task_row_good c.args.s.now) _ _ _ _ c.task_count-n.ensures c.loop-t-test.true
-    c.task_row_good.ensures (c.if-not-task_row_good.true)
-
-pub loop-t-preserved : goal.loop-t-preserved
-loop-t-preserved c = (
-  omega arith,
-  turn_on (task_row_good c.args.s.now) _ _ c.loop-t.invariant.1
-      c.task_row_good.ensures (c.if-not-task_row_good.false),
-)
 
 pub returns : goal.returns
 returns c =
-    turns-end (task_row_good c.args.s.now) _ _ _ c.task_count-n.ensures c.loop-t.invariant.0 c.loop-t-test.false
-    c.loop-t.invariant.1
+    let good = task_row_good c.args.s.now in
+    all_from_yields_List good _ _ c.all.result c.all.ensures.ran (YieldsList-from_range 0 c.task_count.result _ refl (omega arith))
+    (λ x b q k. search rules) ∙
+    below-range good _ _ c.task_count.ensures

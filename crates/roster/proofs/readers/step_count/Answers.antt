@@ -1,34 +1,8 @@
 -- `roster::readers::step_count` meets its contract.
-use native.Mathlib.Omega.{arith}
-use mathlib.Core.Path.{refl}
-use Rattle.format.proofs.FormedLaws.{tasks-few, part-inside, row_inside}
-use Rattle.format.proofs.AnswerLaws.{answered-form, answered-task, answered}
-use Rattle.format.proofs.ReaderLaws.{count-found, count-refused}
+use Rattle.format.proofs.ReaderLaws.{part-few}
 use Rattle.roster.proofs.readers.step_count.Goals as goal
 
-pub overflow_cast-t : goal.overflow_cast-t
-overflow_cast-t c =
-    let s = c.args.roster.now in
-    let t = c.args.t in
-    let ok = answered s t _ _ c.script_answer-v.ensures c.passed.ensures c.if-passed.true in
-    omega (arith, answered-task s t ok, tasks-few s (answered-form s t ok))
-
-pub script_part-part-requires : goal.script_part-part-requires
-script_part-part-requires c =
-    let s = c.args.roster.now in
-    let t = c.args.t in
-    let ok = answered s t _ _ c.script_answer-v.ensures c.passed.ensures c.if-passed.true in
-    let form = answered-form s t ok in
-    record {
-      task_row_size_in_bounds = row_inside s form t (answered-task s t ok);
-      t_in_bounds = part-inside s form t (answered-task s t ok);
-    }
-
-pub returns-then-passed : goal.returns-then-passed
-returns-then-passed c =
-    count-found c.args.roster.now _ _ _ c.script_answer-v.ensures c.passed.ensures _ _ c.if-passed.true
-    c.script_part-part.ensures refl
-
-pub returns : goal.returns
-returns c =
-    count-refused c.args.roster.now _ _ _ c.script_answer-v.ensures c.passed.ensures c.if-passed.false
+pub returns-clause-fits : goal.returns-clause-fits
+returns-clause-fits c =
+    part-few c.args.roster.now c.args.t c.in_ok-listed_script.field-0.now c.in_ok-listed_script.ensures.1
+    c.in_ok-listed_script.ensures.0

@@ -1,39 +1,46 @@
 -- `run::pass::run` meets its contract.
-use native.Mathlib.Omega.{arith}
-use Rattle.trace.proofs.RunLaws.{run-roster, run-passes, run-events, run_short, run-done}
+use Rattle.std.proofs.Common.{arith, ap, refl, sym, ◌∙◌}
+use Rattle.std.proofs.lemmas.Result.{err_from_is_err_and}
+use Rattle.std.proofs.lemmas.List.Edits.{sets}
+use Rattle.trace.specs.Inputs.{inputs_of}
+use Rattle.trace.specs.Run.{replies_of}
+use Rattle.turns.specs.Run.{Run, replies}
+use Rattle.trace.proofs.RunLaws.{run-roster, run-events, run_short, run-done}
 use Rattle.run.proofs.pass.run.Goals as goal
 
-pub returns-then-not-passed : goal.returns-then-not-passed
-returns-then-not-passed c =
-    let whole = run-roster _ _ _ _ _ c.check-verdict.ensures c.passed.ensures (c.if-not-passed.true) in
-    record { value = whole.0; buffer_after = whole.1 }
+pub returns-in_err-check : goal.returns-in_err-check
+returns-in_err-check c =
+    let p = err_from_is_err_and c.from_residual.result c.from_residual.ensures.1 in
+    let whole = run-roster c.args.roster.now c.args.events.now c.args.buffer.now _ (sym c.in_err-check.ensures) in
+    rw (p.1, p.2) (record { value = whole.0; buffer_after = whole.1 })
 
 pub returns-then-not-events_good : goal.returns-then-not-events_good
 returns-then-not-events_good c =
-    let whole = run-events _ _ _ _ _ c.check-verdict.ensures c.passed.ensures (c.if-not-passed.false) _ c.events_good.ensures
-    (c.if-not-events_good.true) in
+    let a = c.args in
+    let passes = sym c.in_ok-check.ensures in
+    let whole = run-events a.roster.now a.events.now a.buffer.now passes (sym c.if-not-events_good.ensures) in
     record { value = whole.0; buffer_after = whole.1 }
 
 pub returns-then-buffer-events : goal.returns-then-buffer-events
 returns-then-buffer-events c =
     let a = c.args in
-    let whole = run_short a.roster.now a.events.now a.buffer.now _ _ c.check-verdict.ensures c.passed.ensures
-    (c.if-not-passed.false) _ c.events_good.ensures (c.if-not-events_good.false) (omega (arith, c.if-buffer-events.true)) in
+    let passes = sym c.in_ok-check.ensures in
+    let whole = run_short a.roster.now a.events.now a.buffer.now passes (sym c.if-not-events_good.ensures)
+    (omega (arith, c.if-buffer-events.true)) in
     record { value = whole.0; buffer_after = whole.1 }
 
-pub run_through-requires : goal.run_through-requires
-run_through-requires c =
-    let a = c.args in
-    record {
-      roster_value = run-passes a.roster.now a.events.now a.buffer.now _ _ c.check-verdict.ensures c.passed.ensures
-          (c.if-not-passed.false);
-      events_in_bounds = omega (arith, c.if-buffer-events.false);
-    }
+pub new-machine-requires : goal.new-machine-requires
+new-machine-requires c = record { passes = sym c.in_ok-check.ensures; blank = c.new-memory.ensures; starts = refl }
+
+pub pass-requires : goal.pass-requires
+pass-requires c = omega (arith, c.if-buffer-events.false)
 
 pub returns : goal.returns
+unfolding replies_of
 returns c =
     let a = c.args in
-    let whole = run-done a.roster.now a.events.now a.buffer.now _ _ c.check-verdict.ensures c.passed.ensures
-    (c.if-not-passed.false) _ _ c.events_good.ensures (c.if-not-events_good.false) (omega (arith, c.if-buffer-events.false))
-    c.run_through.ensures in
+    let passes = sym c.in_ok-check.ensures in
+    let whole = run-done a.roster.now a.events.now a.buffer.now passes _ (sym c.if-not-events_good.ensures)
+    (omega (arith, c.if-buffer-events.false))
+    (c.pass.ensures ∙ ap (λ (p : Run). sets a.buffer.now 0 (replies p (inputs_of a.events.now))) c.new-machine.ensures) in
     record { value = whole.0; buffer_after = whole.1 }

@@ -1,8 +1,0 @@
--- `encoding::WriteAnswer::wrote` meets its contract.
-use mathlib.Core.Path.{ap}
-use Prim.Native.Nat.{ℕ}
-use lib.Dec.{eqb}
-use Rattle.encoding.proofs.WriteAnswer.wrote.Goals as goal
-
-pub returns : goal.returns
-returns c = ap (λ (n : ℕ). eqb n 0) c.number.ensures

@@ -1,7 +1,0 @@
--- `exports::readers::dispatch_ceiling` meets its contract.
-use mathlib.Core.Path.{ap, ◌∙◌}
-use Rattle.packed.specs.Packed.{packed_priority}
-use Rattle.exports.proofs.readers.dispatch_ceiling.Goals as goal
-
-pub returns : goal.returns
-returns c = c.pack_priority.ensures ∙ ap packed_priority c.ceiling.ensures

@@ -1,0 +1,55 @@
+-- Laws of a run's start.
+use Rattle.std.proofs.Common.{◌≡◌, ℕ, ◌<◌, ◌≤◌, List, length, get_or, take, replicate, ap, sym, ◌∙◌, arith}
+use Rattle.std.proofs.lemmas.List.{take-replicate, length-replicate}
+use lib.Seq.{ext_get_or, get_or-take, length-take-le}
+use Rattle.std.specs.Fn.{Mut, Called}
+use Rattle.std.specs.Array.{IsFromFnResult}
+use Rattle.words.proofs.FromFn.{made_at}
+use Rattle.rules.specs.Limits.{task_limit}
+use Rattle.rules.specs.Model.{Model}
+use Rattle.rules.specs.Fresh.{fresh_model}
+use Rattle.rules.proofs.FreshLaws.{fresh-good, fresh-count}
+use Rattle.rules.proofs.Soundness.{good-sound}
+use Rattle.format.specs.Roster.{Roster, roster_of, setup_of}
+use Rattle.format.specs.Check.{Passes}
+use Rattle.format.proofs.FormatLaws.{base-count, script-count}
+use Rattle.format.proofs.FormedLaws.{tasks-few}
+use Rattle.format.proofs.PassedLaws.{passes-form, passes-starts}
+use Rattle.trace.specs.Config.{start_of}
+use Rattle.turns.specs.Run.{started}
+use Rattle.turns.specs.MachineView.{Going}
+
+-- the front of an array that a closure made of a list's elements is the list
+pub front-made : {F : Type 0} {g : Mut F (ℕ × Unit {0}) ℕ} {f : F} {ys : List ℕ} {size : ℕ} (l : List ℕ) (n : ℕ) →
+    IsFromFnResult g f ys size → ((x y : ℕ) (q : F) → Called g f (x, tt) y q → (q ≡ f) × (y ≡ get_or l x 0)) → length l ≡ n →
+    n ≤ size → take n ys ≡ l
+front-made {F} {g} {f} {ys} {size} l n made pure e h =
+    let long : length (take n ys) ≡ n = length-take-le n ys (omega (arith, made.long)) in
+    ext_get_or 0 (take n ys) l (long ∙ sym e)
+    (λ k a.
+    let low : k < n = omega arith in
+    get_or-take n ys k 0 low ∙ made_at (λ x. get_or l x 0) made pure k (omega arith))
+
+-- the roster s, its fresh model, and no position but 0
+module _ (s : List ℕ) (ok : Passes s) (r : Roster) (m : Model) (scripts : r ≡ roster_of s)
+    (fresh : m ≡ fresh_model (setup_of (roster_of s))) where
+  counts : length (roster_of s).bases ≡ length r.scripts
+  counts = rw scripts (base-count s ∙ sym (script-count s))
+
+  pub start-goes : Going r m (replicate task_limit 0)
+  start-goes =
+      let setup = setup_of (roster_of s) in
+      let starts = passes-starts s ok in
+      record {
+        sound = rw fresh (good-sound _ (fresh-good setup starts));
+        listed = ap (λ (y : Model). length y.tasks) fresh ∙ (fresh-count setup starts ∙ counts);
+        places = length-replicate {A = ℕ} task_limit 0;
+      }
+
+  pub start_is : record { roster = r; config = record { model = m; positions = take (length r.scripts) (replicate task_limit 0) } } ≡
+      started (roster_of s)
+  unfolding start_of
+  start_is =
+      let few : length r.scripts ≤ task_limit = omega (arith, tasks-few s (passes-form s ok), base-count s, counts) in
+      let places = take-replicate (length r.scripts) task_limit 0 few ∙ ap (λ (n : ℕ). replicate n 0) (sym counts) in
+      ap (λ (l : List ℕ). record { roster = r; config = record { model = m; positions = l } }) places ∙ rw (scripts, fresh)

@@ -1,0 +1,102 @@
+// A run between two events, and one event of it.
+ghost use Rattle.std.specs.Prelude.{◌≡◌, [], replicate};
+ghost use Rattle.rules.specs.Limits.{task_limit};
+ghost use Rattle.rules.specs.Fresh.{unstarted};
+ghost use Rattle.format.specs.Roster.{roster_of};
+ghost use Rattle.format.specs.Check.{Passes};
+ghost use Rattle.turns.specs.Run.{started, Happened};
+ghost use Rattle.trace.specs.declared.Input.TheVariants.{Step as Stepped};
+
+use crate::scripts::Scripts;
+use crate::steps::{perform, position_after, set_base};
+use fields::{base_of, ceiling_of, object_count, task_count};
+use fresh::fresh;
+use memory::Memory;
+use memory::rulings::Ruling;
+use rules::Roster;
+use std::array;
+use std::marker::Model;
+use trace::Input;
+
+// A contract sees the roster and the configuration that its events have come to.
+#[derive(Drop)]
+pub struct Machine<'a> {
+    scripts: Scripts<'a>,
+    memory: &'a mut Memory,
+    positions: &'a mut [u16; Roster::TASKS],
+}
+
+impl<'a> Model for Machine<'a> {
+    ghost use Rattle.turns.specs.Run.{Run};
+
+    ghost Value = { Run };
+
+    ghost use Rattle.turns.specs.MachineView.{run_in, Runs};
+
+    ghost view = { run_in };
+
+    ghost invariant = { Runs };
+}
+
+impl<'a> Machine<'a> {
+    // A fresh start, with every script at its start. The memory and the positions are lent, since what is handed back is copied.
+    pub fn new(
+        roster: &'a [u8],
+        memory: &'a mut Memory,
+        positions: &'a mut [u16; Roster::TASKS],
+    ) -> Self
+        requires passes { Passes roster.now }
+        requires blank { memory.old ≡ unstarted (record { bases = []; ceilings = [] }) }
+        requires starts { positions.old ≡ replicate task_limit 0 }
+        ensures { result ≡ started (roster_of roster.now) }
+    {
+        let bases: [u8; Roster::TASKS] = array::from_fn(|t| base_of(roster, t as u8).0);
+        let ceilings: [u8; Roster::OBJECTS] = array::from_fn(|o| ceiling_of(roster, o as u8).0);
+        let tasks = task_count(roster) as usize;
+        let objects = object_count(roster) as usize;
+        fresh(memory, &bases[..tasks], &ceilings[..objects]);
+        Machine {
+            scripts: Scripts::new(roster),
+            memory,
+            positions,
+        }
+    }
+
+    pub fn running(&self) -> Option<u8>
+        ensures { result ≡ self.entry.now.config.model.running }
+    {
+        self.memory.running()
+    }
+
+    // The running task takes its next step. Its position moves on before, so that nothing is kept meanwhile, and back where it is refused.
+    #[tactic(auto, using(crate::proofs::RunLaws::runner_laws), unfolding(trace::specs::Config::happen, trace::specs::Config::step_by))]
+    fn step(&mut self) -> Ruling
+        ensures { Happened self.old Stepped self.new result }
+    {
+        let Some(t) = self.memory.running() else {
+            return Ruling::NobodyRuns;
+        };
+        let k = self.positions[t as usize];
+        let x = self.scripts.step(t, k);
+        self.positions[t as usize] = position_after(k, x);
+        let ruling = perform(self.memory, x);
+        // By the number, one comparison on each step: the answer would be a match of the twelve rulings.
+        if ruling.number() != 0 {
+            self.positions[t as usize] = k;
+        }
+        ruling
+    }
+
+    // One event: a match, since the operands differ from case to case.
+    #[tactic(auto, unfolding(trace::specs::Config::happen, trace::specs::Config::outside))]
+    pub fn happen(&mut self, x: Input) -> Ruling
+        ensures { Happened self.old x self.new result }
+    {
+        match x {
+            Input::Clock(r) => events::clock(self.memory, r),
+            Input::Release(t) => events::release(self.memory, t as u64),
+            Input::Step => self.step(),
+            Input::Set(t, value) => set_base(self.memory, t, value),
+        }
+    }
+}
