@@ -99,6 +99,7 @@ fn roster_fault(roster: &[u8], tops: &Tops) -> Verdict
 pub fn check(roster: &[u8]) -> Verdict
     ensures { result ≡ check_of roster.now }
 {
-    let tops = forms::tops(roster)?;
+    let mut tops = [Priority(0); Roster::TASKS];
+    forms::form_and_tops(roster, &mut tops)?;
     roster_fault(roster, &tops)
 }

@@ -120,24 +120,25 @@ fn values_good(s: &[u8]) -> bool
 // The highest of each task's base and its own Set values, which the check asks for again.
 pub type Tops = [Priority; Roster::TASKS];
 
-// 16, in task and step order.
-fn scripts_form(s: &[u8]) -> Result<Tops, Fault>
+// 16, in task and step order; where all pass, the tops are left in `tops`, which is lent because a result would be copied.
+fn scripts_form(s: &[u8], tops: &mut Tops) -> Verdict
     requires s_value { layout_good s.now ≡ true }
     requires s_in_bounds { task_count s.now ≤ task_limit }
-    ensures { MatchResult result (λ tops. (scripts_form s.now ≡ Ok tt) × Topped s.now tops) (λ e. scripts_form s.now ≡ Err e) }
+    ensures value { result ≡ scripts_form s.now }
+    ensures topped { result ≡ Ok tt → Topped s.now tops.new }
 {
     let limits = Limits::new(fields::task_count(s), fields::object_count(s));
-    let mut tops = [Priority(0); Roster::TASKS];
     for t in 0..fields::task_count(s) {
         tops[t as usize] = steps_form(&limits, t, fields::base_at(s, t), script_part(s, t))?;
     }
-    Ok(tops)
+    Ok(())
 }
 
-// 11 to 16; where all pass, the tops of the tasks.
+// 11 to 16; where all pass, the tops of the tasks too.
 #[tactic(auto, using(crate::proofs::TopLaws::tops_fit), unfolding(format::specs::Form::form_of))]
-pub fn tops(s: &[u8]) -> Result<Tops, Fault>
-    ensures { MatchResult result (λ tops. (form_of s.now ≡ Ok tt) × Topped s.now tops) (λ e. form_of s.now ≡ Err e) }
+pub fn form_and_tops(s: &[u8], tops: &mut Tops) -> Verdict
+    ensures value { result ≡ form_of s.now }
+    ensures topped { result ≡ Ok tt → Topped s.now tops.new }
 {
     if !length_good(s) {
         return Err(Fault::BadLength);
@@ -154,13 +155,12 @@ pub fn tops(s: &[u8]) -> Result<Tops, Fault>
     if !values_good(s) {
         return Err(Fault::BadValues);
     }
-    scripts_form(s)
+    scripts_form(s, tops)
 }
 
 // The form of a roster: 11 to 16.
 pub fn form(s: &[u8]) -> Verdict
     ensures { result ≡ form_of s.now }
 {
-    tops(s)?;
-    Ok(())
+    form_and_tops(s, &mut [Priority(0); Roster::TASKS])
 }

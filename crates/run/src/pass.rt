@@ -12,7 +12,7 @@ use roster::check;
 use rules::Roster;
 use trace::sizes::{EVENT_SIZE, NOBODY, REPLY_SIZE};
 use trace::{RunAnswer, RunError};
-use turns::Machine;
+use turns::{Machine, Scripts};
 
 // Each event in order, and its reply: its answer, the running task or NOBODY, and its report.
 fn pass(machine: &mut Machine, events: &[u8], buffer: &mut [u8])
@@ -44,7 +44,8 @@ pub fn run(roster: &[u8], events: &[u8], buffer: &mut [u8]) -> RunAnswer
     }
     let mut memory = Memory::new();
     let mut positions = [0; Roster::TASKS];
-    let mut machine = Machine::new(roster, &mut memory, &mut positions);
+    let scripts = Scripts::new(roster);
+    let mut machine = Machine::new(roster, &scripts, &mut memory, &mut positions);
     pass(&mut machine, events, buffer);
     Ok(())
 }

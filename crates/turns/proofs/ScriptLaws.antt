@@ -1,12 +1,11 @@
 -- Laws of the scripts' parts, found once, and of the steps in them.
-use Rattle.std.proofs.Common.{◌≡◌, ℕ, suc, ◌+◌, ◌<◌, ◌≤◌, List, [], Bor, Ok, length, get_or, map, set, drop, arith, ap, sym, ◌∙◌, ltb, leb}
+use Rattle.std.proofs.Common.{◌≡◌, ℕ, suc, ◌+◌, ◌<◌, ◌≤◌, List, Ok, length, get_or, set, take, drop, arith, ap, sym, ◌∙◌, ltb, leb}
 use borrow.Author.Tests.{leb-true, ltb-true, ltb-false}
-use Rattle.std.proofs.lemmas.List.{map-set, length-map, length-take, length-drop}
-use Rattle.std.proofs.Math.ListN.{get_or-map}
+use Rattle.std.proofs.lemmas.List.{length-take, length-drop}
 use Rattle.std.proofs.lemmas.List.Edits.{fill_by_more}
 use Rattle.rules.specs.Limits.{smallest_roster, largest_roster}
 use Rattle.rules.proofs.Choices.{and_right}
-use Rattle.format.specs.Format.{task_count, start_at, length_at, part_at}
+use Rattle.format.specs.Format.{start_at, length_at, part_at}
 use Rattle.format.specs.Form.{length_good, form_of}
 use Rattle.format.specs.Steps.{step_count, steps_of, step_in}
 use Rattle.format.specs.Roster.{roster_of}
@@ -15,25 +14,30 @@ use Rattle.format.specs.declared.Step.TheVariants.{Enter, Leave, Delay, Work, Su
 use Rattle.format.proofs.TestLaws.{by-test}
 use Rattle.format.proofs.StepLaws.{steps-past}
 use Rattle.format.proofs.FormatLaws.{script-listed, script-count}
-use Rattle.format.proofs.FormedLaws.{formed}
+use Rattle.format.proofs.FormedLaws.{formed, part-inside}
 use Rattle.trace.specs.Config.{next_step, position_after}
+use Rattle.turns.specs.declared.scripts.Part.{Part}
+use Rattle.turns.specs.ScriptsView.{part_of}
 
--- one more is found: g of each is what f gives
-pub found-more : {A B : Type 0} (g : A → B) (f : ℕ → B) (d : B) (l : List A) (t : ℕ) (p : A) → t < length l → g p ≡ f t →
-    ((k : ℕ) → k < t → get_or (map g l) k d ≡ f k) → (k : ℕ) → k < t + 1 → get_or (map g (set l t p)) k d ≡ f k
-found-more g f d l t p h e before k below =
-    let more = fill_by_more f (map g l) t d (omega (arith, length-map l g)) before k below in
-    rw (map-set, e) more
+-- one more is found
+pub found-more : {A : Type 0} (f : ℕ → A) (d : A) (l : List A) (t : ℕ) (p : A) → t < length l → p ≡ f t →
+    ((k : ℕ) → k < t → get_or l k d ≡ f k) → (k : ℕ) → k < t + 1 → get_or (set l t p) k d ≡ f k
+found-more f d l t p h e before k below = rw e (fill_by_more f l t d h before k below)
 
--- a part that was found, and the step at a position of it
-abbrev pub nothing : Bor (List ℕ)
-nothing = record { ref_ptr = (0, 0); now = [] }
+-- where a task's script lies, as it was found: its bytes, and the step at a position of them
+module _ (s : List ℕ) (ok : form_of s ≡ Ok tt) (t : ℕ) (low : t < length (roster_of s).scripts) (p : Part) (found : p ≡ part_of s t) where
+  start : p.start ≡ start_at s t
+  start = ap (λ (q : Part). q.start) found
 
-pub part-read : (s : List ℕ) (parts : List (Bor (List ℕ))) →
-    ((t : ℕ) → t < task_count s → get_or (map (λ (p : Bor (List ℕ)). p.now) parts) t [] ≡ part_at s t) → (t : ℕ) →
-    t < length (roster_of s).scripts → (get_or parts t nothing).now ≡ part_at s t
-part-read s parts each t h =
-    sym (get_or-map (λ (p : Bor (List ℕ)). p.now) parts t nothing) ∙ each t (omega (arith, script-count s))
+  size : p.length ≡ length_at s t
+  size = ap (λ (q : Part). q.length) found
+
+  pub part-fits : p.start + p.length ≤ length s
+  part-fits = omega (arith, start, size, part-inside s ok t (omega (arith, script-count s)))
+
+  pub part-read : (part : List ℕ) → part ≡ take p.length (drop p.start s) → part ≡ part_at s t
+  unfolding part_at
+  part-read part e = e ∙ ap (λ (q : Part). take q.length (drop q.start s)) found
 
 pub step-found : (s : List ℕ) (t k : ℕ) (part : List ℕ) (x : Step) → t < length (roster_of s).scripts → part ≡ part_at s t →
     x ≡ step_in (steps_of part) k → x ≡ next_step (roster_of s) t k

@@ -9,7 +9,7 @@ use Rattle.turns.specs.declared.machine.Machine.TheInside.{Inside}
 
 -- behind the last task's position there may be anything
 abbrev pub run_in : Inside → Run
-run_in a = record { roster = a.scripts; config = record { model = a.memory.now; positions = take (length a.scripts.scripts) a.positions.now } }
+run_in a = record { roster = a.scripts.now; config = record { model = a.memory.now; positions = take (length a.scripts.now.scripts) a.positions.now } }
 
 -- the Model is sound, and its tasks are the roster's
 pub record Going (r : Roster) (m : Model) (ps : List ℕ) : Type 0 where
@@ -18,4 +18,4 @@ pub record Going (r : Roster) (m : Model) (ps : List ℕ) : Type 0 where
   pub places : length ps ≡ task_limit
 
 abbrev pub Runs : Inside → Type 0
-Runs a = Going a.scripts a.memory.now a.positions.now
+Runs a = Going a.scripts.now a.memory.now a.positions.now

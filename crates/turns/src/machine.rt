@@ -21,7 +21,7 @@ use trace::Input;
 // A contract sees the roster and the configuration that its events have come to.
 #[derive(Drop)]
 pub struct Machine<'a> {
-    scripts: Scripts<'a>,
+    scripts: &'a Scripts<'a>,
     memory: &'a mut Memory,
     positions: &'a mut [u16; Roster::TASKS],
 }
@@ -39,13 +39,15 @@ impl<'a> Model for Machine<'a> {
 }
 
 impl<'a> Machine<'a> {
-    // A fresh start, with every script at its start. The memory and the positions are lent, since what is handed back is copied.
+    // A fresh start, with every script at its start. All parts are lent, since what is handed back is copied.
     pub fn new(
         roster: &'a [u8],
+        scripts: &'a Scripts<'a>,
         memory: &'a mut Memory,
         positions: &'a mut [u16; Roster::TASKS],
     ) -> Self
         requires passes { Passes roster.now }
+        requires scripts_read { scripts.now ≡ roster_of roster.now }
         requires blank { memory.old ≡ unstarted (record { bases = []; ceilings = [] }) }
         requires starts { positions.old ≡ replicate task_limit 0 }
         ensures { result ≡ started (roster_of roster.now) }
@@ -56,7 +58,7 @@ impl<'a> Machine<'a> {
         let objects = object_count(roster) as usize;
         fresh(memory, &bases[..tasks], &ceilings[..objects]);
         Machine {
-            scripts: Scripts::new(roster),
+            scripts,
             memory,
             positions,
         }

@@ -1,6 +1,5 @@
-// The scripts of a run: each task's part of the roster, found once.
-ghost use Rattle.std.specs.Prelude.{◌≡◌, ◌<◌, Ok, length};
-ghost use Rattle.format.specs.Format.{task_count, part_at};
+// The scripts of a run: where each task's starts and how long it is, read once from the roster's task table.
+ghost use Rattle.std.specs.Prelude.{◌≡◌, ◌+◌, ◌≤◌, ◌<◌, Ok, length, take, drop};
 ghost use Rattle.format.specs.Form.{form_of};
 ghost use Rattle.format.specs.Roster.{roster_of};
 ghost use Rattle.trace.specs.Config.{next_step, position_after};
@@ -10,11 +9,28 @@ use format::Step;
 use rules::Roster;
 use std::marker::Model;
 
-// A contract sees the roster that the parts are of. Those behind its last task's are empty.
+// Where a script lies in its roster, in bytes.
+#[derive(Clone, Copy)]
+struct Part {
+    start: u16,
+    length: u16,
+}
+
+impl Part {
+    fn of(self, roster: &[u8]) -> &[u8]
+        requires { self.start + self.length ≤ length roster.now }
+        ensures { result.now ≡ take self.length (drop self.start roster.now) }
+    {
+        let start = self.start as usize;
+        &roster[start..start + self.length as usize]
+    }
+}
+
+// A contract sees the roster that the parts are of. Behind the last task's they are empty.
 #[derive(Drop)]
 pub struct Scripts<'a> {
     roster: &'a [u8],
-    parts: [&'a [u8]; Roster::TASKS],
+    parts: [Part; Roster::TASKS],
 }
 
 impl<'a> Model for Scripts<'a> {
@@ -29,25 +45,20 @@ impl<'a> Model for Scripts<'a> {
     ghost invariant = { Found };
 }
 
-// The bytes of a listed task's script.
-fn part_of(s: &[u8], t: u8) -> &[u8]
-    requires form { form_of s.now ≡ Ok tt }
-    requires listed { t < task_count s.now }
-    ensures { result.now ≡ part_at s.now t }
-{
-    let start = fields::start_at(s, t) as usize;
-    let length = fields::length_at(s, t) as usize;
-    &s[start..start + length]
-}
-
 impl<'a> Scripts<'a> {
     pub fn new(roster: &'a [u8]) -> Self
         requires { form_of roster.now ≡ Ok tt }
         ensures { result ≡ roster_of roster.now }
     {
-        let mut parts: [&'a [u8]; Roster::TASKS] = [&roster[..0]; Roster::TASKS];
+        let mut parts = [Part {
+            start: 0,
+            length: 0,
+        }; Roster::TASKS];
         for t in 0..fields::task_count(roster) {
-            parts[t as usize] = part_of(roster, t);
+            parts[t as usize] = Part {
+                start: fields::start_at(roster, t),
+                length: fields::length_at(roster, t),
+            };
         }
         Scripts { roster, parts }
     }
@@ -58,6 +69,6 @@ impl<'a> Scripts<'a> {
         ensures value { result ≡ next_step self.entry.now t k }
         ensures short { position_after k result < 65536 }
     {
-        steps::step_at(self.parts[t as usize], k as usize)
+        steps::step_at(self.parts[t as usize].of(self.roster), k as usize)
     }
 }

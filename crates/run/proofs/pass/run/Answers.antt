@@ -2,6 +2,7 @@
 use Rattle.std.proofs.Common.{arith, ap, refl, sym, ◌∙◌}
 use Rattle.std.proofs.lemmas.Result.{err_from_is_err_and}
 use Rattle.std.proofs.lemmas.List.Edits.{sets}
+use Rattle.format.proofs.PassedLaws.{passes-form}
 use Rattle.trace.specs.Inputs.{inputs_of}
 use Rattle.trace.specs.Run.{replies_of}
 use Rattle.turns.specs.Run.{Run, replies}
@@ -29,8 +30,12 @@ returns-then-buffer-events c =
     (omega (arith, c.if-buffer-events.true)) in
     record { value = whole.0; buffer_after = whole.1 }
 
+pub new-scripts-requires : goal.new-scripts-requires
+new-scripts-requires c = passes-form c.args.roster.now (sym c.in_ok-check.ensures)
+
 pub new-machine-requires : goal.new-machine-requires
-new-machine-requires c = record { passes = sym c.in_ok-check.ensures; blank = c.new-memory.ensures; starts = refl }
+new-machine-requires c =
+    record { passes = sym c.in_ok-check.ensures; scripts_read = c.new-scripts.ensures; blank = c.new-memory.ensures; starts = refl }
 
 pub pass-requires : goal.pass-requires
 pass-requires c = omega (arith, c.if-buffer-events.false)

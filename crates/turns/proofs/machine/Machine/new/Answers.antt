@@ -48,17 +48,14 @@ fresh-requires c =
       startable = rw (given-bases d, given-ceilings d) (passes-starts c.args.roster.now c.requires.passes);
     }
 
-pub new-requires : goal.new-requires
-new-requires c = passes-form c.args.roster.now c.requires.passes
-
 pub invariant_of-result : goal.invariant_of-result
 invariant_of-result c =
     let d = (goal.at.invariant_of-result c).After-object_count-objects in
     let fresh = rw (given-bases d, given-ceilings d) at c.fresh.ensures in
-    rw c.requires.starts (start-goes c.args.roster.now c.requires.passes _ _ c.new.ensures fresh)
+    rw c.requires.starts (start-goes c.args.roster.now c.requires.passes _ _ c.requires.scripts_read fresh)
 
 pub returns : goal.returns
 returns c =
     let d = (goal.at.returns c).After-object_count-objects in
     let fresh = rw (given-bases d, given-ceilings d) at c.fresh.ensures in
-    rw c.requires.starts (start_is c.args.roster.now c.requires.passes _ _ c.new.ensures fresh)
+    rw c.requires.starts (start_is c.args.roster.now c.requires.passes _ _ c.requires.scripts_read fresh)

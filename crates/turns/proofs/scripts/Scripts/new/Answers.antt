@@ -1,7 +1,7 @@
 -- `turns::scripts::Scripts::new` meets its contract.
-use Rattle.std.proofs.Common.{arith, [], rules}
-use Rattle.format.specs.Format.{part_at}
+use Rattle.std.proofs.Common.{arith, rules}
 use Rattle.format.proofs.FormedLaws.{tasks-few}
+use Rattle.turns.specs.ScriptsView.{part_of, no_part}
 use Rattle.turns.proofs.ScriptLaws.{found-more}
 use Rattle.turns.proofs.scripts.Scripts.new.Goals as goal
 
@@ -11,8 +11,8 @@ bounds-parts-t c = omega (arith, tasks-few c.args.roster.now c.requires, c.task_
 pub loop-t-preserved : goal.loop-t-preserved
 loop-t-preserved c = (
   search rules,
-  found-more (λ p. p.now) (part_at c.args.roster.now) [] c.loop-t.parts c.loop-t.t c.part_of.result
-      (omega (arith, tasks-few c.args.roster.now c.requires, c.task_count-t-end.ensures)) c.part_of.ensures c.loop-t.invariant.1,
+  found-more (part_of c.args.roster.now) no_part c.loop-t.parts c.loop-t.t _
+      (omega (arith, tasks-few c.args.roster.now c.requires, c.task_count-t-end.ensures)) (search rules) c.loop-t.invariant.1,
 )
 
 pub invariant_of-result : goal.invariant_of-result
