@@ -1,8 +1,7 @@
 // A state in lent bytes: whether the bytes can be a state's, and from them into the engine's memory and back, with no State between.
-ghost use Rattle.std.specs.Prelude.{◌≡◌, [], true, ◌&&◌, ◌+◌, ◌*◌, ◌≤◌, ◌<◌, length};
+ghost use Rattle.std.specs.Prelude.{◌≡◌, true, ◌&&◌, ◌+◌, ◌*◌, ◌≤◌, ◌<◌, length};
 ghost use Rattle.rules.specs.Limits.{task_limit, object_limit, last_priority};
 ghost use Rattle.rules.specs.Model.{ceiling_of};
-ghost use Rattle.rules.specs.Fresh.{unstarted};
 ghost use Rattle.dispatch.specs.State.{view, encode};
 ghost use Rattle.dispatch.specs.Sound.{sizes_fit};
 ghost use Rattle.words.specs.Words.{byte_at, tabulate};
@@ -61,10 +60,9 @@ pub fn loadable(bytes: &[u8]) -> bool
         )
 }
 
-// A new memory comes to be that of the whole state.
+// The memory comes to be that of the whole state, whatever it was.
 pub fn load(bytes: &[u8], memory: &mut Memory)
     requires loadable { (readable bytes.now && sizes_fit (state_of_bytes bytes.now)) ≡ true }
-    requires new { memory.old ≡ unstarted (record { bases = []; ceilings = [] }) }
     ensures { memory.new ≡ view (state_of_bytes bytes.now) }
 {
     let head = Head::read(&bytes_in(bytes, 0));

@@ -39,12 +39,12 @@ fn join_all(memory: &mut Memory)
     }
 }
 
-// A new memory comes to be a fresh start's.
+// The memory comes to be a fresh start's, whatever it was.
 pub fn fresh(memory: &mut Memory, bases: &[u8], ceilings: &[u8])
-    requires blank { memory.old ≡ unstarted (record { bases = []; ceilings = [] }) }
     requires startable { Startable (record { bases = bases.now; ceilings = ceilings.now }) }
     ensures { memory.new ≡ fresh_model (record { bases = bases.now; ceilings = ceilings.now }) }
 {
+    memory.clear();
     enroll(memory, bases, ceilings);
     join_all(memory);
     moves::dispatch(memory);

@@ -1,6 +1,5 @@
 // A fresh start and the events, on a state in lent bytes.
-ghost use Rattle.std.specs.Prelude.{◌≡◌, [], cond, None, Some};
-ghost use Rattle.rules.specs.Fresh.{unstarted};
+ghost use Rattle.std.specs.Prelude.{◌≡◌, cond, None, Some};
 ghost use Rattle.layout.specs.Events.{event_number, event_bytes, event_report, fresh_number, fresh_bytes, sound_number, listed_code};
 ghost use Rattle.layout.specs.Events.{loaded_from, running_number};
 
@@ -12,10 +11,8 @@ use rules::{Event, Numbered, Refusal, Report};
 use state_bytes::write;
 use words::long_at;
 
-// Whether the bytes are a sound state's, and then a new memory comes to be that of it: in place, since a memory that is handed back is
-// copied.
+// Whether the bytes are a sound state's, and then the memory comes to be that of it: in place, since one that is handed back is copied.
 fn loaded(bytes: &[u8], memory: &mut Memory) -> bool
-    requires { memory.old ≡ unstarted (record { bases = []; ceilings = [] }) }
     ensures { cond result (Some memory.new) None ≡ loaded_from bytes.now }
 {
     if !loadable(bytes) {

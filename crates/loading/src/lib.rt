@@ -6,7 +6,6 @@ ghost use Rattle.std.specs.Prelude.{◌≡◌, ℕ, true, [], ◌+◌, ◌*◌, 
 ghost use mathlib.Core.List.{flat_map};
 ghost use Rattle.rules.specs.Limits.{task_limit, object_limit, last_priority};
 ghost use Rattle.rules.specs.Model.{Model, TaskRecord, blank, with_tasks, with_ceilings, with_ready};
-ghost use Rattle.rules.specs.Fresh.{unstarted};
 ghost use Rattle.memory.specs.Rows.{row_for, held_width, queue_width, held_in, queues_in};
 ghost use Rattle.memory.specs.Memory.{record_of};
 ghost use Rattle.loading.specs.Loading.{lengths_good, parts_fit, held_lists, with_numbers, Each, TaskFrom, CeilingFrom};
@@ -83,7 +82,7 @@ fn load_queues(memory: &mut Memory, queues: &[u8])
     }
 }
 
-// A new memory comes to be that of a state whose sizes fit: in place, since a memory that is handed back is copied.
+// The memory comes to be that of a state whose sizes fit, whatever it was: in place, since one that is handed back is copied.
 pub fn load<T: Fn(usize) -> Task, C: Fn(usize) -> Priority>(
     memory: &mut Memory,
     now: u64,
@@ -95,7 +94,6 @@ pub fn load<T: Fn(usize) -> Task, C: Fn(usize) -> Priority>(
     ceiling: C,
     queues: &[u8],
 )
-    requires new { memory.old ≡ unstarted (record { bases = []; ceilings = [] }) }
     requires fits { parts_fit task_count object_count held.now queues.now ≡ true }
     requires held_rows { length held.now ≡ task_limit * held_width }
     requires queue_rows { length queues.now ≡ last_priority * queue_width }
@@ -105,6 +103,7 @@ pub fn load<T: Fn(usize) -> Task, C: Fn(usize) -> Priority>(
     ensures tasks { Each (TaskFrom (T.post task) held.now) blank task_count memory.new.tasks }
     ensures ceilings { Each (CeilingFrom (C.post ceiling)) 0 object_count memory.new.ceilings }
 {
+    memory.clear();
     memory.set_now(now);
     memory.set_running(running);
     load_tasks(memory, task_count as usize, task, held);

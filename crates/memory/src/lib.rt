@@ -94,6 +94,20 @@ impl Memory {
         }
     }
 
+    // Back to what a new one is, where it stays: one that is handed over is copied.
+    pub fn clear(&mut self)
+        ensures { self.new ≡ unstarted (record { bases = []; ceilings = [] }) }
+    {
+        queues::empty(&mut self.queues);
+        self.now = 0;
+        self.running = None;
+        self.task_count = 0;
+        self.object_count = 0;
+        self.marks = 0;
+        self.next = NO_DUE;
+        self.delayed = 0;
+    }
+
     pub fn now(&self) -> u64
         ensures { result ≡ self.entry.now.now }
     {

@@ -43,11 +43,11 @@ impl Memory {
         &self.ceilings[..self.object_count as usize]
     }
 
+    // 0 for an object that is not listed.
     pub fn ceiling(&self, o: u8) -> Priority
-        requires { o < length self.now.ceilings }
         ensures { result.0 ≡ ceiling_of self.entry.now.ceilings o }
     {
-        self.ceilings[o as usize]
+        ceiling_of(self.ceilings(), o)
     }
 
     // One object more.

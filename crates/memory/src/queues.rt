@@ -1,5 +1,5 @@
 // The ready queues, each from its head on, and the word of marks, which follows every change of them.
-ghost use Rattle.std.specs.Prelude.{◌≡◌, [], ◌∷◌, ◌++◌, suc, ◌<◌, ◌≤◌, length, drop};
+ghost use Rattle.std.specs.Prelude.{◌≡◌, [], ◌∷◌, ◌++◌, suc, ◌<◌, ◌≤◌, length, drop, replicate};
 ghost use Rattle.rules.specs.Limits.{task_limit, last_priority};
 ghost use Rattle.rules.specs.Lists.{without};
 ghost use Rattle.rules.specs.Model.{queue, with_queue};
@@ -8,8 +8,18 @@ ghost use Rattle.marks.specs.Marks.{marks_of};
 ghost use Rattle.memory.specs.Rows.{row_for};
 ghost use Rattle.memory.specs.Memory.{HasQueue};
 
+use crate::sizes::PRIORITIES;
 use crate::{Memory, Row};
 use rules::{Priority, Roster};
+
+// Every queue emptied.
+pub fn empty(queues: &mut [Row<{ Roster::TASKS }>; PRIORITIES])
+    ensures { queues.new ≡ replicate last_priority [] }
+{
+    for row in queues.iter_mut() {
+        row.clear();
+    }
+}
 
 impl Memory {
     // The ready queue for p.
@@ -21,12 +31,12 @@ impl Memory {
         self.queues[p.0 as usize - 1].as_slice()
     }
 
+    // Of an empty queue 0.
     pub fn head_of(&self, p: Priority) -> u8
-        requires level { HasQueue p.0 }
-        requires full { 0 < length (queue self.now p.0) }
+        requires { HasQueue p.0 }
         ensures { result ≡ head_of self.entry.now p.0 }
     {
-        self.queue(p)[0]
+        self.queue(p).first().copied().unwrap_or(0)
     }
 
     // The word of marks, with a bit for each queue.
@@ -64,14 +74,13 @@ impl Memory {
         self.marks = marks::put(self.marks, p, row.len());
     }
 
-    // The head goes.
+    // The head goes, where there is one.
     pub fn pop(&mut self, p: Priority)
-        requires level { HasQueue p.0 }
-        requires full { 0 < length (queue self.old p.0) }
+        requires { HasQueue p.0 }
         ensures { self.new ≡ with_queue self.old p.0 (drop 1 (queue self.old p.0)) }
     {
         let row = &mut self.queues[p.0 as usize - 1];
-        row.remove_at(0);
+        row.pop_front();
         self.marks = marks::put(self.marks, p, row.len());
     }
 

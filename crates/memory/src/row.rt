@@ -71,6 +71,22 @@ impl<const N: usize> Row<N> {
         self.len = self.len.saturating_sub(1);
     }
 
+    // The first goes, where there is one: the others move down by one.
+    pub fn pop_front(&mut self)
+        ensures { self.new ≡ drop 1 self.old }
+    {
+        if self.len > 0 {
+            self.remove_at(0);
+        }
+    }
+
+    // All go.
+    pub fn clear(&mut self)
+        ensures { self.new ≡ [] }
+    {
+        self.len = 0;
+    }
+
     // The element at i goes: those behind it move down by one.
     pub fn remove_at(&mut self, i: usize)
         requires { i < length self.old }

@@ -45,7 +45,7 @@ pub fn run(roster: &[u8], events: &[u8], buffer: &mut [u8]) -> RunAnswer
     let mut memory = Memory::new();
     let mut positions = [0; Roster::TASKS];
     let scripts = Scripts::new(roster);
-    let mut machine = Machine::new(roster, &scripts, &mut memory, &mut positions);
+    let mut machine = Machine::new(&scripts, &mut memory, &mut positions);
     pass(&mut machine, events, buffer);
     Ok(())
 }

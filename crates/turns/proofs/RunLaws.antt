@@ -23,7 +23,9 @@ use Rattle.rules.proofs.Unchanged.{count_kept}
 use Rattle.memory.specs.Rulings.{answer_in, report_in}
 use Rattle.memory.specs.Memory.{Did}
 use Rattle.memory.specs.declared.rulings.Ruling.{Ruling}
-use Rattle.format.specs.Roster.{Roster}
+use Rattle.format.specs.Format.{task_count}
+use Rattle.format.specs.Roster.{Roster, roster_of}
+use Rattle.format.proofs.FormatLaws.{script-count}
 use Rattle.format.proofs.TestLaws.{by-test}
 use Rattle.format.specs.declared.Step.{Step}
 use Rattle.trace.specs.declared.Input.{Input}
@@ -70,13 +72,17 @@ set_count m t p = count_kept m (E.Set t (priority p))
 pub tasks-few : (m : Model) → sound m ≡ true → length m.tasks ≤ task_limit
 tasks-few m s = (sound-is m s).numbers.count
 
-pub runner_listed : (r : Roster) (m : Model) (ps : List ℕ) (o : Option ℕ) (t : ℕ) → Going r m ps → o ≡ m.running → o ≡ Some t →
-    t < length r.scripts
-runner_listed r m ps o t g e f = omega (arith, (sound-is m g.sound).numbers.runner t (sym e ∙ f), g.listed)
+pub runner_listed : (s : List ℕ) (m : Model) (ps : List ℕ) (o : Option ℕ) (t : ℕ) → Going s m ps → o ≡ m.running → o ≡ Some t →
+    t < length (roster_of s).scripts
+runner_listed s m ps o t g e f = omega (arith, (sound-is m g.sound).numbers.runner t (sym e ∙ f), g.listed)
 
-pub runner_placed : (r : Roster) (m : Model) (ps : List ℕ) (o : Option ℕ) (t : ℕ) → Going r m ps → o ≡ m.running → o ≡ Some t →
+pub runner_placed : (s : List ℕ) (m : Model) (ps : List ℕ) (o : Option ℕ) (t : ℕ) → Going s m ps → o ≡ m.running → o ≡ Some t →
     t < task_limit
-runner_placed r m ps o t g e f = omega (arith, runner_listed r m ps o t g e f, tasks-few m g.sound, g.listed)
+runner_placed s m ps o t g e f = omega (arith, runner_listed s m ps o t g e f, tasks-few m g.sound, g.listed)
+
+pub runner_counted : (s : List ℕ) (m : Model) (ps : List ℕ) (o : Option ℕ) (t : ℕ) → Going s m ps → o ≡ m.running → o ≡ Some t →
+    t < task_count s
+runner_counted s m ps o t g e f = omega (arith, runner_listed s m ps o t g e f, script-count s)
 
 module _ (r : Roster) (m : Model) (ps : List ℕ) where
   abbrev at : Config
@@ -86,12 +92,13 @@ module _ (r : Roster) (m : Model) (ps : List ℕ) where
   run = record { roster = r; config = at }
 
 -- after a move that keeps the number of tasks the run goes on
-pub goes_on : (r : Roster) (m m' : Model) (ps ps' : List ℕ) (x : Ruling) (z : Moved) →
-    Going r m ps → Did m' x z → length z.model.tasks ≡ length m.tasks →
-    sound m' ≡ true → length ps' ≡ length ps → Going r m' ps'
-goes_on r m m' ps ps' x z g d e s n =
+pub goes_on : (s : List ℕ) (m m' : Model) (ps ps' : List ℕ) (x : Ruling) (z : Moved) →
+    Going s m ps → Did m' x z → length z.model.tasks ≡ length m.tasks →
+    sound m' ≡ true → length ps' ≡ length ps → Going s m' ps'
+goes_on s m m' ps ps' x z g d e k n =
     record {
-      sound = s;
+      form = g.form;
+      sound = k;
       listed = ap (λ (y : Model). length y.tasks) d.same ∙ (e ∙ g.listed);
       places = n ∙ g.places;
     }
@@ -157,6 +164,6 @@ set_same m t value =
     (λ e. ap (λ (v : Option Priority). set_base m t (unwrap_or v (priority 0)).0) (checked-bad value e) ∙ sym (rw e))
 
 -- for the machine's proofs
-pub ruleset runner_laws = (runner_listed, runner_placed)
+pub ruleset runner_laws = (runner_listed, runner_placed, runner_counted)
 
 pub ruleset going_laws = (goes_on, perform_count, clock_count, release_count, set_count)

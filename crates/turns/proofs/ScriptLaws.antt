@@ -5,7 +5,7 @@ use Rattle.std.proofs.lemmas.List.{length-take, length-drop}
 use Rattle.std.proofs.lemmas.List.Edits.{fill_by_more}
 use Rattle.rules.specs.Limits.{smallest_roster, largest_roster}
 use Rattle.rules.proofs.Choices.{and_right}
-use Rattle.format.specs.Format.{start_at, length_at, part_at}
+use Rattle.format.specs.Format.{task_count, start_at, length_at, part_at}
 use Rattle.format.specs.Form.{length_good, form_of}
 use Rattle.format.specs.Steps.{step_count, steps_of, step_in}
 use Rattle.format.specs.Roster.{roster_of}
@@ -13,7 +13,7 @@ use Rattle.format.specs.declared.Step.{Step}
 use Rattle.format.specs.declared.Step.TheVariants.{Enter, Leave, Delay, Work, Suspend, Release, Set, Again, Finish}
 use Rattle.format.proofs.TestLaws.{by-test}
 use Rattle.format.proofs.StepLaws.{steps-past}
-use Rattle.format.proofs.FormatLaws.{script-listed, script-count}
+use Rattle.format.proofs.FormatLaws.{script-listed}
 use Rattle.format.proofs.FormedLaws.{formed, part-inside}
 use Rattle.trace.specs.Config.{next_step, position_after}
 use Rattle.turns.specs.declared.scripts.Part.{Part}
@@ -25,7 +25,7 @@ pub found-more : {A : Type 0} (f : ℕ → A) (d : A) (l : List A) (t : ℕ) (p 
 found-more f d l t p h e before k below = rw e (fill_by_more f l t d h before k below)
 
 -- where a task's script lies, as it was found: its bytes, and the step at a position of them
-module _ (s : List ℕ) (ok : form_of s ≡ Ok tt) (t : ℕ) (low : t < length (roster_of s).scripts) (p : Part) (found : p ≡ part_of s t) where
+module _ (s : List ℕ) (ok : form_of s ≡ Ok tt) (t : ℕ) (low : t < task_count s) (p : Part) (found : p ≡ part_of s t) where
   start : p.start ≡ start_at s t
   start = ap (λ (q : Part). q.start) found
 
@@ -33,17 +33,17 @@ module _ (s : List ℕ) (ok : form_of s ≡ Ok tt) (t : ℕ) (low : t < length (
   size = ap (λ (q : Part). q.length) found
 
   pub part-fits : p.start + p.length ≤ length s
-  part-fits = omega (arith, start, size, part-inside s ok t (omega (arith, script-count s)))
+  part-fits = omega (arith, start, size, part-inside s ok t low)
 
   pub part-read : (part : List ℕ) → part ≡ take p.length (drop p.start s) → part ≡ part_at s t
   unfolding part_at
   part-read part e = e ∙ ap (λ (q : Part). take q.length (drop q.start s)) found
 
-pub step-found : (s : List ℕ) (t k : ℕ) (part : List ℕ) (x : Step) → t < length (roster_of s).scripts → part ≡ part_at s t →
+pub step-found : (s : List ℕ) (t k : ℕ) (part : List ℕ) (x : Step) → t < task_count s → part ≡ part_at s t →
     x ≡ step_in (steps_of part) k → x ≡ next_step (roster_of s) t k
 step-found s t k part x h e f =
     f ∙ (ap (λ (p : List ℕ). step_in (steps_of p) k) e ∙
-    sym (ap (λ (l : List Step). step_in l k) (script-listed s t (omega (arith, script-count s)))))
+    sym (ap (λ (l : List Step). step_in l k) (script-listed s t h)))
 
 -- a step moves a position on by one at most
 after-low : (k : ℕ) (x : Step) → position_after k x ≤ suc k

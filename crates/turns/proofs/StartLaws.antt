@@ -17,7 +17,7 @@ use Rattle.format.proofs.FormedLaws.{tasks-few}
 use Rattle.format.proofs.PassedLaws.{passes-form, passes-starts}
 use Rattle.trace.specs.Config.{start_of}
 use Rattle.turns.specs.Run.{started}
-use Rattle.turns.specs.MachineView.{Going}
+use Rattle.turns.specs.MachineView.{run_at, Going}
 
 -- the front of an array that a closure made of a list's elements is the list
 pub front-made : {F : Type 0} {g : Mut F (ℕ × Unit {0}) ℕ} {f : F} {ys : List ℕ} {size : ℕ} (l : List ℕ) (n : ℕ) →
@@ -31,25 +31,27 @@ front-made {F} {g} {f} {ys} {size} l n made pure e h =
     get_or-take n ys k 0 low ∙ made_at (λ x. get_or l x 0) made pure k (omega arith))
 
 -- the roster s, its fresh model, and no position but 0
-module _ (s : List ℕ) (ok : Passes s) (r : Roster) (m : Model) (scripts : r ≡ roster_of s)
-    (fresh : m ≡ fresh_model (setup_of (roster_of s))) where
-  counts : length (roster_of s).bases ≡ length r.scripts
-  counts = rw scripts (base-count s ∙ sym (script-count s))
+module _ (s : List ℕ) (ok : Passes s) (m : Model) (fresh : m ≡ fresh_model (setup_of (roster_of s))) where
+  abbrev r : Roster
+  r = roster_of s
 
-  pub start-goes : Going r m (replicate task_limit 0)
+  counts : length r.bases ≡ length r.scripts
+  counts = base-count s ∙ sym (script-count s)
+
+  pub start-goes : Going s m (replicate task_limit 0)
   start-goes =
       let setup = setup_of (roster_of s) in
       let starts = passes-starts s ok in
       record {
+        form = passes-form s ok;
         sound = rw fresh (good-sound _ (fresh-good setup starts));
         listed = ap (λ (y : Model). length y.tasks) fresh ∙ (fresh-count setup starts ∙ counts);
         places = length-replicate {A = ℕ} task_limit 0;
       }
 
-  pub start_is : record { roster = r; config = record { model = m; positions = take (length r.scripts) (replicate task_limit 0) } } ≡
-      started (roster_of s)
+  pub start_is : run_at r m (replicate task_limit 0) ≡ started r
   unfolding start_of
   start_is =
       let few : length r.scripts ≤ task_limit = omega (arith, tasks-few s (passes-form s ok), base-count s, counts) in
       let places = take-replicate (length r.scripts) task_limit 0 few ∙ ap (λ (n : ℕ). replicate n 0) (sym counts) in
-      ap (λ (l : List ℕ). record { roster = r; config = record { model = m; positions = l } }) places ∙ rw (scripts, fresh)
+      ap (λ (l : List ℕ). record { roster = r; config = record { model = m; positions = l } }) places ∙ rw fresh

@@ -1,7 +1,5 @@
 // A run between two events, and one event of it.
-ghost use Rattle.std.specs.Prelude.{◌≡◌, [], replicate};
-ghost use Rattle.rules.specs.Limits.{task_limit};
-ghost use Rattle.rules.specs.Fresh.{unstarted};
+ghost use Rattle.std.specs.Prelude.{◌≡◌};
 ghost use Rattle.format.specs.Roster.{roster_of};
 ghost use Rattle.format.specs.Check.{Passes};
 ghost use Rattle.turns.specs.Run.{started, Happened};
@@ -41,22 +39,20 @@ impl<'a> Model for Machine<'a> {
 impl<'a> Machine<'a> {
     // A fresh start, with every script at its start. All parts are lent, since what is handed back is copied.
     pub fn new(
-        roster: &'a [u8],
         scripts: &'a Scripts<'a>,
         memory: &'a mut Memory,
         positions: &'a mut [u16; Roster::TASKS],
     ) -> Self
-        requires passes { Passes roster.now }
-        requires scripts_read { scripts.now ≡ roster_of roster.now }
-        requires blank { memory.old ≡ unstarted (record { bases = []; ceilings = [] }) }
-        requires starts { positions.old ≡ replicate task_limit 0 }
-        ensures { result ≡ started (roster_of roster.now) }
+        requires { Passes scripts.now }
+        ensures { result ≡ started (roster_of scripts.now) }
     {
+        let roster = scripts.roster();
         let bases: [u8; Roster::TASKS] = array::from_fn(|t| base_of(roster, t as u8).0);
         let ceilings: [u8; Roster::OBJECTS] = array::from_fn(|o| ceiling_of(roster, o as u8).0);
         let tasks = task_count(roster) as usize;
         let objects = object_count(roster) as usize;
         fresh(memory, &bases[..tasks], &ceilings[..objects]);
+        *positions = [0; Roster::TASKS];
         Machine {
             scripts,
             memory,

@@ -1,5 +1,7 @@
 // The scripts of a run: where each task's starts and how long it is, read once from the roster's task table.
 ghost use Rattle.std.specs.Prelude.{◌≡◌, ◌+◌, ◌≤◌, ◌<◌, Ok, length, take, drop};
+ghost use Rattle.rules.specs.Limits.{task_limit};
+ghost use Rattle.format.specs.Format.{task_count};
 ghost use Rattle.format.specs.Form.{form_of};
 ghost use Rattle.format.specs.Roster.{roster_of};
 ghost use Rattle.trace.specs.Config.{next_step, position_after};
@@ -26,7 +28,7 @@ impl Part {
     }
 }
 
-// A contract sees the roster that the parts are of. Behind the last task's they are empty.
+// A contract sees the bytes of the roster that the parts are of. Behind the last task's they are empty.
 #[derive(Drop)]
 pub struct Scripts<'a> {
     roster: &'a [u8],
@@ -34,21 +36,21 @@ pub struct Scripts<'a> {
 }
 
 impl<'a> Model for Scripts<'a> {
-    ghost use Rattle.format.specs.Roster.{Roster};
+    ghost use Rattle.std.specs.Prelude.{List, ℕ};
 
-    ghost Value = { Roster };
+    ghost Value = { List ℕ };
 
-    ghost use Rattle.turns.specs.ScriptsView.{roster_in, Found};
+    ghost use Rattle.turns.specs.ScriptsView.{bytes_in, Found};
 
-    ghost view = { roster_in };
+    ghost view = { bytes_in };
 
     ghost invariant = { Found };
 }
 
 impl<'a> Scripts<'a> {
     pub fn new(roster: &'a [u8]) -> Self
-        requires { form_of roster.now ≡ Ok tt }
-        ensures { result ≡ roster_of roster.now }
+        requires { task_count roster.now ≤ task_limit }
+        ensures { result ≡ roster.now }
     {
         let mut parts = [Part {
             start: 0,
@@ -63,10 +65,17 @@ impl<'a> Scripts<'a> {
         Scripts { roster, parts }
     }
 
+    pub fn roster(&self) -> &[u8]
+        ensures { result.now ≡ self.now }
+    {
+        self.roster
+    }
+
     // The step at position k of a task's script; Finish past the last.
     pub fn step(&self, t: u8, k: u16) -> Step
-        requires { t < length self.now.scripts }
-        ensures value { result ≡ next_step self.entry.now t k }
+        requires form { form_of self.now ≡ Ok tt }
+        requires listed { t < task_count self.now }
+        ensures value { result ≡ next_step (roster_of self.entry.now) t k }
         ensures short { position_after k result < 65536 }
     {
         steps::step_at(self.parts[t as usize].of(self.roster), k as usize)

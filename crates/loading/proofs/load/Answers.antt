@@ -11,7 +11,7 @@ unfolding new_tasks
 load_tasks-requires g c =
     let fit = told_fits c.args.task_count c.args.object_count c.args.held.now c.args.queues.now c.requires.fits in
     record {
-      none = rw (c.set_running.ensures, c.set_now.ensures, c.requires.new);
+      none = rw (c.set_running.ensures, c.set_now.ensures, c.clear.ensures);
       room = fit.count;
       lengths = fit.held;
       rows = c.requires.held_rows;
@@ -22,7 +22,7 @@ pub load_ceilings-requires : goal.load_ceilings-requires
 load_ceilings-requires g c =
     let fit = told_fits c.args.task_count c.args.object_count c.args.held.now c.args.queues.now c.requires.fits in
     record {
-      none = rw (c.load_tasks.ensures.rest, c.set_running.ensures, c.set_now.ensures, c.requires.new);
+      none = rw (c.load_tasks.ensures.rest, c.set_running.ensures, c.set_now.ensures, c.clear.ensures);
       room = fit.objects;
       callable = c.requires.ceiling_callable;
     }
@@ -32,7 +32,7 @@ load_queues-requires g c =
     let fit = told_fits c.args.task_count c.args.object_count c.args.held.now c.args.queues.now c.requires.fits in
     record {
       levels =
-          rw (c.load_ceilings.ensures.rest, c.load_tasks.ensures.rest, c.set_running.ensures, c.set_now.ensures, c.requires.new);
+          rw (c.load_ceilings.ensures.rest, c.load_tasks.ensures.rest, c.set_running.ensures, c.set_now.ensures, c.clear.ensures);
       lengths = fit.queues;
       rows = c.requires.queue_rows;
     }
@@ -41,7 +41,7 @@ pub returns : goal.returns
 returns g c =
     let tasks = c.load_tasks.ensures in
     let ceilings = c.load_ceilings.ensures in
-    let new = c.args.memory.now in
+    let new = c.clear.new.self in
     let now = c.set_now.ensures in
     let who = c.set_running.ensures in
     record {

@@ -5,5 +5,5 @@ use Rattle.memory.proofs.Memory.pop.Goals as goal
 
 pub invariant_of-self : goal.invariant_of-self
 invariant_of-self c =
-    ready-became c.self.inside _ _ _ _ c.self.invariant (omega (arith, c.requires.level.low, c.requires.level.high))
+    ready-became c.self.inside _ _ _ _ c.self.invariant (omega (arith, c.requires.low, c.requires.high))
     c.put-self-inside.ensures c.len.ensures

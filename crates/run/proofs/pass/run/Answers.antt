@@ -1,7 +1,8 @@
 -- `run::pass::run` meets its contract.
-use Rattle.std.proofs.Common.{arith, ap, refl, sym, ◌∙◌}
+use Rattle.std.proofs.Common.{arith, ap, sym, ◌∙◌}
 use Rattle.std.proofs.lemmas.Result.{err_from_is_err_and}
 use Rattle.std.proofs.lemmas.List.Edits.{sets}
+use Rattle.format.proofs.FormedLaws.{tasks-few}
 use Rattle.format.proofs.PassedLaws.{passes-form}
 use Rattle.trace.specs.Inputs.{inputs_of}
 use Rattle.trace.specs.Run.{replies_of}
@@ -31,11 +32,10 @@ returns-then-buffer-events c =
     record { value = whole.0; buffer_after = whole.1 }
 
 pub new-scripts-requires : goal.new-scripts-requires
-new-scripts-requires c = passes-form c.args.roster.now (sym c.in_ok-check.ensures)
+new-scripts-requires c = tasks-few c.args.roster.now (passes-form c.args.roster.now (sym c.in_ok-check.ensures))
 
 pub new-machine-requires : goal.new-machine-requires
-new-machine-requires c =
-    record { passes = sym c.in_ok-check.ensures; scripts_read = c.new-scripts.ensures; blank = c.new-memory.ensures; starts = refl }
+new-machine-requires c = rw c.new-scripts.ensures (sym c.in_ok-check.ensures)
 
 pub pass-requires : goal.pass-requires
 pass-requires c = omega (arith, c.if-buffer-events.false)
@@ -45,7 +45,8 @@ unfolding replies_of
 returns c =
     let a = c.args in
     let passes = sym c.in_ok-check.ensures in
+    let machine = rw c.new-scripts.ensures at c.new-machine.ensures in
     let whole = run-done a.roster.now a.events.now a.buffer.now passes _ (sym c.if-not-events_good.ensures)
     (omega (arith, c.if-buffer-events.false))
-    (c.pass.ensures ∙ ap (λ (p : Run). sets a.buffer.now 0 (replies p (inputs_of a.events.now))) c.new-machine.ensures) in
+    (c.pass.ensures ∙ ap (λ (p : Run). sets a.buffer.now 0 (replies p (inputs_of a.events.now))) machine) in
     record { value = whole.0; buffer_after = whole.1 }
