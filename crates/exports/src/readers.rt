@@ -26,7 +26,7 @@ pub extern "C" fn dispatch_ceiling(roster: &[u8], object: u64) -> u64
 pub extern "C" fn dispatch_step_count(roster: &[u8], task: u64) -> u64
     ensures { result ≡ packed_count (count_found roster.now task) }
 {
-    pack_found(roster::step_count(roster, task as usize))
+    pack_found(roster::step_count(roster, task as usize).map(|n| n as u32))
 }
 
 // One step of a task's script, Finish at its end: 256 times its four bytes; or 11 to 16, then 1.

@@ -173,9 +173,14 @@ bit-part w i =
 part-le : (w i : ℕ) → bit_at w i * 2 ^ i ≤ w
 part-le w i = rw (bit-part w i) at (and_le_l w (2 ^ i))
 
-pub bit-cleared : (w i b : ℕ) → b ≡ 2 ^ i → i < word_bits → w < 2 ^ word_bits → bit_and w (2 ^ word_bits - 1 - b) ≡ with_bit w i 0
+-- one bit cleared: by taking it away, and by the mask of all others
+pub bit-cleared : (w i : ℕ) → w - bit_and w (2 ^ i) ≡ with_bit w i 0
 unfolding with_bit
-bit-cleared w i b e h f =
+bit-cleared w i = omega (arith, bit-part w i, zero-mul (2 ^ i))
+
+pub bit-masked : (w i b : ℕ) → b ≡ 2 ^ i → i < word_bits → w < 2 ^ word_bits → bit_and w (2 ^ word_bits - 1 - b) ≡ with_bit w i 0
+unfolding with_bit
+bit-masked w i b e h f =
     let part : bit_and b w ≡ bit_at w i * 2 ^ i = and_comm b w ∙ (ap (bit_and w) e ∙ bit-part w i) in
     let below : b < 2 ^ word_bits = omega (arith, pow-lt h) in
     omega (arith, part, and_comm w (2 ^ word_bits - 1 - b), and-not word_bits b w below f, zero-mul (2 ^ i))

@@ -1,11 +1,12 @@
 -- Laws of the ready queues in the memory: the word of marks follows a change of one, and its highest mark is the highest queue.
-use Rattle.std.proofs.Common.{◌≡◌, ℕ, ◌^◌, ◌<◌, List, [], length, get_or, set, replicate, ap, sym, ◌∙◌, arith}
+use Rattle.std.proofs.Common.{◌≡◌, ℕ, ◌^◌, ◌<◌, List, [], length, get_or, set, replicate, refl, ap, sym, ◌∙◌, arith}
 use Rattle.std.proofs.lemmas.List.{length-set, length-replicate, get_or-replicate, same_lists}
 use Rattle.rules.specs.Limits.{last_priority}
 use Rattle.rules.specs.Moves.{highest_to}
 use Rattle.marks.specs.Marks.{with_bit, highest_on, mark_for}
 use Rattle.marks.proofs.MarkLaws.{marks-fit, highest-same, marks-put}
-use Rattle.memory.specs.View.{Kept}
+use Rattle.rules.specs.Model.{with_ready}
+use Rattle.memory.specs.View.{view_of, Kept}
 use Rattle.memory.specs.declared.Memory.TheInside.{Inside}
 
 -- the memory with other queues and marks
@@ -38,6 +39,11 @@ ready-became a i w n q k h e f =
       next = record { each = k.next.each };
       delayed = record { each = k.delayed.each; tasks = k.delayed.tasks };
     }
+
+-- and it means the Model with that queue
+pub ready-view : (a : Inside) (i w : ℕ) (q : List ℕ) →
+    view_of (with_queues a (set a.queues i q) w) ≡ with_ready (view_of a) (set a.queues i q)
+ready-view a i w q = refl
 
 -- the word fits its bits, and its highest mark is the highest queue
 pub marks-small : (a : Inside) → Kept a → a.marks < 2 ^ last_priority

@@ -121,6 +121,10 @@ next-law a k v w b n =
       delayed = record { each = n.each; tasks = n.tasks };
     }
 
+-- .. and neither is part of what the memory means
+pub next-view : (a : Inside) (v w : ℕ) → view_of (with_slots a a.slots v w) ≡ view_of a
+next-view a v w = refl
+
 -- a memory that means m: one of its slots is read, or replaced
 module _ (a : Inside) (m : Model) (e : view_of a ≡ m) (t : ℕ) (h : t < length m.tasks) where
   there : t < length (view_of a).tasks

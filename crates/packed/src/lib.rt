@@ -2,7 +2,7 @@
 // what a reader of a roster finds.
 #![tactic(auto)]
 
-ghost use Rattle.std.specs.Prelude.{◌≡◌, ℕ, ◌<◌, ◌≤◌, IfOk};
+ghost use Rattle.std.specs.Prelude.{◌≡◌, ℕ, ◌≤◌};
 ghost use Rattle.packed.specs.Packed.{last_position, packed, packed_found, step_word, word_of};
 
 use format::{Fault, Placed, Step};
@@ -21,30 +21,30 @@ pub fn pack<A: Placed + Copy>(answer: A) -> u64
 pub trait Word {
     ghost word: { Self → ℕ };
 
-    fn word(self) -> u64
+    fn word(self) -> u32
         ensures { result ≡ word self };
 }
 
 impl Word for Priority {
     ghost word = { λ p. p.0 };
 
-    fn word(self) -> u64 {
-        self.0 as u64
+    fn word(self) -> u32 {
+        self.0 as u32
     }
 }
 
-impl Word for usize {
+impl Word for u32 {
     ghost word = { λ n. n };
 
-    fn word(self) -> u64 {
-        self as u64
+    fn word(self) -> u32 {
+        self
     }
 }
 
 impl Word for Step {
     ghost word = { word_of };
 
-    fn word(self) -> u64 {
+    fn word(self) -> u32 {
         match self {
             Step::Enter(o) => step_word(Step::ENTER, o, 0),
             Step::Leave(o) => step_word(Step::LEAVE, o, 0),
@@ -59,19 +59,18 @@ impl Word for Step {
     }
 }
 
-fn step_word(code: u8, a: u8, b: u16) -> u64
+fn step_word(code: u8, a: u8, b: u16) -> u32
     ensures { result ≡ step_word code a b }
 {
-    code as u64 + 256 * (a as u64) + 65536 * (b as u64)
+    code as u32 + 256 * (a as u32) + 65536 * (b as u32)
 }
 
 // 256 times what is found, or the number of the refusal.
 pub fn pack_found<T: Word>(found: Result<T, Fault>) -> u64
-    requires { IfOk found (λ x. T.word x < 4294967296) }
     ensures { result ≡ packed_found T.word found }
 {
     match found {
-        Ok(x) => 256 * x.word(),
+        Ok(x) => 256 * u64::from(x.word()),
         Err(fault) => fault.number() as u64,
     }
 }
