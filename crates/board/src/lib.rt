@@ -48,12 +48,14 @@ pub enum FillError {
 pub type FillAnswer = Result<(), FillError>;
 
 // What `fill_first` hands back: the answer, and the rows after it.
+// The rows stand beside the answer and not in its Ok, since a refusal hands them back as they came (fill_first_of).
 #[derive(Clone, Copy)]
 pub struct Filled {
     pub answer: FillAnswer,
     pub rows: [Row; ROW_LIMIT],
 }
 
+// By cases: each takes its number from the rules' table; a discriminant here would say the number a second time.
 impl Numbered for NextError {
     ghost number = { next_number };
 
@@ -65,6 +67,7 @@ impl Numbered for NextError {
     }
 }
 
+// By cases: each takes its number from the rules' table; a discriminant here would say the number a second time.
 impl Numbered for FillError {
     ghost number = { unfilled_number };
 

@@ -54,7 +54,8 @@ fn put_rows(board: &mut [u8], rows: &[Row])
     }
 }
 
-// How many of n rows are lent: no more than there can be tasks. As an if, which its edit turns into another meaning and not a name.
+// How many of n rows are lent: no more than there can be tasks. As an if and no min: the edit few_rows_lent is about boards past the
+// limit alone, which min cannot say.
 fn lent(n: usize) -> usize
     ensures { result ≡ lent_of n }
 {
@@ -62,6 +63,7 @@ fn lent(n: usize) -> usize
 }
 
 // Writes the first rows of the board, one for each task of the state, or nothing.
+// The answers here are numbers and no enum: the exported functions hand them to C as they are.
 pub fn fill(bytes: &[u8], board: &mut [u8]) -> u8
     ensures value { result ≡ fill_answer bytes.now board.old }
     ensures board_after { board.new ≡ filled_bytes bytes.now board.old }

@@ -15,6 +15,7 @@ use rules::{Roster, Task};
 use words::put;
 
 // Who writes says how a record is read: from an array in one place and from the engine's memory in another.
+// The bytes are no array of STATE_SIZE: a caller's buffer may be longer, and its rest stays as it is (with_state).
 pub fn put_front<T: Fn(usize) -> Task>(
     bytes: &mut [u8],
     head: Head,

@@ -41,6 +41,7 @@ pub fn row_in_range(row: &[u8; TASK_SIZE]) -> bool
     PlaceKind::try_from(row[KIND]).is_ok() && row[WAITS] <= 1 && row[PERMIT] <= 1
 }
 
+// By cases: one place alone has a due time; the 0 of the others is the layout's (due_of in specs/).
 fn due_of(place: Place) -> u64
     ensures { result ≡ due_of place }
 {

@@ -13,6 +13,7 @@ pub const OBJECT_COUNT_AT: usize = 10;
 
 pub const MARKS_AT: usize = 12;
 
+// A byte of the layout that callers in C and Ada have; in the code nobody is None.
 pub const NOBODY: u8 = 255;
 
 // A task row: due time, place kind, base, whether a base waits, that base, permit.

@@ -12,6 +12,7 @@ use rules::{Answer, Priority, Report, Roster, Task};
 
 // All fields are public: whatever a caller hands in gets an answer. Cells past a count or past a row's length are no part of it.
 // Bit p - 1 of the marks is on exactly where the ready queue for p is not empty; otherwise the state is unsound.
+// Arrays with counts and rows beside: callers have this layout (docs/LAYOUT.md), and any bytes of it get an answer.
 #[derive(Clone, Copy)]
 pub struct State {
     pub now: u64,
@@ -26,6 +27,7 @@ pub struct State {
 }
 
 // What an event gives back.
+// A state beside the answer and no Result: a refusal hands the state back too.
 #[derive(Clone, Copy)]
 pub struct Stepped {
     pub answer: Answer,
@@ -34,6 +36,7 @@ pub struct Stepped {
 }
 
 // What a fresh start gives back: it is no event, so it has no report.
+// A state beside the answer and no Result, here too.
 #[derive(Clone, Copy)]
 pub struct Started {
     pub answer: Answer,

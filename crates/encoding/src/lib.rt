@@ -26,6 +26,7 @@ impl From<Fault> for WriteError {
     }
 }
 
+// By hand: a fault keeps its own number, so the cases have no discriminants.
 impl Numbered for WriteError {
     ghost number = { error_number };
 
@@ -37,6 +38,7 @@ impl Numbered for WriteError {
     }
 }
 
+// By hand: a fault keeps its own place, and a short buffer is at 0, 0; no derive gives it.
 impl Placed for WriteError {
     ghost task = { error_task };
 

@@ -16,6 +16,7 @@ pub fn apply(memory: &mut Memory, event: Event) -> Ruling
     ensures did { Did memory.new result (apply memory.old event) }
     ensures kept { sound memory.new ≡ true }
 {
+    // One match, in the one place for events: their operands differ, so that a table of closures is no plainer.
     match event {
         Event::Enter(o) => events::enter(memory, o),
         Event::Leave(o) => events::leave(memory, o),

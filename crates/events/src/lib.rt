@@ -1,5 +1,6 @@
 // Internal: pub only for our own crates. The nine events, as in specs/Events.antt of crate rules, on the engine's memory. Each may assume
 // that the memory means a sound Model, and leaves a sound one.
+// `sound` is a clause and no type: between the moves of an event the memory is not sound. Each `Did` is of another event.
 #![tactic(auto)]
 
 ghost use Rattle.std.specs.Prelude.{◌≡◌, true};

@@ -1,4 +1,4 @@
-// A board in lent bytes, three for each row: place kind, active priority, position. Crate rows has the numbers of the kinds.
+// A board in lent bytes, three for each row: place kind, active priority, position. Crate rules has the numbers of the kinds.
 ghost use Rattle.std.specs.Prelude.{◌≡◌};
 ghost use Rattle.board_bytes.specs.Boards.{fill_answer, filled_bytes, next_number};
 

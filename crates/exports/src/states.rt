@@ -25,6 +25,7 @@ pub extern "C" fn dispatch_fresh(bases: &[u8], ceilings: &[u8], state: &mut [u8]
 
 // Each event: the number of its answer, and that of its report where it is lent room for it. With the answer 0 the bytes are the next
 // state's, with any other they stay as they are and the report is 0.
+// Nine functions alike: each is a name that C has, and no macro may write functions here.
 #[unsafe(no_mangle)]
 pub extern "C" fn dispatch_enter(state: &mut [u8], object: u64, report: &mut u8) -> u8
     ensures value { result ≡ event_number state.old (Enter object) }

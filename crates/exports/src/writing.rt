@@ -8,6 +8,7 @@ use packed::pack;
 use writer::Parts;
 
 // Writes the file at the front of the buffer, or nothing, and answers: number, 256 times the task, 65536 times the step.
+// The parts come one by one, since the C interface has them so; inside they are one Parts.
 #[unsafe(no_mangle)]
 pub extern "C" fn dispatch_write(
     bases: &[u8],

@@ -20,6 +20,7 @@ pub fn trailer_of(s: &[u8]) -> usize
     s.len().saturating_sub(File::TRAILER)
 }
 
+// A line for each field of the trailer and of a row: a const parameter for its place would name the place and no more.
 #[tactic(auto, unfolding(format::specs::Format::task_count, format::specs::Format::trailer))]
 pub fn task_count(s: &[u8]) -> u8
     ensures { result ≡ task_count s.now }

@@ -18,6 +18,7 @@ fn set_step(a: u8, b: u16) -> Step
 }
 
 // The step of four bytes; Finish where they are none.
+// A match and no TryFrom: a step is made of three numbers, and bytes that are none read as Finish.
 #[tactic(auto, unfolding(format::specs::Steps::step_of))]
 pub fn step_of(code: u8, a: u8, b: u16) -> Step
     ensures { result ≡ step_of code a b }

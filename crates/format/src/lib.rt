@@ -78,6 +78,7 @@ pub enum Fault {
 // What the form, the check and a reader answer.
 pub type Verdict = Result<(), Fault>;
 
+// By hand: cases with a place have no discriminants, and the numbers, with their gaps, are the scope's.
 impl Numbered for Fault {
     ghost number = { fault_number };
 
@@ -112,6 +113,7 @@ pub trait Placed: Numbered {
         ensures { result ≡ position self };
 }
 
+// By hand: no derive tells which faults have a place; the arms are those of fault_task and fault_position.
 impl Placed for Fault {
     ghost task = { fault_task };
 
@@ -140,7 +142,7 @@ impl Placed for Fault {
     }
 }
 
-// Ok is at 0, 0.
+// Ok is at 0, 0. A match, as number_by is one: err().map_or(0, ..) says no more, and takes a closure for each.
 impl<E: Placed> Placed for Result<(), E> {
     ghost task = { number_by E.task };
 

@@ -71,6 +71,7 @@ pub fn input_at(s: &[u8], i: usize) -> Input
     }
     let a = s[at + 1];
     let value = number_in(s, at) >> 16;
+    // A match and no TryFrom: an event is made of three fields, and a bad record reads as a Step.
     match kind {
         CLOCK if a == 0 => Input::Clock(value),
         RELEASE if value == 0 => Input::Release(a),

@@ -15,6 +15,7 @@ use words::long_at;
 fn loaded(bytes: &[u8], memory: &mut Memory) -> bool
     ensures { cond result (Some memory.new) None ≡ loaded_from bytes.now }
 {
+    // A flag: an Option of a memory was tried, is copied on its way back, and passes the stack of docs/INTEGRATION.md.
     if !loadable(bytes) {
         return false;
     }
@@ -23,6 +24,7 @@ fn loaded(bytes: &[u8], memory: &mut Memory) -> bool
 }
 
 // The state goes on by an event: its bytes are written anew, unless the event is refused. The report is written each time.
+// The answers here are numbers and no enum: they and the byte of who runs are what the exported functions hand to C.
 pub fn apply(bytes: &mut [u8], event: Event, report: &mut u8) -> u8
     ensures value { result ≡ event_number bytes.old event }
     ensures bytes_after { bytes.new ≡ event_bytes bytes.old event }

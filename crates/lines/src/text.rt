@@ -12,6 +12,7 @@ use trace::sizes::{NOBODY, REPLY_SIZE};
 use trace::{RunAnswer, RunError};
 
 // The numbers whose place is printed.
+// By number, as has_place of specs/ says it; the edit place_beside_15 is of this constant.
 const FIRST_PLACED: u8 = 16;
 
 const LAST_PLACED: u8 = 20;

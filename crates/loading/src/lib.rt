@@ -29,6 +29,7 @@ fn lengths_good(cells: &[u8], width: usize, n: usize) -> bool
 }
 
 // The counts of tasks and objects are in range, and so are the lengths in the rows that they reach.
+// The parts one by one: a State has them as fields, its bytes as slices, and a struct would be made for two calls.
 pub fn sizes_fit(tasks: u8, objects: u8, held: &[u8], queues: &[u8]) -> bool
     requires held_width_in_bounds { task_limit * held_width ≤ length held.now }
     requires queue_width_in_bounds { last_priority * queue_width ≤ length queues.now }
@@ -112,6 +113,7 @@ pub fn load<T: Fn(usize) -> Task, C: Fn(usize) -> Priority>(
 }
 
 // The row of what each task holds, an empty one for a number that is no task's.
+// Beside store_queues: the rows differ in width, in what is asked of the memory and in the clause.
 pub fn store_held(memory: &Memory, held: &mut [u8])
     requires tasks { length memory.now.tasks ≤ task_limit }
     requires rows { length held.old ≡ task_limit * held_width }

@@ -12,6 +12,7 @@ use rules::Priority;
 pub const BITS: usize = u64::BITS as usize;
 
 // The highest priority whose mark is on, or 0: no queue is walked.
+// 0 and no Option where none is on: the clause says `highest_on`, and a dispatch compares it as it is.
 pub fn highest(word: u32) -> Priority
     ensures { result.0 ≡ highest_on word last_priority }
 {
@@ -33,6 +34,7 @@ fn bit(i: usize) -> u64
     1u64 << i
 }
 
+// Two functions, since one with a flag branches on the path of each event.
 pub fn with_bit(word: u64, i: usize) -> u64
     requires { i < word_bits }
     ensures { result ≡ with_bit word i 1 }

@@ -30,6 +30,7 @@ pub struct Slot {
 
 // Who runs, the records, the ceilings and the ready queues, and beside them, so that an event looks at no more than it has to: a word of
 // marks for the queues, a reading before which no delayed task is due, and a word in which the bit of every delayed task is on.
+// Counts beside arrays, since there is no heap; `Kept` says that they are within them.
 #[derive(Drop)]
 pub struct Memory {
     now: u64,

@@ -11,6 +11,7 @@ use crate::Memory;
 use rules::{Priority, Roster};
 
 // The ceiling of an object; 0 for one that is not listed.
+// 0 and no Option: the rules' `ceiling_of` says 0.
 pub fn ceiling_of(ceilings: &[Priority], o: u8) -> Priority
     ensures { result.0 ≡ ceiling_of (map level ceilings.now) o }
 {
@@ -121,6 +122,7 @@ impl Memory {
     }
 
     // The active priority of any number; 0 where there is no such task.
+    // 0 and no Option: the rules' `active` says 0.
     pub fn active(&self, t: u8) -> Priority
         ensures { result.0 ≡ active self.entry.now t }
     {

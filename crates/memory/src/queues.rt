@@ -23,6 +23,7 @@ pub fn empty(queues: &mut [Row<{ Roster::TASKS }>; PRIORITIES])
 
 impl Memory {
     // The ready queue for p.
+    // `HasQueue` is a clause and no type, here and below: a Priority's field is public, and an event refuses one out of range.
     pub fn queue(&self, p: Priority) -> &[u8]
         requires { HasQueue p.0 }
         ensures value { result.now ≡ queue self.entry.now p.0 }
@@ -48,12 +49,14 @@ impl Memory {
     }
 
     // The highest priority whose queue holds a task, or 0: read off the marks.
+    // 0 and no Option: the rules' `highest` says 0.
     pub fn highest(&self) -> Priority
         ensures { result.0 ≡ highest self.entry.now }
     {
         marks::highest(self.marks as u32)
     }
 
+    // Four changes, not one that is told its change by a closure: its clause could say no more than the closure's.
     pub fn push_tail(&mut self, p: Priority, t: u8)
         requires level { HasQueue p.0 }
         requires room { length (queue self.old p.0) < task_limit }

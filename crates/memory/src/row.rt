@@ -5,6 +5,7 @@ ghost use Rattle.memory.specs.Rows.{in_row, row_for, cut_at};
 
 use std::marker::Model;
 
+// Cells and a length: there is no heap, and std has no such list.
 #[derive(Drop)]
 pub struct Row<const N: usize> {
     len: u8,

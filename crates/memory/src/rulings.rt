@@ -7,6 +7,7 @@ use rules::{Answer, Refusal, Report};
 
 // Accepted, with one of the three reports, or refused, with one of the nine answers of the table. Its number is the answer's, and sixteen
 // times the report's, so that both are read without a jump; and it has no parts, since those would be handed back through memory.
+// So it is an enum of its own and no Result of a report and a refusal.
 #[derive(Clone, Copy, PartialEq, Eq)]
 pub enum Ruling {
     Unchanged = 0,
@@ -41,6 +42,7 @@ impl Ruling {
         self as u8 / UNIT
     }
 
+    // A method and no From: one ruling is read in two ways, and the arms would be the same.
     pub fn answer(self) -> Answer
         ensures { result ≡ answer_in self }
     {

@@ -13,6 +13,7 @@ pub const LONGEST_ADVANCE: u64 = 86400000;
 pub const LAST_DELAY: u64 = 65535;
 
 // The rows of a state's held lists and ready queues: a row's first cell is the length of its list.
+// They are widths of rows, since callers in C and Ada have this layout of a state (docs/LAYOUT.md).
 pub const QUEUE_WIDTH: usize = Roster::TASKS + 1;
 
 pub const HELD_WIDTH: usize = Roster::OBJECTS + 1;
@@ -23,4 +24,5 @@ pub const HELD_CELLS: usize = Roster::TASKS * HELD_WIDTH;
 pub const QUEUE_CELLS: usize = PRIORITIES * QUEUE_WIDTH;
 
 // The bound of due times where no task is delayed: past every reading.
+// A number and no Option: `later_due` says it, and a Clock compares it with its reading as it is.
 pub const NO_DUE: u64 = u64::MAX;

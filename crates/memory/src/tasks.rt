@@ -8,6 +8,7 @@ ghost use Rattle.memory.specs.Memory.{record_of, waiting_in, task_for};
 use crate::{Memory, Row, Slot};
 use rules::{Place, Priority, Roster, Task};
 
+// That t is a task is a clause and no type: it is a fact of the number and the memory, and no value keeps both.
 impl Memory {
     pub fn task_count(&self) -> u8
         ensures value { result ≡ length self.entry.now.tasks }
@@ -80,6 +81,7 @@ impl Memory {
         }
     }
 
+    // A setter for each field, as the rules have (`with_base` ..).
     pub fn set_base(&mut self, t: u8, base: Priority)
         requires { t < length self.old.tasks }
         ensures { self.new ≡ with_task self.old t (with_base (task_at self.old t) base.0) }

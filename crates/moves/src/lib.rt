@@ -13,6 +13,7 @@ pub mod effects;
 pub mod waking;
 
 // The task t, which holds nothing, becomes ready, at the tail of the queue for its base.
+// What a move needs (specs/Room) is a clause and no type: it holds at one point of an event, and no value keeps it.
 pub fn become_ready(memory: &mut Memory, t: u8)
     requires { Arrives memory.old t }
     ensures { memory.new ≡ become_ready memory.old t }
@@ -47,6 +48,7 @@ pub fn start(memory: &mut Memory, p: Priority)
 }
 
 // The active priority of the running task; 0, which is below every queue's, where nobody runs.
+// 0 and no Option: `level_of` says 0, and one comparison tells a dispatch.
 fn level(memory: &Memory) -> Priority
     requires { Dispatches memory.now }
     ensures { result.0 ≡ level_of memory.entry.now }

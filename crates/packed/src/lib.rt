@@ -18,6 +18,7 @@ pub fn pack<A: Placed + Copy>(answer: A) -> u64
 }
 
 // What a reader finds, in one number.
+// A trait of its own and no Into: an impl of From for u32 here would have neither its trait nor a type of this crate.
 pub trait Word {
     ghost word: { Self → ℕ };
 
@@ -41,6 +42,7 @@ impl Word for u32 {
     }
 }
 
+// By cases: each step packs its own operands, and Finish, which no script has, is 0 (word_of).
 impl Word for Step {
     ghost word = { word_of };
 

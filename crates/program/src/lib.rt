@@ -26,6 +26,7 @@ const BUFFER_SIZE: usize = 65536;
 const LONGEST_REST: usize = 1073741824;
 
 // One read into the buffer from the place `at` on.
+// Apart from the loop, so that one read has clauses of its own; no other function here has a buffer and a place.
 fn read_at<R: Read>(input: &mut R, buffer: &mut [u8], at: usize) -> io::Result<usize>
     requires { at < length buffer.old }
     ensures front { take at buffer.new ≡ take at buffer.old }
@@ -42,6 +43,7 @@ fn read_to_end<'a, R: Read>(input: &mut R, buffer: &'a mut [u8]) -> &'a [u8]
     ensures whole { length result.now < length buffer.old → IfSome (R.remaining input.old) (λ bytes. result.now ≡ bytes) }
 {
     let mut done: usize = 0;
+    // A while: each read says how far it came, so there is no count to go over.
     while done < buffer.len() {
         let Ok(n) = read_at(input, buffer, done) else {
             return buffer;
@@ -72,6 +74,7 @@ fn skip_some(input: &mut impl Read) -> usize
 
 fn skip_rest(input: &mut impl Read) {
     let mut skipped: usize = 0;
+    // A while, for the same: how much a read skips is known after it.
     while skipped < LONGEST_REST {
         let n = skip_some(input);
         if n == 0 {

@@ -15,6 +15,7 @@ use trace::sizes::{EVENT_SIZE, REPLY_SIZE};
 fn replies_written(answer: RunAnswer, events: &[u8]) -> usize
     ensures { result ≡ cond (ran answer) (reply_size * event_count events.now) 0 }
 {
+    // A match: map_or(0, ..) would name the refused run first and put the product into a closure, no plainer.
     match answer {
         Ok(()) => REPLY_SIZE * (events.len() / EVENT_SIZE),
         Err(_) => 0,

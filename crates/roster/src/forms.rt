@@ -96,6 +96,7 @@ fn object_row_good(s: &[u8], o: u8) -> bool
 }
 
 // 15, of the task table.
+// Two tests of a table, a line each: one function of both would be handed the count and the test, which is all of it.
 fn task_rows_good(s: &[u8]) -> bool
     ensures { result ≡ below (task_count s.now) (task_row_good s.now) }
 {

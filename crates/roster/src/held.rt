@@ -9,6 +9,7 @@ use format::Step;
 use rules::{Priority, Roster};
 use std::marker::Model;
 
+// Not memory::Row, which is such a list too: the crates of a roster know nothing of the engine's (crates.txt).
 #[derive(Drop)]
 pub struct Held {
     depth: usize,

@@ -18,6 +18,7 @@ pub fn base(roster: &[u8], t: usize) -> Result<Priority, Fault>
 }
 
 // An object that is listed: 11 to 16, then 2.
+// Beside listed_task: count, fault and the definition in the clause differ, and what is common is the call of form.
 #[tactic(auto, unfolding(format::specs::Readers::object_answer))]
 fn listed_object(roster: &[u8], o: usize) -> Result<u8, Fault>
     ensures { MatchResult result (λ u. (u ≡ o) × (object_answer roster.now o ≡ Ok tt)) (λ e. object_answer roster.now o ≡ Err e) }

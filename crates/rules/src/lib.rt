@@ -68,6 +68,7 @@ impl Priority {
 }
 
 // The default under a promise, which a constant does not have; the other three are pinned by `checked` and `subrange`.
+// By hand: a derive would give the default of a u8, 0.
 impl Default for Priority {
     ghost is_default = { λ p. p ≡ default_of };
 
@@ -87,6 +88,7 @@ pub enum Place {
 }
 
 impl Place {
+    // Written out: no derive leaves out a case's operand.
     pub fn kind(self) -> PlaceKind
         ensures { result ≡ kind_of self }
     {
@@ -101,6 +103,7 @@ impl Place {
 }
 
 // Where a task is, without its due time: the number of each is its byte in a state and on a board.
+// An enum beside Place: a case with an operand, as Delayed has, has no discriminant.
 #[derive(Clone, Copy, PartialEq, Eq)]
 pub enum PlaceKind {
     Running = 0,
@@ -112,6 +115,7 @@ pub enum PlaceKind {
 
 impl PlaceKind {
     // The place of this kind; a delayed task's has its due time.
+    // Written out, and no From: it takes two values.
     pub fn place(self, due: u64) -> Place
         ensures { result ≡ place_of self due }
     {
@@ -137,6 +141,7 @@ impl From<PlaceKind> for u8 {
     }
 }
 
+// Written out: no derive makes a kind of its number.
 impl TryFrom<u8> for PlaceKind {
     type Error = NoSuchKind;
 
@@ -223,7 +228,7 @@ impl Numbered for Refusal {
     }
 }
 
-// Done is 0.
+// Done is 0: the table of the papers has it (`number_by`).
 impl<T: Drop, E: Numbered> Numbered for Result<T, E> {
     ghost number = { number_by E.number };
 

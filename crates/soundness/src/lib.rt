@@ -49,6 +49,7 @@ fn all_below(held: &[u8], n: u8) -> bool
 fn due_good(now: u64, place: Place) -> bool
     ensures { result ≡ due_good now place }
 {
+    // Who is not delayed has no due time: `true` is another answer than the test's, so no `matches!`.
     match place {
         Place::Delayed(due) => now < due && due - now <= LAST_DELAY,
         _ => true,
@@ -118,6 +119,7 @@ fn record_good(memory: &Memory, t: u8) -> bool
 }
 
 // t is in one place.
+// `sizes_good` and `Counted` are clauses: `head_good` tests the one, and the other changes with each queue.
 fn one_place(memory: &Memory, counts: &[u16; Roster::TASKS], t: u8) -> bool
     requires sizes { sizes_good memory.now ≡ true }
     requires there { t < length memory.now.tasks }

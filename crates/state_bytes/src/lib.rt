@@ -59,6 +59,7 @@ pub fn write(state: State, bytes: &mut [u8])
     if bytes.len() < STATE_SIZE {
         return;
     }
+    // By hand: a Head is made of a State here alone, and no From is plainer than its fields.
     let head = Head {
         now: state.now,
         running: state.running,

@@ -15,6 +15,7 @@ pub use limits::Limits;
 use rules::Priority;
 
 // A step, and zeros in its unused operands.
+// Arms with true and false: which operands a step leaves unused is another thing for each, and no equality.
 #[tactic(auto, unfolding(format::specs::Form::is_step, format::specs::Form::unused_zero))]
 fn operands_good(a: u8, b: u16, x: Step) -> bool
     ensures { result ≡ (is_step x && unused_zero a b x) }
@@ -28,6 +29,7 @@ fn operands_good(a: u8, b: u16, x: Step) -> bool
     }
 }
 
+// The last arm is true, since the other steps name nothing: the bounds before it are not a pattern.
 #[tactic(auto, unfolding(format::specs::Form::names_listed))]
 fn names_listed(tasks: u8, objects: u8, x: Step) -> bool
     ensures { result ≡ names_listed tasks objects x }
@@ -39,6 +41,7 @@ fn names_listed(tasks: u8, objects: u8, x: Step) -> bool
     }
 }
 
+// The arms of the definition: last || !matches!(x, Step::Again) would say it the other way about, no plainer.
 #[tactic(auto, unfolding(format::specs::Form::stands_right))]
 fn stands_right(last: bool, x: Step) -> bool
     ensures { result ≡ stands_right last x }

@@ -38,6 +38,7 @@ impl From<Fault> for RunError {
     }
 }
 
+// By hand: a fault keeps its own number, so the cases have no discriminants.
 impl Numbered for RunError {
     ghost number = { error_number };
 
@@ -50,7 +51,7 @@ impl Numbered for RunError {
     }
 }
 
-// Bad events and a short buffer are at 0, 0.
+// By hand: a fault keeps its own place, and bad events and a short buffer are at 0, 0; no derive gives it.
 impl Placed for RunError {
     ghost task = { error_task };
 

@@ -14,4 +14,5 @@ pub const SET: u8 = 4;
 
 pub const REPLY_SIZE: usize = 3;
 
+// A byte of a reply, which the format of a run lays down; in the code nobody is None.
 pub const NOBODY: u8 = 255;

@@ -30,6 +30,7 @@ pub fn perform(memory: &mut Memory, x: Step) -> Ruling
     }
 }
 
+// No conversion: a step leaves a position in one of three ways, and 0 is where its script starts.
 #[tactic(auto, unfolding(trace::specs::Config::position_after))]
 pub fn position_after(k: u16, x: Step) -> u16
     requires { position_after k x < 65536 }

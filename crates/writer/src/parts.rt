@@ -13,6 +13,7 @@ use rules::{Priority, Roster};
 use step_form::{Limits, steps_form};
 
 // Bases, ceilings, how many steps each task has, and all the steps, 4 bytes each, task after task.
+// Bases and lengths are two lists side by side, since C and Ada lend them so (dispatch_write); nothing is copied.
 #[derive(Clone, Copy)]
 pub struct Parts<'a> {
     pub bases: &'a [u8],
@@ -22,6 +23,7 @@ pub struct Parts<'a> {
 }
 
 // How many steps the lengths make.
+// Of the one list that it adds up: as a method of Parts it would be lent three slices more than it reads.
 fn total(lengths: &[u16]) -> usize
     requires { length lengths.now ≤ task_limit }
     ensures value { result ≡ steps_before lengths.now (length lengths.now) }

@@ -27,6 +27,7 @@ fn write_task(base: u8, start: u16, size: u16, row: &mut [u8])
 }
 
 // The task table.
+// Of the two lists that a row is made of, as task_row_bytes has them: the tables know nothing of the parts around them.
 pub fn write_tasks(bases: &[u8], lengths: &[u16], table: &mut [u8])
     requires bases_len_bound { length bases.now ≤ task_limit }
     requires lengths_len { length lengths.now ≡ length bases.now }
