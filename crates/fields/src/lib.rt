@@ -108,6 +108,17 @@ pub fn ceiling_of(s: &[u8], o: u8) -> Priority
     }
 }
 
+// The bases, in the first cells. Beside read_ceilings: one function of both would take what it reads as a closure, and its proof with it.
+#[tactic(auto, using(format::proofs::FormatLaws::read_laws))]
+pub fn read_bases(s: &[u8], bases: &mut [u8])
+    requires { task_count s.now ≤ length bases.old }
+    ensures { take (task_count s.now) bases.new ≡ (roster_of s.now).bases }
+{
+    for t in 0..task_count(s) {
+        bases[t as usize] = base_of(s, t).0;
+    }
+}
+
 // The ceilings, in the first cells.
 #[tactic(auto, using(format::proofs::FormatLaws::read_laws))]
 pub fn read_ceilings(s: &[u8], ceilings: &mut [u8])

@@ -64,4 +64,4 @@ module _ (s : List ℕ) where
   length-read t table n e f = f ∙ ap (λ (x : ℕ). word_at s (x + task_row_size * t + 4)) e
 
 -- for a reader's proof: what is listed, and what is not
-pub ruleset read_laws = (common_steps, base-listed, base-unlisted, ceiling-listed, ceiling-unlisted, ceiling-count)
+pub ruleset read_laws = (common_steps, base-listed, base-unlisted, base-count, ceiling-listed, ceiling-unlisted, ceiling-count)

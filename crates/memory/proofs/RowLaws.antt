@@ -2,9 +2,10 @@
 use Rattle.std.proofs.Common.{◌≡◌, ◌==◌, List, [], ◌∷◌, Bool, true, false, cond, not, ℕ, suc, ◌+◌, ◌-◌, ◌≤◌, ◌<◌, length, take, drop}
 use Rattle.std.proofs.Common.{get_or, set, replicate, position, Some, None, refl, ap, sym, ◌∙◌, arith, rules, append-nil, add-one}
 use Rattle.std.proofs.Common.{length-drop}
+use Rattle.std.proofs.lemmas.List.{drop-replicate}
 use native.Mathlib.Numerals.{one-add}
 use Rattle.std.specs.List.{position_or_len, copy_within}
-use Rattle.std.proofs.lemmas.List.{take_all, drop_all, take-take, drop-take, take_at, drop_at}
+use Rattle.std.proofs.lemmas.List.{take_all, drop_all, take-take, drop-take}
 use Rattle.std.proofs.lemmas.List.Edits.{take-paste}
 use Rattle.rules.specs.Lists.{without}
 use borrow.Rule.Slice.PartMut.{put_mid}
@@ -49,11 +50,16 @@ unfolding in_row
 in_row-take [] = refl
 in_row-take (n ∷ l) = refl
 
--- bytes once the length, the list and the zeros have been written over them
-pub row-written : (b l zs : List ℕ) (n : ℕ) → n < length b → length l ≡ n → zs ≡ replicate (length b - (n + 1)) 0 →
-    put_mid (n + 1) (length b - (n + 1)) (put_mid 1 n (set b 0 n) l) zs ≡ row_for (length b) l
+-- zeros once the length and the list have been written over them
+pub row-written : (w n : ℕ) (zs l : List ℕ) → zs ≡ replicate (suc w) 0 → length l ≡ n →
+    put_mid 1 (n + 1 - 1) (set zs 0 n) l ≡ row_for (suc w) l
 unfolding row_for
-row-written [] l zs n h e f = absurd (omega arith)
-row-written (x ∷ b) l zs n h e f =
-    let k : length (drop n b) ≤ suc (length b) - suc n = omega (arith, length-drop n b) in
-    rw (f, add-one, take_at l (drop n b) n e, drop_at l (drop n b) n e, drop_all (suc (length b) - suc n) (drop n b) k, append-nil, e) refl
+row-written w n zs l e f =
+    let k : n + 1 - 1 ≡ n = omega arith in
+    let m : suc w - suc n ≡ w - n = omega arith in
+    rw (e, k, drop-replicate {X = ℕ} n w 0, f, m) refl
+
+pub row_empty : (w n : ℕ) (zs l : List ℕ) → zs ≡ replicate (suc w) 0 → length l ≡ n → n ≤ 0 → set zs 0 n ≡ row_for (suc w) l
+unfolding row_for
+row_empty w n zs [] e f h = let m : suc w - 1 ≡ w = omega arith in rw (e, sym f, m) refl
+row_empty w n zs (x ∷ l) e f h = absurd (omega (arith, f))

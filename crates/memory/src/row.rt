@@ -119,15 +119,17 @@ impl<const N: usize> Row<N> {
         row
     }
 
-    // A row of bytes for the list: its length, its elements, and then zeros.
+    // A row of bytes for the list: its length, its elements, and then zeros. Most lists are empty: no copy is called for these.
     pub fn write(&self, bytes: &mut [u8])
         requires width { length bytes.old ≡ suc N }
         ensures { bytes.new ≡ row_for (suc N) self.now }
     {
-        let n = self.len as usize;
+        bytes.fill(0);
         bytes[0] = self.len;
-        bytes[1..n + 1].copy_from_slice(&self.cells[..n]);
-        bytes[n + 1..].fill(0);
+        if self.len > 0 {
+            let n = self.len as usize;
+            bytes[1..n + 1].copy_from_slice(&self.cells[..n]);
+        }
     }
 }
 

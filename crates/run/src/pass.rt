@@ -3,7 +3,8 @@ ghost use Rattle.std.specs.Prelude.{◌≡◌, ◌*◌, ◌≤◌, length};
 ghost use Rattle.std.proofs.lemmas.List.Edits.{sets};
 ghost use Rattle.trace.specs.Limits.{reply_size};
 ghost use Rattle.trace.specs.Inputs.{event_count, inputs_of};
-ghost use Rattle.trace.specs.Run.{answer_of, buffer_of};
+ghost use Rattle.format.specs.Check.{Passes};
+ghost use Rattle.trace.specs.Run.{answer_of, replies_of, buffer_of};
 ghost use Rattle.turns.specs.Run.{replies};
 
 use inputs::{events_good, input_at};
@@ -29,6 +30,19 @@ fn pass(machine: &mut Machine, events: &[u8], buffer: &mut [u8])
     }
 }
 
+// A run that nothing refuses. Apart from the tests, since a function clears all that it keeps at its start.
+fn run_through(roster: &[u8], events: &[u8], buffer: &mut [u8])
+    requires passes { Passes roster.now }
+    requires room { reply_size * event_count events.now ≤ length buffer.old }
+    ensures { buffer.new ≡ sets buffer.old 0 (replies_of roster.now events.now) }
+{
+    let mut memory = Memory::new();
+    let mut positions = [0; Roster::TASKS];
+    let scripts = Scripts::new(roster);
+    let mut machine = Machine::new(&scripts, &mut memory, &mut positions);
+    pass(&mut machine, events, buffer);
+}
+
 // Runs a roster under events: three bytes per event into the buffer, its answer, the running task or 255, and its report. A refused run
 // writes nothing, and bytes past the last reply stay.
 pub fn run(roster: &[u8], events: &[u8], buffer: &mut [u8]) -> RunAnswer
@@ -42,10 +56,6 @@ pub fn run(roster: &[u8], events: &[u8], buffer: &mut [u8]) -> RunAnswer
     if buffer.len() < REPLY_SIZE * (events.len() / EVENT_SIZE) {
         return Err(RunError::ShortBuffer);
     }
-    let mut memory = Memory::new();
-    let mut positions = [0; Roster::TASKS];
-    let scripts = Scripts::new(roster);
-    let mut machine = Machine::new(&scripts, &mut memory, &mut positions);
-    pass(&mut machine, events, buffer);
+    run_through(roster, events, buffer);
     Ok(())
 }

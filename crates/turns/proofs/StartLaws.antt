@@ -1,10 +1,6 @@
 -- Laws of a run's start.
-use Rattle.std.proofs.Common.{◌≡◌, ℕ, ◌<◌, ◌≤◌, List, length, get_or, take, replicate, ap, sym, ◌∙◌, arith}
+use Rattle.std.proofs.Common.{◌≡◌, ℕ, ◌≤◌, List, length, replicate, ap, sym, ◌∙◌, arith}
 use Rattle.std.proofs.lemmas.List.{take-replicate, length-replicate}
-use lib.Seq.{ext_get_or, get_or-take, length-take-le}
-use Rattle.std.specs.Fn.{Mut, Called}
-use Rattle.std.specs.Array.{IsFromFnResult}
-use Rattle.words.proofs.FromFn.{made_at}
 use Rattle.rules.specs.Limits.{task_limit}
 use Rattle.rules.specs.Model.{Model}
 use Rattle.rules.specs.Fresh.{fresh_model}
@@ -18,17 +14,6 @@ use Rattle.format.proofs.PassedLaws.{passes-form, passes-starts}
 use Rattle.trace.specs.Config.{start_of}
 use Rattle.turns.specs.Run.{started}
 use Rattle.turns.specs.MachineView.{run_at, Going}
-
--- the front of an array that a closure made of a list's elements is the list
-pub front-made : {F : Type 0} {g : Mut F (ℕ × Unit {0}) ℕ} {f : F} {ys : List ℕ} {size : ℕ} (l : List ℕ) (n : ℕ) →
-    IsFromFnResult g f ys size → ((x y : ℕ) (q : F) → Called g f (x, tt) y q → (q ≡ f) × (y ≡ get_or l x 0)) → length l ≡ n →
-    n ≤ size → take n ys ≡ l
-front-made {F} {g} {f} {ys} {size} l n made pure e h =
-    let long : length (take n ys) ≡ n = length-take-le n ys (omega (arith, made.long)) in
-    ext_get_or 0 (take n ys) l (long ∙ sym e)
-    (λ k a.
-    let low : k < n = omega arith in
-    get_or-take n ys k 0 low ∙ made_at (λ x. get_or l x 0) made pure k (omega arith))
 
 -- the roster s, its fresh model, and no position but 0
 module _ (s : List ℕ) (ok : Passes s) (m : Model) (fresh : m ≡ fresh_model (setup_of (roster_of s))) where

@@ -7,12 +7,11 @@ ghost use Rattle.trace.specs.declared.Input.TheVariants.{Step as Stepped};
 
 use crate::scripts::Scripts;
 use crate::steps::{perform, position_after, set_base};
-use fields::{base_of, ceiling_of, object_count, task_count};
+use fields::{object_count, read_bases, read_ceilings, task_count};
 use fresh::fresh;
 use memory::Memory;
 use memory::rulings::Ruling;
 use rules::Roster;
-use std::array;
 use std::marker::Model;
 use trace::Input;
 
@@ -47,8 +46,10 @@ impl<'a> Machine<'a> {
         ensures { result ≡ started (roster_of scripts.now) }
     {
         let roster = scripts.roster();
-        let bases: [u8; Roster::TASKS] = array::from_fn(|t| base_of(roster, t as u8).0);
-        let ceilings: [u8; Roster::OBJECTS] = array::from_fn(|o| ceiling_of(roster, o as u8).0);
+        let mut bases = [0; Roster::TASKS];
+        let mut ceilings = [0; Roster::OBJECTS];
+        read_bases(roster, &mut bases);
+        read_ceilings(roster, &mut ceilings);
         let tasks = task_count(roster) as usize;
         let objects = object_count(roster) as usize;
         fresh(memory, &bases[..tasks], &ceilings[..objects]);

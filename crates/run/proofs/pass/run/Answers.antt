@@ -1,12 +1,6 @@
 -- `run::pass::run` meets its contract.
-use Rattle.std.proofs.Common.{arith, ap, sym, ◌∙◌}
+use Rattle.std.proofs.Common.{arith, sym}
 use Rattle.std.proofs.lemmas.Result.{err_from_is_err_and}
-use Rattle.std.proofs.lemmas.List.Edits.{sets}
-use Rattle.format.proofs.FormedLaws.{tasks-few}
-use Rattle.format.proofs.PassedLaws.{passes-form}
-use Rattle.trace.specs.Inputs.{inputs_of}
-use Rattle.trace.specs.Run.{replies_of}
-use Rattle.turns.specs.Run.{Run, replies}
 use Rattle.trace.proofs.RunLaws.{run-roster, run-events, run_short, run-done}
 use Rattle.run.proofs.pass.run.Goals as goal
 
@@ -31,22 +25,13 @@ returns-then-buffer-events c =
     (omega (arith, c.if-buffer-events.true)) in
     record { value = whole.0; buffer_after = whole.1 }
 
-pub new-scripts-requires : goal.new-scripts-requires
-new-scripts-requires c = tasks-few c.args.roster.now (passes-form c.args.roster.now (sym c.in_ok-check.ensures))
-
-pub new-machine-requires : goal.new-machine-requires
-new-machine-requires c = rw c.new-scripts.ensures (sym c.in_ok-check.ensures)
-
-pub pass-requires : goal.pass-requires
-pass-requires c = omega (arith, c.if-buffer-events.false)
+pub run_through-requires : goal.run_through-requires
+run_through-requires c = record { passes = sym c.in_ok-check.ensures; room = omega (arith, c.if-buffer-events.false) }
 
 pub returns : goal.returns
-unfolding replies_of
 returns c =
     let a = c.args in
     let passes = sym c.in_ok-check.ensures in
-    let machine = rw c.new-scripts.ensures at c.new-machine.ensures in
     let whole = run-done a.roster.now a.events.now a.buffer.now passes _ (sym c.if-not-events_good.ensures)
-    (omega (arith, c.if-buffer-events.false))
-    (c.pass.ensures ∙ ap (λ (p : Run). sets a.buffer.now 0 (replies p (inputs_of a.events.now))) machine) in
+    (omega (arith, c.if-buffer-events.false)) c.run_through.ensures in
     record { value = whole.0; buffer_after = whole.1 }

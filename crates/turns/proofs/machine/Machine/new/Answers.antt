@@ -1,44 +1,53 @@
 -- `turns::machine::Machine::new` meets its contract.
-use Rattle.std.proofs.Common.{◌≡◌, take, arith, rules}
+use Rattle.std.proofs.Common.{◌≡◌, take, arith}
 use Rattle.format.specs.Roster.{roster_of}
 use Rattle.format.proofs.FormatLaws.{base-count, ceiling-count}
 use Rattle.format.proofs.FormedLaws.{tasks-few, objects-few}
 use Rattle.format.proofs.PassedLaws.{passes-form, passes-starts}
-use Rattle.turns.proofs.StartLaws.{front-made, start-goes, start_is}
+use Rattle.turns.proofs.StartLaws.{start-goes, start_is}
 use Rattle.turns.proofs.machine.Machine.new.Goals.{After-object_count-objects}
 use Rattle.turns.proofs.machine.Machine.new.Goals as goal
 
--- what the two arrays have in front
-given-bases : (c : After-object_count-objects) → take c.task_count-tasks.result c.from_fn-bases.result ≡ (roster_of c.roster-roster.result.now).bases
-given-bases c =
+pub read_bases-requires : goal.read_bases-requires
+read_bases-requires c =
     let s = c.roster-roster.result.now in
-    front-made _ _ c.from_fn-bases.ensures.items (λ x y q e. search rules) (omega (arith, base-count s))
-    (omega (arith, tasks-few s (passes-form s (rw (← c.roster-roster.ensures) at c.requires))))
+    tasks-few s (passes-form s (rw (← c.roster-roster.ensures) at c.requires))
+
+pub read_ceilings-requires : goal.read_ceilings-requires
+read_ceilings-requires c =
+    let s = c.roster-roster.result.now in
+    objects-few s (passes-form s (rw (← c.roster-roster.ensures) at c.requires))
+
+-- what the two arrays have in front
+given-bases : (c : After-object_count-objects) →
+    take c.task_count-tasks.result c.read_bases.new.bases ≡ (roster_of c.roster-roster.result.now).bases
+given-bases c = rw c.task_count-tasks.ensures c.read_bases.ensures
 
 given-ceilings : (c : After-object_count-objects) →
-    take c.object_count-objects.result c.from_fn-ceilings.result ≡ (roster_of c.roster-roster.result.now).ceilings
-given-ceilings c =
-    let s = c.roster-roster.result.now in
-    front-made _ _ c.from_fn-ceilings.ensures.items (λ x y q e. search rules) (omega (arith, ceiling-count s))
-    (omega (arith, objects-few s (passes-form s (rw (← c.roster-roster.ensures) at c.requires))))
+    take c.object_count-objects.result c.read_ceilings.new.ceilings ≡ (roster_of c.roster-roster.result.now).ceilings
+given-ceilings c = rw c.object_count-objects.ensures c.read_ceilings.ensures
 
 pub slice_bounds-bases-end : goal.slice_bounds-bases-end
 slice_bounds-bases-end c =
     let s = c.roster-roster.result.now in
-    omega (arith, c.from_fn-bases.ensures.items.long, tasks-few s (passes-form s (rw (← c.roster-roster.ensures) at c.requires)))
+    omega (arith, c.read_bases.auto.bases, c.task_count-tasks.ensures,
+    tasks-few s (passes-form s (rw (← c.roster-roster.ensures) at c.requires)))
 
 pub slice_bounds-fresh-end : goal.slice_bounds-fresh-end
 slice_bounds-fresh-end c =
-    rw (given-bases (goal.at.slice_bounds-fresh-end c).After-object_count-objects) (omega (arith, base-count c.roster-roster.result.now))
+    rw (given-bases (goal.at.slice_bounds-fresh-end c).After-object_count-objects)
+    (omega (arith, c.task_count-tasks.ensures, base-count c.roster-roster.result.now))
 
 pub slice_bounds-ceilings-end : goal.slice_bounds-ceilings-end
 slice_bounds-ceilings-end c =
     let s = c.roster-roster.result.now in
-    omega (arith, c.from_fn-ceilings.ensures.items.long, objects-few s (passes-form s (rw (← c.roster-roster.ensures) at c.requires)))
+    omega (arith, c.read_ceilings.auto.ceilings, c.object_count-objects.ensures,
+    objects-few s (passes-form s (rw (← c.roster-roster.ensures) at c.requires)))
 
 pub slice_bounds-fresh-end-2 : goal.slice_bounds-fresh-end-2
 slice_bounds-fresh-end-2 c =
-    rw (given-ceilings (goal.at.slice_bounds-fresh-end-2 c).After-object_count-objects) (omega (arith, ceiling-count c.roster-roster.result.now))
+    rw (given-ceilings (goal.at.slice_bounds-fresh-end-2 c).After-object_count-objects)
+    (omega (arith, c.object_count-objects.ensures, ceiling-count c.roster-roster.result.now))
 
 pub fresh-requires : goal.fresh-requires
 fresh-requires c =
