@@ -14,7 +14,8 @@ unfolding head_from
 load-requires-clause-fits c =
     let b = c.args.bytes.now in
     let head = c.read-head.ensures ∙ head-there _ _ c.bytes_in.ensures in
-    subst (λ (h : Head). parts_fit h.task_count h.object_count (held_part b) (queues_part b) ≡ true) (sym head) (parts_lent b c.requires.loadable)
+    subst (λ (h : Head). parts_fit h.task_count h.object_count (held_part b) (queues_part b) ≡ true) (sym head)
+    (parts_lent b c.requires.loadable)
 
 pub returns : goal.returns
 unfolding head_from
@@ -26,5 +27,6 @@ returns c =
     let f = c.load.ensures.ceilings in
     let tasks =
     tasks_loaded b ok c.load.new.memory.tasks (rw head at e.count) (λ t h. let x = e.each t (rw head h) in search (rules, task-there)) in
-    let ceilings = ceilings_loaded b ok c.load.new.memory.ceilings (rw head at f.count) (λ o h. let x = f.each o (rw head h) in search rules) in
+    let ceilings =
+    ceilings_loaded b ok c.load.new.memory.ceilings (rw head at f.count) (λ o h. let x = f.each o (rw head h) in search rules) in
     whole_loaded b ok _ _ head c.load.ensures.numbers tasks ceilings

@@ -7,4 +7,5 @@ use Rattle.memory.proofs.queues.empty.Goals as goal
 pub returns : goal.returns
 returns c =
     let l = c.loop-row in
-    all-empty 32 l.queues l.invariant.0 (λ i q h. get_or_default l.queues i q _ (omega (arith, l.invariant.0)) ∙ l.invariant.1 i (omega arith))
+    all-empty 32 l.queues l.invariant.0
+    (λ i q h. get_or_default l.queues i q _ (omega (arith, l.invariant.0)) ∙ l.invariant.1 i (omega arith))

@@ -30,8 +30,12 @@ given-ceilings c = rw c.object_count-objects.ensures c.read_ceilings.ensures
 pub slice_bounds-bases-end : goal.slice_bounds-bases-end
 slice_bounds-bases-end c =
     let s = c.roster-roster.result.now in
-    omega (arith, c.read_bases.auto.bases, c.task_count-tasks.ensures,
-    tasks-few s (passes-form s (rw (← c.roster-roster.ensures) at c.requires)))
+    omega (
+      arith,
+      c.read_bases.auto.bases,
+      c.task_count-tasks.ensures,
+      tasks-few s (passes-form s (rw (← c.roster-roster.ensures) at c.requires)),
+    )
 
 pub slice_bounds-fresh-end : goal.slice_bounds-fresh-end
 slice_bounds-fresh-end c =
@@ -41,8 +45,12 @@ slice_bounds-fresh-end c =
 pub slice_bounds-ceilings-end : goal.slice_bounds-ceilings-end
 slice_bounds-ceilings-end c =
     let s = c.roster-roster.result.now in
-    omega (arith, c.read_ceilings.auto.ceilings, c.object_count-objects.ensures,
-    objects-few s (passes-form s (rw (← c.roster-roster.ensures) at c.requires)))
+    omega (
+      arith,
+      c.read_ceilings.auto.ceilings,
+      c.object_count-objects.ensures,
+      objects-few s (passes-form s (rw (← c.roster-roster.ensures) at c.requires)),
+    )
 
 pub slice_bounds-fresh-end-2 : goal.slice_bounds-fresh-end-2
 slice_bounds-fresh-end-2 c =
@@ -53,7 +61,9 @@ pub fresh-requires : goal.fresh-requires
 fresh-requires c =
     let d = (goal.at.fresh-requires c).After-object_count-objects in
     record {
-      startable = rw (given-bases d, given-ceilings d) (passes-starts c.roster-roster.result.now (rw (← c.roster-roster.ensures) at c.requires));
+      startable =
+          rw (given-bases d, given-ceilings d)
+          (passes-starts c.roster-roster.result.now (rw (← c.roster-roster.ensures) at c.requires));
     }
 
 pub invariant_of-result : goal.invariant_of-result
