@@ -2,18 +2,18 @@
 use mathlib.Core.Path.{◌≡◌, refl, sym, ap, ◌∙◌}
 use mathlib.Core.Bool.{Bool, true, false, cond}
 use mathlib.Core.List.{List, [], ◌∷◌}
-use Prim.Native.Nat.{ℕ, suc, ◌+◌, ◌-◌, ◌≤◌, ◌<◌}
+use Prim.Native.Nat.{ℕ, suc, ◌+◌, ◌-◌, ◌*◌, ◌≤◌, ◌<◌}
 use native.Mathlib.Numerals.{add-one}
 use native.Mathlib.Omega.{arith}
 use borrow.Author.Tests.{lt-ltb, eq-eqb, ne_eqb}
 use lib.Dec.{eqb, ltb}
-use lib.ListN.{length, drop, get_or, length-take, drop_of_length-le}
+use lib.ListN.{length, take, drop, get_or, length-take, drop_of_length-le}
 use lib.Seq.{drop-cons}
 use Rattle.std.specs.Prelude.{None, Some}
 use Rattle.rules.specs.Limits.{task_limit, last_priority}
 use Rattle.rules.specs.Priorities.{in_range}
 use Rattle.rules.specs.Kinds.{kind_of}
-use Rattle.rules.specs.Model.{task_at, active}
+use Rattle.rules.specs.Model.{task_at, queue, active}
 use Rattle.rules.specs.declared.PlaceKind.{PlaceKind}
 use Rattle.rules.specs.declared.Priority.{Priority}
 use Rattle.rules.specs.declared.Task.{Task}
@@ -22,14 +22,12 @@ use Rattle.rules.proofs.Core.{Core, act-low, act-high}
 use Rattle.rules.proofs.PriorityLaws.{in_bounds, bounds-in}
 use Rattle.rules.proofs.Soundness.{sound-good}
 use Rattle.memory.specs.Rows.{in_row, place_in, queue_width}
-use Rattle.loading.proofs.RowLaws.{part, part_length}
+use Rattle.loading.proofs.RowLaws.{row_at, list_at}
 use Rattle.dispatch.specs.State.{view}
 use Rattle.dispatch.specs.Sound.{sound_of}
 use Rattle.dispatch.specs.Readers.{entry_of, queue_of, task_record_of, active_priority_of}
 use Rattle.dispatch.specs.declared.State.{State}
-use Rattle.dispatch.proofs.Known.{Shaped}
 use Rattle.dispatch.proofs.MethodLaws.{view-sound}
-use Rattle.dispatch.proofs.ReaderLaws.{queue-is, queue-none}
 use Rattle.board.specs.declared.Row.{Row}
 use Rattle.board.specs.Rows.{is_ready_kind}
 use Rattle.board.specs.Fill.{queue_position, row_of}
@@ -68,18 +66,21 @@ unfolding in_row
 in_row-most [] = omega arith
 in_row-most (n ∷ cells) = omega (arith, length-take n cells)
 
-queue-most : (s : State) (p : Priority) → Shaped s → length (queue_of s p) ≤ task_limit
-queue-most s p known = go (in_range p.0) refl
+queue-most : (s : State) (p : Priority) → length (queue_of s p) ≤ task_limit
+unfolding queue_of view
+queue-most s p = go (in_range p.0) refl
   where
-    go : (b : Bool) → in_range p.0 ≡ b → length (queue_of s p) ≤ task_limit
+    go : (b : Bool) → in_range p.0 ≡ b → length (cond b (queue (view s) p.0) []) ≤ task_limit
     go true e =
         let b = in_bounds p.0 e in
-        let size = part_length queue_width last_priority (p.0 - 1) s.queues (omega (arith, b.0, b.1)) (omega (arith, known.queues)) in
-        omega (arith, ap length (queue-is s known p e), in_row-most (part queue_width (p.0 - 1) s.queues), size)
-    go false e = omega (arith, ap length (queue-none s p e))
+        let row = row_at queue_width last_priority (p.0 - 1) s.queues (omega (arith, b.0, b.1)) in
+        let list = list_at queue_width last_priority (p.0 - 1) s.queues in
+        let l = drop ((p.0 - 1) * queue_width) s.queues in
+        omega (arith, ap length list, ap (λ (x : List ℕ). length (in_row x)) row, in_row-most (take queue_width l), length-take queue_width l)
+    go false e = omega arith
 
-pub position-fits : (s : State) (p : Priority) (t : ℕ) → Shaped s → place_in t (queue_of s p) ≤ task_limit
-position-fits s p t known = omega (arith, before-most t (queue_of s p), queue-most s p known)
+pub position-fits : (s : State) (p : Priority) (t : ℕ) → place_in t (queue_of s p) ≤ task_limit
+position-fits s p t = omega (arith, before-most t (queue_of s p), queue-most s p)
 
 -- ---- the row of a task of a sound state, made of what is read of it
 module _ (s : State) (t : ℕ) where

@@ -127,7 +127,7 @@ pub fn fill(state: State, board: &mut [Row]) -> FillAnswer
         return Err(FillError::TooFewRows);
     }
     for t in 0..n {
-        board[t] = row_of(state, t);
+        board[t] = row_of(&state, t);
     }
     Ok(())
 }

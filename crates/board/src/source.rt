@@ -12,7 +12,7 @@ use crate::{ROW_LIMIT, Row};
 use dispatch::State;
 use rules::{PlaceKind, Priority};
 
-// How many tasks a state has.
+// How many tasks a state has. By value, since of a lent state it is not told how long its table of tasks is.
 pub fn tasks_in(state: State) -> usize
     ensures { result ≡ length (view state).tasks }
 {
@@ -20,9 +20,9 @@ pub fn tasks_in(state: State) -> usize
 }
 
 // Whether t stands at i in the queue for p.
-fn stands_at(state: State, p: Priority, i: usize, t: usize) -> bool
-    requires { i < length (queue_of state p) }
-    ensures { result ≡ eqb (get_or (queue_of state p) i 0) t }
+fn stands_at(state: &State, p: Priority, i: usize, t: usize) -> bool
+    requires { i < length (queue_of state.now p) }
+    ensures { result ≡ eqb (get_or (queue_of state.entry.now p) i 0) t }
 {
     state
         .queue_entry(p, i as u64)
@@ -30,8 +30,8 @@ fn stands_at(state: State, p: Priority, i: usize, t: usize) -> bool
 }
 
 // How many stand before t in the queue for p: by numbers, since a State hands out no slice of its queues.
-fn stand_before(state: State, p: Priority, t: usize) -> usize
-    ensures { result ≡ place_in t (queue_of state p) }
+fn stand_before(state: &State, p: Priority, t: usize) -> usize
+    ensures { result ≡ place_in t (queue_of state.entry.now p) }
 {
     let n = state.queue_length(p);
     for i in 0..n {
@@ -43,8 +43,8 @@ fn stand_before(state: State, p: Priority, t: usize) -> usize
 }
 
 // The position of t in the queue for p; 0 if it is not ready.
-fn position(state: State, kind: PlaceKind, p: Priority, t: usize) -> u8
-    ensures { result ≡ cond (is_ready_kind kind) (place_in t (queue_of state p)) 0 }
+fn position(state: &State, kind: PlaceKind, p: Priority, t: usize) -> u8
+    ensures { result ≡ cond (is_ready_kind kind) (place_in t (queue_of state.entry.now p)) 0 }
 {
     if is_ready(kind) {
         stand_before(state, p, t) as u8
@@ -54,10 +54,10 @@ fn position(state: State, kind: PlaceKind, p: Priority, t: usize) -> u8
 }
 
 // The row of task t.
-pub fn row_of(state: State, t: usize) -> Row
-    requires sound { sound_of state ≡ true }
-    requires there { t < length (view state).tasks }
-    ensures { result ≡ row_of (view state) t }
+pub fn row_of(state: &State, t: usize) -> Row
+    requires sound { sound_of state.now ≡ true }
+    requires there { t < length (view state.now).tasks }
+    ensures { result ≡ row_of (view state.entry.now) t }
 {
     let kind = state.task(t as u64).place.kind();
     let priority = state.active(t as u64);

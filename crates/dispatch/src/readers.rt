@@ -28,8 +28,8 @@ fn entry(list: &[u8], i: u64) -> Option<u8>
 
 impl State {
     // Who runs.
-    pub fn running(self) -> Option<u8>
-        ensures { result ≡ (view self).running }
+    pub fn running(&self) -> Option<u8>
+        ensures { result ≡ (view self.entry.now).running }
     {
         self.running
     }
@@ -46,14 +46,14 @@ impl State {
     }
 
     // Its length, and its entry at i, the head being at 0.
-    pub fn queue_length(self, p: Priority) -> usize
-        ensures { result ≡ length (queue_of self p) }
+    pub fn queue_length(&self, p: Priority) -> usize
+        ensures { result ≡ length (queue_of self.entry.now p) }
     {
         self.queue(p).len()
     }
 
-    pub fn queue_entry(self, p: Priority, i: u64) -> Option<u8>
-        ensures { result ≡ entry_of (queue_of self p) i }
+    pub fn queue_entry(&self, p: Priority, i: u64) -> Option<u8>
+        ensures { result ≡ entry_of (queue_of self.entry.now p) i }
     {
         entry(self.queue(p), i)
     }
@@ -65,8 +65,8 @@ impl State {
     }
 
     // The record of the task t, a blank one past the last.
-    pub fn task(self, t: u64) -> Task
-        ensures { result ≡ task_record_of self t }
+    pub fn task(&self, t: u64) -> Task
+        ensures { result ≡ task_record_of self.entry.now t }
     {
         if self.has_task(t) {
             self.tasks[t as usize]
@@ -87,14 +87,14 @@ impl State {
     }
 
     // How many objects it holds, and its entry at i.
-    pub fn held_length(self, t: u64) -> usize
-        ensures { result ≡ length (held_of self t) }
+    pub fn held_length(&self, t: u64) -> usize
+        ensures { result ≡ length (held_of self.entry.now t) }
     {
         self.held(t).len()
     }
 
-    pub fn held_entry(self, t: u64, i: u64) -> Option<u8>
-        ensures { result ≡ entry_of (held_of self t) i }
+    pub fn held_entry(&self, t: u64, i: u64) -> Option<u8>
+        ensures { result ≡ entry_of (held_of self.entry.now t) i }
     {
         entry(self.held(t), i)
     }
@@ -107,8 +107,8 @@ impl State {
     }
 
     // The active priority of t.
-    pub fn active(self, t: u64) -> Priority
-        ensures { result ≡ active_priority_of self t }
+    pub fn active(&self, t: u64) -> Priority
+        ensures { result ≡ active_priority_of self.entry.now t }
     {
         highest_of(self.ceilings(), self.task(t).base, self.held(t))
     }

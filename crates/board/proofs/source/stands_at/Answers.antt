@@ -9,5 +9,5 @@ use Rattle.board.proofs.source.stands_at.Goals as goal
 pub returns : goal.returns
 returns c =
     let a = c.args in
-    let there = c.queue_entry.ensures ∙ entry-there (queue_of a.state a.p) a.i c.requires in
+    let there = c.queue_entry.ensures ∙ entry-there (queue_of a.state.now a.p) a.i c.requires in
     grind (arith, common_steps)
