@@ -45,10 +45,7 @@ pub extern "C" fn dispatch_script_number(roster: &[u8], t: u64) -> u8
 pub extern "C" fn dispatch_script_start(roster: &[u8], t: u64) -> u64
     ensures { result ≡ script_start roster.now t }
 {
-    match roster::listed_task(roster, t as usize) {
-        Ok(u) => fields::start_at(roster, u) as u64,
-        Err(_) => 0,
-    }
+    roster::listed_task(roster, t as usize).map_or(0, |u| fields::start_at(roster, u) as u64)
 }
 
 // The length of a task's script in bytes; 0 on a refusal.

@@ -1,4 +1,4 @@
--- The check's verdict is the one that says what is so: of a roster that has its form it is Passed exactly when every script keeps the
+-- The check's verdict is the one that says what is so: of a roster that has its form it is Ok exactly when every script keeps the
 -- written rules, and else it names the first fault.
 use Rattle.std.specs.Prelude.{Ok, Err}
 use mathlib.Core.Path.{◌≡◌, refl, ap, sym, ◌∙◌, subst}

@@ -1,4 +1,4 @@
--- Laws of tests: conjunctions, tests of every number below one, and the first of several verdicts that is not Passed.
+-- Laws of tests: conjunctions, tests of every number below one, and the first of several verdicts that is not Ok.
 use mathlib.Core.Path.{◌≡◌, refl, ap, sym, ◌∙◌}
 use Rattle.std.specs.Prelude.{None, Option, Some, Ok, Err}
 use Rattle.std.specs.List.{list_all, range_with_len}

@@ -40,6 +40,7 @@ fn read_at<R: Read>(input: &mut R, buffer: &mut [u8], at: usize) -> io::Result<u
 // Reads to the end of the input: what was read, at the start of the buffer. What is longer than the buffer, or fails on the way, counts
 // as filling it: that is too long for a roster and for events, so the run answers 11 or 21. A part is never taken for the whole.
 fn read_to_end<'a, R: Read>(input: &mut R, buffer: &'a mut [u8]) -> &'a [u8]
+    ensures prefix_len { length result.now ≤ length buffer.old }
     ensures whole { length result.now < length buffer.old → IfSome (R.remaining input.old) (λ bytes. result.now ≡ bytes) }
 {
     let mut done: usize = 0;
@@ -57,7 +58,9 @@ fn read_to_end<'a, R: Read>(input: &mut R, buffer: &'a mut [u8]) -> &'a [u8]
 }
 
 // The roster's bytes; a file that cannot be opened has none.
-fn read_roster<'a>(rt: &impl Files, buffer: &'a mut [u8]) -> &'a [u8] {
+fn read_roster<'a>(rt: &impl Files, buffer: &'a mut [u8]) -> &'a [u8]
+    ensures { length result.now ≤ length buffer.old }
+{
     match File::open(rt, "roster.bin") {
         Ok(mut file) => read_to_end(&mut file, buffer),
         Err(_) => &[],
@@ -85,6 +88,7 @@ fn skip_rest(input: &mut impl Read) {
 }
 
 fn read_events<'a, R: Read>(input: &mut R, buffer: &'a mut [u8]) -> &'a [u8]
+    ensures prefix_len { length result.now ≤ length buffer.old }
     ensures whole { length result.now < length buffer.old → IfSome (R.remaining input.old) (λ bytes. result.now ≡ bytes) }
 {
     let room = buffer.len();
@@ -98,7 +102,8 @@ fn read_events<'a, R: Read>(input: &mut R, buffer: &'a mut [u8]) -> &'a [u8]
 // What the program prints, at the start of `out`.
 fn text<'a>(roster: &[u8], events: &[u8], out: &'a mut [u8]) -> &'a [u8]
     requires { lines_enough ≤ length out.old }
-    ensures { result.now ≡ printed roster.now events.now }
+    ensures prefix_len { length result.now ≤ length out.old }
+    ensures out_after { result.now ≡ printed roster.now events.now }
 {
     let mut replies = [0u8; REPLIES_ROOM];
     let size = printed(roster, events, &mut replies, out);

@@ -43,8 +43,5 @@ pub fn listed_script(roster: &[u8], t: usize) -> Result<&[u8], Fault>
 pub fn script(roster: &[u8], t: usize) -> &[u8]
     ensures { result.now ≡ script_part roster.now t }
 {
-    match listed_script(roster, t) {
-        Ok(part) => part,
-        Err(_) => &roster[..0],
-    }
+    listed_script(roster, t).unwrap_or(&roster[..0])
 }

@@ -53,6 +53,7 @@ impl Parts<'_> {
     {
         all_in_range(self.bases) && all_in_range(self.ceilings)
     }
+
     // 16, in task and step order: each script as the reader judges it.
     fn scripts_form(&self) -> Verdict
         requires counts { setup_counted (lent self.now).setup ≡ true }
