@@ -106,6 +106,7 @@ pub fn next(rows: &[Row]) -> NextAnswer
 }
 
 // `next` of the first `count` rows, for callers that hold the rows by value.
+// Rows with a count beside: callers by value have no slice, and there is no heap (`next_first_of`).
 pub fn next_first(rows: [Row; ROW_LIMIT], count: usize) -> NextAnswer
     ensures { told_of result ≡ next_first_of rows count }
 {
@@ -133,6 +134,7 @@ pub fn fill(state: State, board: &mut [Row]) -> FillAnswer
 }
 
 // `fill` of the first `count` rows, for callers that hold the rows by value. With more than there are, none is lent.
+// Rows with a count beside, as next_first (`fill_first_of`).
 pub fn fill_first(state: State, rows: [Row; ROW_LIMIT], count: usize) -> Filled
     ensures { filling_of result.answer result.rows ≡ fill_first_of state rows count }
 {

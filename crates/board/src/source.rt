@@ -29,7 +29,7 @@ fn stands_at(state: &State, p: Priority, i: usize, t: usize) -> bool
         .is_some_and(|u| u as usize == t)
 }
 
-// How many stand before t in the queue for p: by numbers, since a State hands out no slice of its queues.
+// How many stand before t in the queue for p: by numbers, since no slice of a State's queues is public.
 fn stand_before(state: &State, p: Priority, t: usize) -> usize
     ensures { result ≡ place_in t (queue_of state.entry.now p) }
 {

@@ -19,6 +19,7 @@ use words::{byte_at, put};
 const ROW_SIZE: usize = 3;
 
 // The row that starts at i; past the last byte there are zeros.
+// No From, here and in row_bytes: neither Row nor bytes are a type of this crate.
 fn row_from(board: &[u8], i: usize) -> Row
     requires { i ≤ row_size * row_limit }
     ensures { result ≡ row_from board.now i }

@@ -28,6 +28,7 @@ fn print_runner(rt: &impl Print, state: State) -> io::Result<()> {
     }
 }
 
+// Beside print_runner: what is printed is a literal, so one function of both would print by parts, no plainer.
 fn print_entry(rt: &impl Print, entry: Option<u8>) -> io::Result<()> {
     match entry {
         Some(t) => print!(rt; " {t}"),
@@ -58,6 +59,7 @@ fn case_a(rt: &impl Print) -> io::Result<()> {
 }
 
 // "A then Set 1, 10: 0 runs, queue 2, 1"
+// A function for each case, its sentence above it: b, c and the last differ in numbers alone, but are read one by one.
 fn case_b(rt: &impl Print) -> io::Result<()> {
     let s = begin(rt, "B", &[10, 20, 10], &[])?;
     let s = play(rt, ", set(1, 10)", s.set(1, Priority(10)))?;

@@ -24,6 +24,7 @@ use std::array;
 use words::bytes_in;
 
 // The rows of the tasks that the count lists have no number that a state cannot hold.
+// `state_size ≤ length bytes` is a clause and no array, here and in `store`: a caller's buffer may be longer (put_front).
 fn rows_in_range(bytes: &[u8]) -> bool
     requires { state_size ≤ length bytes.now }
     ensures { result ≡ rows_in_range bytes.now }
@@ -79,6 +80,7 @@ pub fn load(bytes: &[u8], memory: &mut Memory)
     );
 }
 
+// No From: the three bounds in its contract are what `store` needs, and a From has no clauses of its own.
 fn head(memory: &Memory) -> Head
     ensures value { result ≡ head_in (encode memory.entry.now) }
     ensures tasks { length memory.entry.now.tasks ≤ task_limit }
@@ -94,6 +96,7 @@ fn head(memory: &Memory) -> Head
     }
 }
 
+// Beside `ceilings` of dispatch's store, which gives Priorities: a line each, and mapping the one is the same line again.
 fn levels(memory: &Memory) -> [u8; Roster::OBJECTS]
     ensures { result ≡ tabulate object_limit (ceiling_of memory.entry.now.ceilings) }
 {

@@ -65,6 +65,7 @@ impl State {
     }
 
     // The record of the task t, a blank one past the last.
+    // A blank one and no Option: callers have this answer (`task_record_of`).
     pub fn task(&self, t: u64) -> Task
         ensures { result ≡ task_record_of self.entry.now t }
     {

@@ -11,6 +11,7 @@ use ranges::all_in_range;
 use rules::{Answer, Refusal, Roster};
 
 // The fresh state of these bases and ceilings.
+// Bases and ceilings apart, here and below: State::fresh is lent them so, and any two lists get an answer.
 fn started(bases: &[u8], ceilings: &[u8]) -> State
     requires { Startable (record { bases = bases.now; ceilings = ceilings.now }) }
     ensures { result ≡ encode (fresh_model (record { bases = bases.now; ceilings = ceilings.now })) }

@@ -28,6 +28,7 @@ fn ceilings(memory: &Memory) -> [Priority; Roster::OBJECTS]
 }
 
 // The state for the Model that the memory means.
+// No From, as `load` is none, which asks that the sizes fit: the two stand side by side.
 pub fn store(memory: &Memory) -> State
     ensures { result ≡ encode memory.entry.now }
 {

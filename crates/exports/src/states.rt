@@ -7,6 +7,7 @@ ghost use Rattle.layout.specs.Events.{event_number, event_bytes, event_report, f
 use rules::{Event, Priority};
 
 // A number as a priority; 0, which is none, for a number that is none.
+// 0 and no Option: `said_priority` says 0, which an event refuses as it does any number that is no priority.
 fn said_priority(value: u64) -> Priority
     ensures { result ≡ said_priority value }
 {

@@ -85,6 +85,7 @@ pub fn length_at(s: &[u8], t: u8) -> u16
 }
 
 // The base of a task; of one that is not listed, 0.
+// 0 and no Option: the definition `base_of` says 0.
 #[tactic(auto, using(format::proofs::FormatLaws::read_laws))]
 pub fn base_of(s: &[u8], t: u8) -> Priority
     ensures { result.0 ≡ base_of (roster_of s.now) t }
@@ -97,6 +98,7 @@ pub fn base_of(s: &[u8], t: u8) -> Priority
 }
 
 // The ceiling of an object; of one that is not listed, 0.
+// 0 and no Option, as `ceiling_of` of specs/; beside base_of: count and row differ, what is common is one comparison.
 #[tactic(auto, using(format::proofs::FormatLaws::read_laws), unfolding(format::specs::Format::ceiling_at))]
 pub fn ceiling_of(s: &[u8], o: u8) -> Priority
     ensures { result.0 ≡ ceiling_of (roster_of s.now).ceilings o }
@@ -108,7 +110,8 @@ pub fn ceiling_of(s: &[u8], o: u8) -> Priority
     }
 }
 
-// The bases, in the first cells. Beside read_ceilings: one function of both would take what it reads as a closure, and its proof with it.
+// The bases, in the first cells. As array::from_fn over all cells, which was tried, a run's start took 650 instructions more.
+// Into the first cells of what is lent, and the count stays the roster's: there is no heap.
 #[tactic(auto, using(format::proofs::FormatLaws::read_laws))]
 pub fn read_bases(s: &[u8], bases: &mut [u8])
     requires { task_count s.now ≤ length bases.old }

@@ -11,6 +11,7 @@ use rules::Priority;
 fn set_step(a: u8, b: u16) -> Step
     ensures { result ≡ set_step a (checked_of b) }
 {
+    // A match, as `set_step` is one: map_or would name Finish, the odd case, first.
     match Priority::checked(b as u64) {
         Some(p) => Step::Set(a, p),
         None => Step::Finish,

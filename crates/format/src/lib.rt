@@ -39,7 +39,7 @@ pub enum Step {
     Finish,
 }
 
-// The codes are bytes of the file, which are read as steps in one place: an enum of them would list the steps a second time.
+// Bytes of the file, read as steps in one place: an enum of them, unlike PlaceKind, would be no field and no result anywhere.
 impl Step {
     pub const ENTER: u8 = 1;
 
@@ -59,6 +59,7 @@ impl Step {
 }
 
 // What is wrong with a roster or with what is asked of one; a fault of a step with its task and step.
+// Task and step stand in each of five cases: a struct of both would be one more name in every match and clause.
 #[derive(Clone, Copy, PartialEq, Eq)]
 pub enum Fault {
     NoSuchTask,
@@ -101,6 +102,7 @@ impl Numbered for Fault {
 }
 
 // What has a number, and a task and a step, which it names by its position in the script: 0 and 0 where it is about none.
+// 0 and 0 and no Option: `fault_task` and `fault_position` say so, and C and the printed lines have them as numbers.
 pub trait Placed: Numbered {
     ghost task: { Self → ℕ };
 

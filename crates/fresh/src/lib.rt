@@ -10,6 +10,7 @@ use rules::{Place, Priority, Task};
 
 // A blank memory gets tasks of these bases that have not joined a queue yet, and objects of these ceilings: in place, since a memory
 // that is handed back is copied.
+// Bases and ceilings apart and `Startable` a clause: so C and State::fresh lend them; `Setup` is a record of specs/.
 fn enroll(memory: &mut Memory, bases: &[u8], ceilings: &[u8])
     requires blank { memory.old ≡ unstarted (record { bases = []; ceilings = [] }) }
     requires startable { Startable (record { bases = bases.now; ceilings = ceilings.now }) }

@@ -12,6 +12,7 @@ use state_bytes::write;
 use words::long_at;
 
 // Whether the bytes are a sound state's, and then the memory comes to be that of it: in place, since one that is handed back is copied.
+// Beside State::loaded: the tests and the loading differ, and what is common is the call of soundness::sound.
 fn loaded(bytes: &[u8], memory: &mut Memory) -> bool
     ensures { cond result (Some memory.new) None ≡ loaded_from bytes.now }
 {

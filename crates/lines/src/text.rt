@@ -30,12 +30,14 @@ fn has_place(number: u8) -> bool
 }
 
 // A lent buffer whose first `size` bytes are written.
+// A buffer and a length: there is no heap, and who lends the buffer gets the lines in it.
 #[derive(Drop)]
 struct Page<'a> {
     out: &'a mut [u8],
     size: usize,
 }
 
+// `HasRoom` and `Added` are clauses and no type: each method asks for the room of another text.
 impl Page<'_> {
     fn put(&mut self, text: &[u8])
         requires { HasRoom self.old (length text.now) }
@@ -59,6 +61,7 @@ impl Page<'_> {
         }
     }
 
+    // A byte and no Option: it is a reply's, as the run wrote it, and `running_text` is of that byte.
     #[tactic(auto, using(crate::proofs::LineLaws::running_length))]
     fn put_running(&mut self, running: u8)
         requires { HasRoom self.old (length (running_text running)) }
@@ -72,6 +75,7 @@ impl Page<'_> {
     }
 
     // The line of an event.
+    // Numbers and no enums: a reply's three bytes as they stand in the buffer (`reply_line`), printed as they are.
     #[tactic(auto, using(crate::proofs::LineLaws::reply_length))]
     fn put_reply(&mut self, answer: u8, running: u8, report: u8)
         requires { HasRoom self.old (length (reply_line answer running report)) }
@@ -151,6 +155,7 @@ fn has_room(replies: &[u8], room: usize) -> bool
 
 // The lines of a run that answered so and wrote these replies, at the start of the buffer: how many bytes they are, or 0 where the
 // buffer has fewer than OTHER_ROOM bytes and REPLY_ROOM for each reply, and then nothing is written.
+// 0 and no Option, and a length beside the buffer: callers have this answer (`lines_size`).
 pub fn lines(answer: RunAnswer, replies: &[u8], out: &mut [u8]) -> usize
     ensures value { result ≡ lines_size answer replies.now out.old }
     ensures out_after { out.new ≡ lines_buffer answer replies.now out.old }

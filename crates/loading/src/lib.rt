@@ -41,6 +41,7 @@ pub fn sizes_fit(tasks: u8, objects: u8, held: &[u8], queues: &[u8]) -> bool
 }
 
 // The first n tasks, each by its record and the row of what it holds.
+// How long the rows are is a clause and no array, here and below: of a state's bytes they are a part of what is lent.
 fn load_tasks<T: Fn(usize) -> Task>(memory: &mut Memory, n: usize, task: T, held: &[u8])
     requires none { memory.old.tasks ≡ [] }
     requires room { n ≤ task_limit }
@@ -84,6 +85,7 @@ fn load_queues(memory: &mut Memory, queues: &[u8])
 }
 
 // The memory comes to be that of a state whose sizes fit, whatever it was: in place, since one that is handed back is copied.
+// The parts one by one, as in sizes_fit: neither of the two callers has them in one value.
 pub fn load<T: Fn(usize) -> Task, C: Fn(usize) -> Priority>(
     memory: &mut Memory,
     now: u64,

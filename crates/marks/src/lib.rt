@@ -27,6 +27,7 @@ pub fn mark_for(size: u8) -> u64
 }
 
 // The word in which the bit i alone is on.
+// `i < word_bits` is a clause and no type, here and below: i is a task's, an object's or a queue's number, bounded there.
 fn bit(i: usize) -> u64
     requires { i < word_bits }
     ensures { result ≡ 2 ^ i }
@@ -34,7 +35,7 @@ fn bit(i: usize) -> u64
     1u64 << i
 }
 
-// Two functions, since one with a flag branches on the path of each event.
+// Two functions of a line each: with a flag, every call but those of `put` would name a constant.
 pub fn with_bit(word: u64, i: usize) -> u64
     requires { i < word_bits }
     ensures { result ≡ with_bit word i 1 }

@@ -33,6 +33,7 @@ impl Memory {
     }
 
     // Of an empty queue 0.
+    // 0 and no Option: the rules' `head_of` says 0.
     pub fn head_of(&self, p: Priority) -> u8
         requires { HasQueue p.0 }
         ensures { result ≡ head_of self.entry.now p.0 }

@@ -10,6 +10,7 @@ use rules::{Place, Priority, Roster, Task};
 
 // That t is a task is a clause and no type: it is a fact of the number and the memory, and no value keeps both.
 impl Memory {
+    // `Kept` has the bound, but callers see the Model alone: an `ensures` tells them, and they tell it on (also in objects, queues).
     pub fn task_count(&self) -> u8
         ensures value { result ≡ length self.entry.now.tasks }
         ensures fits { length self.entry.now.tasks ≤ task_limit }
@@ -32,6 +33,7 @@ impl Memory {
     }
 
     // The whole record, a blank one past the last.
+    // A blank one and no Option: `task_at` of the rules is blank there, and a stored state has blank rows behind its tasks.
     pub fn task(&self, t: u8) -> Task
         ensures { result ≡ task_for (task_at self.entry.now t) }
     {

@@ -39,6 +39,7 @@ fn read_at<R: Read>(input: &mut R, buffer: &mut [u8], at: usize) -> io::Result<u
 
 // Reads to the end of the input: what was read, at the start of the buffer. What is longer than the buffer, or fails on the way, counts
 // as filling it: that is too long for a roster and for events, so the run answers 11 or 21. A part is never taken for the whole.
+// That it is no longer than what is lent stands in four contracts here: no type holds one slice's length to another's.
 fn read_to_end<'a, R: Read>(input: &mut R, buffer: &'a mut [u8]) -> &'a [u8]
     ensures prefix_len { length result.now ≤ length buffer.old }
     ensures whole { length result.now < length buffer.old → IfSome (R.remaining input.old) (λ bytes. result.now ≡ bytes) }

@@ -25,6 +25,7 @@ fn replies_written(answer: RunAnswer, events: &[u8]) -> usize
 // Runs a roster under events, the replies into `replies`, and makes the lines of that run at the start of `out`: how many bytes they
 // are. A refused run gives its one line and leaves `replies`; the answer is 0, and `out` stays, where `out` may be too short for
 // the lines (see `lines`).
+// 0 and no Option, and a length beside the buffer: callers have this answer (`printed_size`).
 pub fn printed(roster: &[u8], events: &[u8], replies: &mut [u8], out: &mut [u8]) -> usize
     ensures value { result ≡ printed_size roster.now events.now (length replies.old) out.old }
     ensures replies_after { replies.new ≡ buffer_of roster.now events.now replies.old }

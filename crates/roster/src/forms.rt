@@ -119,9 +119,11 @@ fn values_good(s: &[u8]) -> bool
 }
 
 // The highest of each task's base and its own Set values, which the check asks for again.
+// A cell for every task that there may be: there is no heap; `Topped` says what the first ones are.
 pub type Tops = [Priority; Roster::TASKS];
 
 // 16, in task and step order; where all pass, the tops are left in `tops`, which is lent because a result would be copied.
+// `Topped` is a clause and no type: a fact of a roster and its tops, told by two and asked by the two that read them.
 fn scripts_form(s: &[u8], tops: &mut Tops) -> Verdict
     requires s_value { layout_good s.now ≡ true }
     requires s_in_bounds { task_count s.now ≤ task_limit }

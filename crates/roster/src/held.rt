@@ -9,7 +9,7 @@ use format::Step;
 use rules::{Priority, Roster};
 use std::marker::Model;
 
-// Not memory::Row, which is such a list too: the crates of a roster know nothing of the engine's (crates.txt).
+// Not memory::Row: that and its laws would have to move into rules, below both, for the three short methods that are alike.
 #[derive(Drop)]
 pub struct Held {
     depth: usize,

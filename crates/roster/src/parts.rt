@@ -11,6 +11,7 @@ pub fn script_part(s: &[u8], t: u8) -> &[u8]
     ensures { result.now ≡ part_at s.now t }
 {
     let row = fields::task_row(s, t) as usize;
+    // Not by start_at and length_at, which test whether the row is there.
     let start = words::word_in(s, row + 2) as usize;
     let size = words::word_in(s, row + 4) as usize;
     &s[start..start + size]

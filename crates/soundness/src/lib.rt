@@ -19,6 +19,7 @@ use memory::sizes::{LAST_DELAY, LAST_READING};
 use rules::{Place, Priority, Roster};
 
 // The ceilings are in range.
+// Beside all_in_range of ranges: a memory has Priorities and callers lend bytes; a line each.
 fn ceilings_good(ceilings: &[Priority]) -> bool
     ensures { result ≡ all_of in_range (map level ceilings.now) }
 {
@@ -103,6 +104,7 @@ fn highest_runs(memory: &Memory) -> bool
 {
     let top = memory.highest();
     match memory.running() {
+        // 0 is no priority: `Memory::highest` says it where every queue is empty.
         None => top.0 == 0,
         Some(t) => top <= memory.active(t),
     }

@@ -16,6 +16,7 @@ use rules::Priority;
 
 // A step, and zeros in its unused operands.
 // Arms with true and false: which operands a step leaves unused is another thing for each, and no equality.
+// a and b apart, here, in step_of and in step_word: bytes of the file, of which a Step is what is kept.
 #[tactic(auto, unfolding(format::specs::Form::is_step, format::specs::Form::unused_zero))]
 fn operands_good(a: u8, b: u16, x: Step) -> bool
     ensures { result ≡ (is_step x && unused_zero a b x) }
@@ -30,6 +31,7 @@ fn operands_good(a: u8, b: u16, x: Step) -> bool
 }
 
 // The last arm is true, since the other steps name nothing: the bounds before it are not a pattern.
+// The two counts and no Limits: `names_listed` is of them, and reads no table.
 #[tactic(auto, unfolding(format::specs::Form::names_listed))]
 fn names_listed(tasks: u8, objects: u8, x: Step) -> bool
     ensures { result ≡ names_listed tasks objects x }
@@ -79,6 +81,7 @@ fn good_at(limits: &Limits, part: &[u8], k: usize, x: Step) -> bool
 }
 
 // What a step of task t sets its own base to, or 0, which raises none.
+// 0 and no Option: `own_set` says 0, and a max with it changes nothing.
 #[tactic(auto, unfolding(format::specs::Check::own_set))]
 fn own_set(t: u8, x: Step) -> Priority
     ensures { result.0 ≡ own_set t x }

@@ -3,7 +3,7 @@ pub const EVENT_SIZE: usize = 8;
 
 pub const LARGEST_EVENTS: usize = 32768;
 
-// The kinds are bytes of a record, which are read as events in one place: an enum of them would list the events a second time.
+// Bytes of a record, read as events in one place: an enum of them, unlike PlaceKind, would be no field and no result anywhere.
 pub const CLOCK: u8 = 1;
 
 pub const RELEASE: u8 = 2;

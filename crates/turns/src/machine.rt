@@ -16,6 +16,7 @@ use std::marker::Model;
 use trace::Input;
 
 // A contract sees the roster and the configuration that its events have come to.
+// Positions beside the parts of `scripts`: those change, and these are read once and lent.
 #[derive(Drop)]
 pub struct Machine<'a> {
     scripts: &'a Scripts<'a>,
@@ -79,7 +80,7 @@ impl<'a> Machine<'a> {
         let x = self.scripts.step(t, k);
         self.positions[t as usize] = position_after(k, x);
         let ruling = perform(self.memory, x);
-        // By the number, one comparison on each step: the answer would be a match of the twelve rulings.
+        // By the number, one comparison on each step: `answer` would match the twelve rulings to make a Result that is let go.
         if ruling.number() != 0 {
             self.positions[t as usize] = k;
         }

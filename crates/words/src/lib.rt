@@ -8,6 +8,7 @@ ghost use Rattle.words.specs.Words.{byte_at, word_at, long_at, number_at, BytesA
 use std::array;
 
 // The byte at i, or 0 past the end.
+// 0 and no Option, here and below: any bytes are read as a state and as a roster (`byte_at`).
 pub fn byte_at(s: &[u8], i: usize) -> u8
     ensures { result ≡ byte_at s.now i }
 {
@@ -79,6 +80,7 @@ pub fn number_in(s: &[u8], i: usize) -> u64
 }
 
 // Bytes put into others, from `at` on.
+// A buffer and a place, not a slice from it: `sets` says the whole buffer, and callers name places of the layout.
 pub fn put(out: &mut [u8], at: usize, bytes: &[u8])
     requires { at + length bytes.now ≤ length out.old }
     ensures { out.new ≡ sets out.old at bytes.now }

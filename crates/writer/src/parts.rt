@@ -38,6 +38,7 @@ fn total(lengths: &[u16]) -> usize
 
 impl Parts<'_> {
     // 14
+    // How many there may be is a clause, here and below: the fields are public, and lists of any length get 13.
     #[tactic(auto, unfolding(encoding::specs::Answers::lengths_add_up))]
     fn lengths_good(&self) -> bool
         requires { length self.now.bases.now ≤ task_limit }
@@ -141,6 +142,7 @@ impl Parts<'_> {
     }
 
     // The same number; 0 on a refusal.
+    // 0 and no Option: it is the length of `written_of`, empty on a refusal, and dispatch_written hands it to C.
     #[tactic(auto, unfolding(encoding::specs::Answers::written_of))]
     pub fn length(&self, room: usize) -> usize
         ensures { result ≡ length (written_of (lent self.now) room) }
