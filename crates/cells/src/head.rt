@@ -23,6 +23,7 @@ pub fn runner_from(b: u8) -> Option<u8>
 }
 
 impl Head {
+    #[tactic(auto, unfolding(crate::specs::Decode::head_from))]
     pub fn read(bytes: &[u8; HEAD_SIZE]) -> Self
         ensures { result ≡ head_from bytes.now }
     {

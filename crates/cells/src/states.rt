@@ -79,6 +79,7 @@ pub fn load(bytes: &[u8], memory: &mut Memory)
     );
 }
 
+#[tactic(auto, unfolding(dispatch::specs::State::encode))]
 fn head(memory: &Memory) -> Head
     ensures value { result ≡ head_in (encode memory.entry.now) }
     ensures tasks { length memory.entry.now.tasks ≤ task_limit }
