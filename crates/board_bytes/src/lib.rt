@@ -20,6 +20,7 @@ const ROW_SIZE: usize = 3;
 
 // The row that starts at i; past the last byte there are zeros.
 // No From, here and in row_bytes: neither Row nor bytes are a type of this crate.
+#[tactic(auto, unfolding(crate::specs::Boards::row_from))]
 fn row_from(board: &[u8], i: usize) -> Row
     requires { i ≤ row_size * row_limit }
     ensures { result ≡ row_from board.now i }
@@ -38,6 +39,7 @@ fn rows_from(board: &[u8]) -> [Row; ROW_LIMIT]
     array::from_fn(|i| row_from(board, ROW_SIZE * i))
 }
 
+#[tactic(auto, unfolding(crate::specs::Boards::row_bytes))]
 fn row_bytes(row: Row) -> [u8; ROW_SIZE]
     ensures { result ≡ row_bytes row }
 {

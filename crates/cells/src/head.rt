@@ -24,6 +24,7 @@ pub fn runner_from(b: u8) -> Option<u8>
 
 // `read` and `bytes` and no From: each is named in docs/PROMISES.md, and the names say which way a state's bytes go.
 impl Head {
+    #[tactic(auto, unfolding(crate::specs::Decode::head_from))]
     pub fn read(bytes: &[u8; HEAD_SIZE]) -> Self
         ensures { result ≡ head_from bytes.now }
     {

@@ -24,6 +24,7 @@ fn waiting_from(waits: u8, p: u8) -> Option<Priority>
 
 // The record that a row stands for.
 // No From, here and in task_row: neither Task nor an array of bytes is a type of this crate.
+#[tactic(auto, unfolding(crate::specs::Decode::task_from))]
 pub fn task_of(row: &[u8; TASK_SIZE]) -> Task
     ensures { result ≡ task_from row.now 0 }
 {

@@ -81,6 +81,7 @@ pub fn load(bytes: &[u8], memory: &mut Memory)
 }
 
 // No From: the three bounds in its contract are what `store` needs, and a From has no clauses of its own.
+#[tactic(auto, unfolding(dispatch::specs::State::encode))]
 fn head(memory: &Memory) -> Head
     ensures value { result ≡ head_in (encode memory.entry.now) }
     ensures tasks { length memory.entry.now.tasks ≤ task_limit }

@@ -28,6 +28,7 @@ fn entry(list: &[u8], i: u64) -> Option<u8>
 
 impl State {
     // Who runs.
+    #[tactic(auto, unfolding(crate::specs::State::view))]
     pub fn running(&self) -> Option<u8>
         ensures { result ≡ (view self.entry.now).running }
     {

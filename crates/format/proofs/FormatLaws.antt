@@ -1,9 +1,8 @@
--- Laws of the layout: a listed object's ceiling, a task's base and script, and the part that is lent.
+-- Laws of the layout: a listed object's ceiling, a task's base and script, and a row's numbers.
 use mathlib.Core.Path.{◌≡◌, ap, ◌∙◌}
 use mathlib.Core.List.{List, []}
-use Prim.Native.Nat.{ℕ, ◌+◌, ◌*◌, ◌-◌, ◌≤◌, ◌<◌}
-use native.Mathlib.Omega.{arith}
-use lib.ListN.{length, take, drop}
+use Prim.Native.Nat.{ℕ, ◌+◌, ◌*◌, ◌≤◌, ◌<◌}
+use lib.ListN.{length}
 use Rattle.rules.specs.Model.{ceiling_of}
 use Rattle.format.specs.Limits.{task_row_size}
 use Rattle.words.specs.Words.{word_at}
@@ -46,13 +45,6 @@ module _ (s : List ℕ) where
   pub script-count : length (roster_of s).scripts ≡ task_count s
   unfolding roster_of
   script-count = length-tabulate (task_count s) (λ t. steps_of (part_at s t))
-
-  -- the bytes from a to a + n
-  pub part-between : (t a n : ℕ) → a ≡ start_at s t → n ≡ length_at s t → take (a + n - a) (drop a s) ≡ part_at s t
-  unfolding part_at
-  part-between t a n e f =
-      let g : a + n - a ≡ length_at s t = omega arith in
-      ap (λ (k : ℕ). take k (drop a s)) g ∙ ap (λ (k : ℕ). take (length_at s t) (drop k s)) e
 
   -- a row's numbers, by where the task table starts
   pub start-read : (t table a : ℕ) → table ≡ task_table s → a ≡ word_at s (table + task_row_size * t + 2) → a ≡ start_at s t

@@ -1,6 +1,6 @@
 -- Laws of tests: conjunctions, tests of every number below one, and the first of several verdicts that is not Ok.
 use mathlib.Core.Path.{◌≡◌, refl, ap, sym, ◌∙◌}
-use Rattle.std.specs.Prelude.{None, Option, Some, Ok, Err}
+use Rattle.std.specs.Prelude.{Ok, Err}
 use Rattle.std.specs.List.{list_all, range_with_len}
 use Rattle.rules.specs.Lists.{all_of, below}
 use mathlib.Core.Bool.{Bool, true, false, cond, ◌&&◌}
@@ -12,8 +12,6 @@ use native.Mathlib.Nat.{not-suc-le-zero}
 use borrow.Author.Tests.{eqb-true, eqb-false}
 use lib.Dec.{eqb}
 use lib.ListN.{length, get_or}
-use Rattle.rules.specs.Priorities.{in_range, checked_of}
-use Rattle.rules.specs.declared.Priority.{Priority}
 use Rattle.rules.proofs.Choices.{and_left, and_right}
 use Rattle.format.specs.Answers.{Verdict, passed, first}
 use Rattle.format.specs.declared.Fault.{Fault}
@@ -28,33 +26,10 @@ and_no a b e = sym (ap (λ (x : Bool). x && b) e)
 pub and_yes : (a b y : Bool) → a ≡ true → y ≡ b → y ≡ (a && b)
 and_yes a b y e f = f ∙ sym (ap (λ (x : Bool). x && b) e)
 
--- of three parts
-pub three-first : (a b d : Bool) → a ≡ false → false ≡ (a && b && d)
-three-first a b d e = and_no (a && b) d (sym (and_no a b e))
-
-pub three-second : (a b d : Bool) → a ≡ true → b ≡ false → false ≡ (a && b && d)
-three-second a b d e f = and_no (a && b) d (sym (and_yes a b false e (sym f)))
-
-pub three_third : (a b d y : Bool) → a ≡ true → b ≡ true → y ≡ d → y ≡ (a && b && d)
-three_third a b d y e f g = and_yes (a && b) d y (sym (and_yes a b true e (sym f))) g
-
 -- by cases on a test
 pub by-test : {A : Type 0} (b : Bool) → (b ≡ true → A) → (b ≡ false → A) → A
 by-test true f g = f refl
 by-test false f g = g refl
-
--- what the checked constructor finds tells the range
-pub good-in : (n : ℕ) (v : Option Priority) (p : Priority) → v ≡ checked_of n → v ≡ Some p → true ≡ in_range n
-good-in n v p e f =
-    by-test (in_range n) (λ h. sym h) (λ h.
-    let g : checked_of n ≡ None = ap (λ (b : Bool). cond b (Some (record { 0 = n })) None) h in
-    absurd (let z : ◌≡◌ {A = ℕ} 0 1 = cc in omega arith))
-
-pub bad-out : (n : ℕ) (v : Option Priority) → v ≡ checked_of n → v ≡ None → false ≡ in_range n
-bad-out n v e f =
-    by-test (in_range n) (λ h.
-    let g : checked_of n ≡ Some (record { 0 = n }) = ap (λ (b : Bool). cond b (Some (record { 0 = n })) None) h in
-    absurd (let z : ◌≡◌ {A = ℕ} 0 1 = cc in omega arith)) (λ h. sym h)
 
 module _ (f : ℕ → Bool) where
   -- every number below n passes

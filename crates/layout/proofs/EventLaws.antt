@@ -7,7 +7,7 @@ use native.Mathlib.Omega.{arith}
 use borrow.Author.Tests.{lt-ltb, le-ltb, eq-eqb, ne_eqb}
 use lib.Dec.{eqb, ltb}
 use lib.ListN.{length}
-use Rattle.std.specs.Prelude.{Option, None, Some, Err, is_ok, is_some}
+use Rattle.std.specs.Prelude.{Option, None, Some, Err, is_ok}
 use Rattle.rules.specs.Answers.{Answer, number_of, report_number}
 use Rattle.rules.specs.declared.Event.{Event}
 use Rattle.rules.specs.declared.Report.TheVariants.{Unchanged}
@@ -213,15 +213,6 @@ module _ (b : List ℕ) (n : ℕ) where
 pub sound-yes : (b : List ℕ) → readable b ≡ true → sound_of (state_of_bytes b) ≡ true → 0 ≡ sound_number b
 unfolding sound_number
 sound-yes b h g = rw (h, g)
-
-pub sound_some : (b : List ℕ) (o : Option Model) → o ≡ loaded_from b → is_some o ≡ true → 0 ≡ sound_number b
-sound_some b (Some m) e f = let all = some_loaded b m e in sound-yes b all.0 all.1
-sound_some b None e f = clash (sym f)
-
-pub sound_none : (b : List ℕ) (n : ℕ) (o : Option Model) → n ≡ number_of (Err Unsound) → o ≡ loaded_from b → is_some o ≡ false →
-    n ≡ sound_number b
-sound_none b n (Some m) i e f = clash f
-sound_none b n None i e f = sound-no b n i (none_loaded b e)
 
 -- who runs
 pub running-unread : (b : List ℕ) → readable b ≡ false → nobody_code ≡ running_number b

@@ -5,6 +5,7 @@ use Rattle.std.proofs.Math.Nat.{zero-mul, suc-mul, not-suc-le-zero, le_of_suc-le
 use Rattle.std.proofs.Math.Seq.{drop-drop, get_or-take, get_or-drop}
 use Rattle.std.proofs.Math.ListN.{get_or-map, length-map}
 use borrow.Author.Tests.{ltb-true}
+use Rattle.std.proofs.lemmas.Nat.{row_fits}
 use Rattle.rules.proofs.SoundLaws.{below_at}
 use Rattle.memory.specs.Rows.{rows, in_row, lists}
 use Rattle.loading.specs.Loading.{lengths_good}
@@ -29,12 +30,6 @@ pub list_count : (w n : ℕ) (l : List ℕ) → length (lists w n l) ≡ n
 unfolding lists
 list_count w n l = length-map (rows w n l) in_row ∙ row_count w n l
 
--- row i ends within n rows
-pub row_fits : (i n w : ℕ) → i < n → i * w + w ≤ n * w
-row_fits i zero w h = absurd (not-suc-le-zero h)
-row_fits zero (suc n) w h = rw (zero-mul w, suc-mul n w) (omega arith)
-row_fits (suc i) (suc n) w h = rw (suc-mul i w, suc-mul n w) (omega (arith, row_fits i n w (le_of_suc-le-suc h)))
-
 -- row i as it is lent
 abbrev pub part : ℕ → ℕ → List ℕ → List ℕ
 part w i l = take (i * w + w - i * w) (drop (i * w) l)
@@ -44,7 +39,7 @@ module _ (w n i : ℕ) (l : List ℕ) (h : i < n) (g : n * w ≤ length l) where
   part-is = let e : i * w + w - i * w ≡ w = omega arith in rw e (sym (row_at w n i l h))
 
   pub part_length : length (part w i l) ≡ w
-  part_length = simp (length-take, length-drop) (omega (arith, row_fits i n w h))
+  part_length = simp (length-take, length-drop) (omega (arith, row_fits i w n w h (omega arith)))
 
   pub part-list : in_row (part w i l) ≡ get_or (lists w n l) i []
   part-list = ap in_row part-is ∙ sym (list_at w n i l)

@@ -10,8 +10,8 @@ use borrow.Author.Tests.{eqb-true, eqb-false, eq-eqb, ne_eqb}
 use lib.Bits.{bit_and, bit_or, or_add_and, and_high, and_le_l, and_comm}
 use Rattle.std.proofs.lemmas.Nat.{and-not}
 use lib.Count.{count_leading_zeros, leading_unique}
-use lib.Dec.{eqb, lit<}
-use lib.Pow.{pow_pos, pow_mono, pow-lt, pow-add, shr-shr, shr_lt, shl_exact, split as cut}
+use lib.Dec.{eqb}
+use lib.Pow.{pow_pos, pow_mono, pow-lt, pow-add, shr-shr, shr_lt, split as cut}
 use lib.ListN.{length, get_or, set, drop, replicate}
 use lib.Seq.{drop-cons}
 use Rattle.rules.specs.Moves.{highest_to}
@@ -36,13 +36,6 @@ bit-small w i = omega arith
 pub mark-small : (n : ℕ) → mark_for n ≤ 1
 mark-small zero = omega arith
 mark-small (suc n) = omega arith
-
-pub mark-none : (n : ℕ) → n ≡ 0 → 0 ≡ mark_for n
-mark-none n e = sym (ap mark_for e)
-
-pub mark-some : (n : ℕ) → (n ≡ 0 → ⊥) → 1 ≡ mark_for n
-mark-some zero h = absurd (h refl)
-mark-some (suc n) h = refl
 
 -- each bit of the word is the mark of its queue
 pub marks-bit : (qs : List (List ℕ)) (i : ℕ) → bit_at (marks_of qs) i ≡ mark_for (length (get_or qs i []))
@@ -157,10 +150,6 @@ at_top w i g l h =
       on = omega (arith, bit-small w i, some);
       above = λ u k. let less : w < 2 ^ u = omega (arith, pow_mono k) in ap (λ (x : ℕ). x % 2) (div-eq_of_lt less);
     }
-
--- a shift of 1 drops no bit
-pub one_shl : (k : ℕ) → k < word_bits → (1 * 2 ^ k) % 2 ^ word_bits ≡ 2 ^ k
-one_shl k h = shl_exact {a = 1} 1 k word_bits (lit< tt) (omega arith) ∙ one-mul (2 ^ k)
 
 -- one bit made 0 or 1, as code does it
 bit-part : (w i : ℕ) → bit_and w (2 ^ i) ≡ bit_at w i * 2 ^ i

@@ -27,6 +27,7 @@ fn ceilings_good(ceilings: &[Priority]) -> bool
 }
 
 // Who runs is a task.
+#[tactic(auto, unfolding(rules::specs::Sound::runner_good))]
 fn runner_good(memory: &Memory) -> bool
     ensures { result ≡ runner_good memory.entry.now memory.entry.now.running }
 {
@@ -34,6 +35,7 @@ fn runner_good(memory: &Memory) -> bool
     memory.running().is_none_or(|t| t < n)
 }
 
+#[tactic(auto, unfolding(rules::specs::Sound::waiting_good, memory::specs::Memory::waiting_in))]
 fn waiting_good(waiting: Option<Priority>) -> bool
     ensures { result ≡ waiting_good (waiting_in waiting) }
 {

@@ -1,8 +1,8 @@
 -- Laws of plain lists: an element read with another default, lists of one value, chunks, and each element mapped.
 use mathlib.Core.Path.{◌≡◌, refl, ap, ◌∙◌}
 use mathlib.Core.List.{List, [], ◌∷◌, map}
-use Prim.Native.Nat.{ℕ, zero, suc, ◌+◌, ◌-◌, ◌*◌, ◌<◌}
-use native.Mathlib.Nat.{mul-zero, mul-suc, sub-zero, suc-sub-suc, zero-sub, not-suc-le-zero, le_of_suc-le-suc}
+use Prim.Native.Nat.{ℕ, zero, suc, ◌+◌, ◌*◌, ◌<◌}
+use native.Mathlib.Nat.{mul-zero, mul-suc, not-suc-le-zero, le_of_suc-le-suc}
 use native.Mathlib.Omega.{arith}
 use lib.Seq.{drop-drop, get_or-take, get_or-drop}
 use Rattle.std.specs.Simd.{first_chunks}
@@ -14,11 +14,6 @@ module _ {A : Type 0} where
   get_d_any [] i d e h = absurd (not-suc-le-zero h)
   get_d_any (x ∷ xs) zero d e h = refl
   get_d_any (x ∷ xs) (suc i) d e h = get_d_any xs i d e (le_of_suc-le-suc h)
-
-  pub drop-replicate : (n m : ℕ) (x : A) → drop n (replicate m x) ≡ replicate (m - n) x
-  drop-replicate zero m x = rw (sub-zero m)
-  drop-replicate (suc n) zero x = rw (zero-sub (suc n))
-  drop-replicate (suc n) (suc m) x = drop-replicate n m x ∙ rw (suc-sub-suc m n)
 
   -- a chunk of as many as each of the first k has
   pub chunk_at : (l : List A) (n k i : ℕ) → i < k → get_or (first_chunks n k l) i [] ≡ take n (drop (n * i) l)

@@ -3,7 +3,8 @@ use Rattle.std.proofs.Common.{◌∙◌, refl, ap, sym, arith}
 use Rattle.rules.specs.Limits.{task_limit}
 use Rattle.memory.specs.Rows.{row_for, held_width}
 use Rattle.loading.specs.Loading.{held_lists}
-use Rattle.loading.proofs.RowLaws.{part_length, row_fits}
+use Rattle.std.proofs.lemmas.Nat.{row_fits}
+use Rattle.loading.proofs.RowLaws.{part_length}
 use Rattle.loading.proofs.PaddedLaws.{held-at, held-count}
 use Rattle.loading.proofs.StoreLaws.{rows_none, rows-more, rows-end}
 use Rattle.loading.proofs.store_held.Goals as goal
@@ -18,7 +19,7 @@ loop-t-preserved c =
     let m = c.args.memory.now in
     let size = part_length held_width task_limit l.t l.held h (omega (arith, l.auto.held, c.requires.rows)) in
     rows-more held_width l.t l.held (held_lists m) l.invariant _ (omega (arith, held-count m c.requires.tasks))
-    (omega (arith, row_fits l.t task_limit held_width h, l.auto.held, c.requires.rows)) (c.write_held.auto.row ∙ size)
+    (omega (arith, row_fits l.t held_width task_limit held_width h (omega arith), l.auto.held, c.requires.rows)) (c.write_held.auto.row ∙ size)
     (c.write_held.ensures ∙ ap (row_for held_width) (sym (held-at m l.t)))
 
 pub returns : goal.returns

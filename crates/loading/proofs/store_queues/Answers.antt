@@ -2,7 +2,8 @@
 use Rattle.std.proofs.Common.{◌∙◌, refl, arith, sub-one, add-one}
 use Rattle.rules.specs.Limits.{last_priority}
 use Rattle.memory.specs.Rows.{queue_width}
-use Rattle.loading.proofs.RowLaws.{part_length, row_fits}
+use Rattle.std.proofs.lemmas.Nat.{row_fits}
+use Rattle.loading.proofs.RowLaws.{part_length}
 use Rattle.loading.proofs.StoreLaws.{rows_none, rows-more, rows-end}
 use Rattle.loading.proofs.store_queues.Goals as goal
 
@@ -16,7 +17,7 @@ loop-i-preserved c =
     let ready = c.args.memory.now.ready in
     let size = c.write_queue.auto.row in
     rows-more queue_width l.i l.queues ready l.invariant _ (omega (arith, c.requires.levels))
-    (omega (arith, row_fits l.i last_priority queue_width h, l.auto.queues, c.requires.rows))
+    (omega (arith, row_fits l.i queue_width last_priority queue_width h (omega arith), l.auto.queues, c.requires.rows))
     (size ∙ part_length queue_width last_priority l.i l.queues h (omega (arith, l.auto.queues, c.requires.rows)))
     (c.write_queue.ensures ∙ rw (add-one, sub-one))
 
