@@ -121,14 +121,12 @@ pub fn store_held(memory: &Memory, held: &mut [u8])
     requires rows { length held.old ≡ task_limit * held_width }
     ensures { held.new ≡ flat_map (row_for held_width) (held_lists memory.entry.now) }
 {
-    held.fill(0);
-    let n = memory.task_count();
-    for t in 0..Roster::TASKS {
-        if t < n as usize && memory.inside(t as u8) {
-            let b = t * HELD_WIDTH;
-            memory.write_held(t as u8, &mut held[b..b + HELD_WIDTH]);
-        }
+    let listed = memory.task_count() as usize;
+    for t in 0..listed {
+        let b = t * HELD_WIDTH;
+        memory.write_held(t as u8, &mut held[b..b + HELD_WIDTH]);
     }
+    held[listed * HELD_WIDTH..].fill(0);
 }
 
 // The row of each ready queue.
@@ -137,12 +135,8 @@ pub fn store_queues(memory: &Memory, queues: &mut [u8])
     requires rows { length queues.old ≡ last_priority * queue_width }
     ensures { queues.new ≡ flat_map (row_for queue_width) memory.entry.now.ready }
 {
-    queues.fill(0);
     for i in 0..PRIORITIES {
-        let p = Priority(i as u8 + 1);
-        if !memory.queue(p).is_empty() {
-            let b = i * QUEUE_WIDTH;
-            memory.write_queue(p, &mut queues[b..b + QUEUE_WIDTH]);
-        }
+        let b = i * QUEUE_WIDTH;
+        memory.write_queue(Priority(i as u8 + 1), &mut queues[b..b + QUEUE_WIDTH]);
     }
 }

@@ -1,55 +1,42 @@
 -- `loading::store_held` meets its contract.
-use Rattle.std.proofs.Common.{◌≡◌, ◌+◌, ◌*◌, ◌<◌, ◌≤◌, [], ◌∙◌, ap, sym, subst, arith, List, ℕ, length, get_or}
-use Rattle.std.proofs.lemmas.List.{nil_from_length}
+use Rattle.std.proofs.Common.{◌≡◌, [], ◌<◌, ◌-◌, ◌*◌, ◌∙◌, refl, ap, sym, subst, arith, ℕ, length, map, take, replicate, length-take, length-drop}
+use Rattle.std.proofs.lemmas.List.{length-map, get_or-map}
 use Rattle.std.proofs.lemmas.Nat.{row_fits}
-use borrow.Author.Tests.{ltb-false}
+use mathlib.Core.List.{flat_map}
 use Rattle.rules.specs.Limits.{task_limit}
-use Rattle.rules.specs.Model.{Model, TaskRecord, task_at}
+use Rattle.rules.specs.Model.{blank}
 use Rattle.memory.specs.Rows.{row_for, held_width}
-use Rattle.memory.proofs.SlotLaws.{past}
-use Rattle.loading.specs.Loading.{held_lists}
+use Rattle.loading.specs.Loading.{padded, holding}
 use Rattle.loading.proofs.RowLaws.{part_length}
-use Rattle.loading.proofs.PaddedLaws.{held-at, held-count}
-use Rattle.loading.proofs.StoreLaws.{Stored, stored_none, stored-more, stored-skip, rows-end}
-use Rattle.loading.proofs.store_held.Goals.{then-t-n+then-inside, else-t-n, else-t-n-via-then-t-n+else-inside, else-t-n-via-else-t-n}
+use Rattle.loading.proofs.StoreLaws.{rows_none, rows-more, rows-rest}
 use Rattle.loading.proofs.store_held.Goals as goal
 
--- who holds nothing, and who is no task
-free : (m : Model) (t : ℕ) → (task_at m t).held ≡ [] → get_or (held_lists m) t [] ≡ []
-free m t e = held-at m t ∙ e
-
 pub loop-t-init : goal.loop-t-init
-loop-t-init c = stored_none held_width task_limit _ _ (rw c.requires.rows at (c.fill.ensures.after (λ y e. e)))
+loop-t-init c = rows_none held_width 0 c.args.held.now (map holding c.args.memory.now.tasks) refl
 
 pub loop-t-preserved : goal.loop-t-preserved
 loop-t-preserved c =
     let l = c.loop-t in
-    let h = c.loop-t-test.true in
-    let m = c.args.memory.now in
-    let low : l.t < length (held_lists m) = omega (arith, held-count m c.requires.tasks) in
-    let room : l.t * held_width ≤ length l.held =
-    omega (arith, row_fits l.t held_width task_limit held_width h (omega arith), l.auto.held, c.fill.auto.self, c.requires.rows)
-    in
-    elim c.if-t-n.branch [
-      | then-t-n+then-inside w ↦
-          let size = part_length held_width task_limit l.t l.held h (omega (arith, l.auto.held, c.fill.auto.self, c.requires.rows)) in
-          subst (λ (v : List ℕ). Stored held_width task_limit (l.t + 1) v (held_lists m)) (sym w.held-is)
-          (stored-more held_width task_limit l.t l.held (held_lists m) l.invariant h low room _ (w.write_held.auto.row ∙ size)
-          (w.write_held.ensures ∙ ap (row_for held_width) (sym (held-at m l.t))))
-      | else-t-n w ↦
-          subst (λ (v : List ℕ). Stored held_width task_limit (l.t + 1) v (held_lists m)) (sym w.held-is)
-          (stored-skip held_width task_limit l.t l.held (held_lists m) l.invariant h low room (omega arith)
-          (elim w.else-t-n.branch [
-            | else-t-n-via-then-t-n+else-inside v ↦
-                free m l.t (nil_from_length _ (omega (arith, ltb-false 0 _ (sym v.inside.ensures ∙ v.if-inside.false))))
-            | else-t-n-via-else-t-n v ↦
-                free m l.t (ap (λ (k : TaskRecord). k.held) (past m l.t (omega (arith, c.task_count-n.ensures.value, v.if-t-n.false))))
-          ]))
-    ]
+    let ks = c.args.memory.now.tasks in
+    let n = c.task_count-listed.ensures in
+    let h : l.t < task_limit = omega (arith, c.loop-t-test.true, n.value, n.fits) in
+    let size = part_length held_width task_limit l.t l.held h (omega (arith, l.auto.held, c.requires.rows)) in
+    rows-more held_width l.t l.held (map holding ks) l.invariant _ (omega (arith, c.loop-t-test.true, n.value, length-map ks holding))
+    (omega (arith, row_fits l.t held_width task_limit held_width h (omega arith), l.auto.held, c.requires.rows)) (c.write_held.auto.row ∙ size)
+    (c.write_held.ensures ∙ ap (row_for held_width) (sym (get_or-map holding ks l.t blank [] (omega (arith, c.loop-t-test.true, n.value)))))
 
 pub returns : goal.returns
+unfolding padded
 returns c =
     let l = c.loop-t in
-    let m = c.args.memory.now in
-    rows-end held_width l.t l.held (held_lists m) l.invariant.front task_limit c.loop-t-test.false (held-count m c.requires.tasks)
-    (l.auto.held ∙ c.fill.auto.self ∙ c.requires.rows) l.auto.t-end
+    let ks = c.args.memory.now.tasks in
+    let n = c.task_count-listed.ensures in
+    let same : l.t ≡ c.task_count-listed.result = omega (arith, c.loop-t-test.false, l.auto.t-end) in
+    let room : (length l.held) - c.task_count-listed.result * held_width ≡ (task_limit - c.task_count-listed.result) * held_width =
+    omega (arith, l.auto.held, c.requires.rows, n.value, n.fits) in
+    let zeros : c.fill.new.self ≡ replicate ((task_limit - c.task_count-listed.result) * held_width) 0 =
+    c.fill.ensures.after (λ y e. e) ∙
+    ap (λ (k : ℕ). replicate k 0) (simp (length-take, length-drop) (omega (arith, room))) in
+    rows-rest held_width task_limit c.task_count-listed.result l.held c.fill.new.self (map holding ks) (omega arith)
+    (n.value ∙ sym (length-map ks holding))
+    (subst (λ (i : ℕ). take (i * held_width) l.held ≡ flat_map (row_for held_width) (take i (map holding ks))) same l.invariant) zeros

@@ -1,9 +1,9 @@
 -- What the loop of `loading::store_held` keeps.
-use Rattle.rules.specs.Limits.{task_limit}
-use Rattle.memory.specs.Rows.{held_width}
-use Rattle.loading.specs.Loading.{held_lists}
-use Rattle.loading.proofs.StoreLaws.{Stored}
+use Rattle.std.proofs.Common.{◌≡◌, ◌*◌, take, map}
+use mathlib.Core.List.{flat_map}
+use Rattle.memory.specs.Rows.{row_for, held_width}
+use Rattle.loading.specs.Loading.{holding}
 use Rattle.loading.proofs.store_held.Given as goal
 
 abbrev pub invariant-loop-t : goal.invariant-loop-t
-invariant-loop-t l = Stored held_width task_limit l.t l.held (held_lists l.memory)
+invariant-loop-t l = take (l.t * held_width) l.held ≡ flat_map (row_for held_width) (take l.t (map holding l.memory.tasks))
