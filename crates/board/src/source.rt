@@ -12,7 +12,7 @@ use crate::{ROW_LIMIT, Row};
 use dispatch::State;
 use rules::{PlaceKind, Priority};
 
-// How many tasks a state has. By value, since of a lent state it is not told how long its table of tasks is.
+// How many tasks a state has. By value: a lent state was tried, and the proof of the clause did not close.
 pub fn tasks_in(state: State) -> usize
     ensures { result ≡ length (view state).tasks }
 {
@@ -29,7 +29,7 @@ fn stands_at(state: &State, p: Priority, i: usize, t: usize) -> bool
         .is_some_and(|u| u as usize == t)
 }
 
-// How many stand before t in the queue for p: by numbers, since no slice of a State's queues is public.
+// How many stand before t in the queue for p: by numbers, since `State::queue` is not public.
 fn stand_before(state: &State, p: Priority, t: usize) -> usize
     ensures { result ≡ place_in t (queue_of state.entry.now p) }
 {

@@ -3,7 +3,7 @@
 
 use std::io;
 
-// Four programs of one code: each is run once, with the roster.bin and stdin of its own crate.
+// Four programs of one code: each is run once, on the files and the stdin of its own crate.
 fn main(rt: HostRuntime) -> io::Result<()> {
     program::run_files(&rt)
 }

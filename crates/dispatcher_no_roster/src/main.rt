@@ -3,7 +3,7 @@
 
 use std::io;
 
-// The code of dispatcher: a program is run once, with the roster.bin and stdin of its own crate.
+// The code of dispatcher: a program is run once, with the stdin of its own crate and no roster.bin.
 fn main(rt: HostRuntime) -> io::Result<()> {
     program::run_files(&rt)
 }

@@ -110,7 +110,7 @@ pub fn ceiling_of(s: &[u8], o: u8) -> Priority
     }
 }
 
-// The bases, in the first cells. array::from_fn over all cells was tried: it reads the counts again for each (docs/DESIGN-PASS.md).
+// The bases, in the first cells. array::from_fn was tried, which goes over all cells, of tasks that are not there too.
 // Into the first cells of what is lent, and the count stays the roster's: there is no heap.
 #[tactic(auto, using(format::proofs::FormatLaws::read_laws))]
 pub fn read_bases(s: &[u8], bases: &mut [u8])

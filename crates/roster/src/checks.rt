@@ -58,7 +58,7 @@ fn steps_fault(ceilings: &[u8], part: &[u8], top: Priority, t: u8) -> Verdict
     step_fault(ceilings, &held, top, t, n, Step::Finish)
 }
 
-// What the form gave is asked by these three, and by Scripts::step of turns: a type would be made once and read here only.
+// What the form gave is asked by these three alone, and kept by a Machine: a type would be made once and read here only.
 fn script_fault(roster: &[u8], ceilings: &[u8], top: Priority, t: u8) -> Verdict
     requires roster_value { form_of roster.now ≡ Ok tt }
     requires ceilings_value { ceilings.now ≡ (roster_of roster.now).ceilings }

@@ -1,5 +1,5 @@
 -- Laws of the scripts' parts, found once, and of the steps in them.
-use Rattle.std.proofs.Common.{◌≡◌, ℕ, suc, ◌+◌, ◌<◌, ◌≤◌, List, Ok, length, get_or, set, take, drop, arith, ap, sym, ◌∙◌, ltb, leb}
+use Rattle.std.proofs.Common.{◌≡◌, ℕ, suc, ◌+◌, ◌<◌, ◌≤◌, List, Ok, length, get_or, set, take, drop, arith, refl, ap, sym, ◌∙◌, ltb, leb}
 use borrow.Author.Tests.{leb-true, ltb-true, ltb-false}
 use Rattle.std.proofs.lemmas.List.{length-take, length-drop}
 use Rattle.std.proofs.lemmas.List.Edits.{fill_by_more}
@@ -14,7 +14,7 @@ use Rattle.format.specs.declared.Step.TheVariants.{Enter, Leave, Delay, Work, Su
 use Rattle.format.proofs.TestLaws.{by-test}
 use Rattle.format.proofs.StepLaws.{steps-past}
 use Rattle.format.proofs.FormatLaws.{script-listed}
-use Rattle.format.proofs.FormedLaws.{formed, part-inside}
+use Rattle.format.proofs.FormedLaws.{formed}
 use Rattle.trace.specs.Config.{next_step, position_after}
 use Rattle.turns.specs.declared.scripts.Part.{Part}
 use Rattle.turns.specs.ScriptsView.{part_of}
@@ -25,15 +25,15 @@ pub found-more : {A : Type 0} (f : ℕ → A) (d : A) (l : List A) (t : ℕ) (p 
 found-more f d l t p h e before k below = rw e (fill_by_more f l t d h before k below)
 
 -- where a task's script lies, as it was found: its bytes, and the step at a position of them
-module _ (s : List ℕ) (ok : form_of s ≡ Ok tt) (t : ℕ) (low : t < task_count s) (p : Part) (found : p ≡ part_of s t) where
+module _ (s : List ℕ) (t : ℕ) (p : Part) (found : p ≡ part_of s t) where
   start : p.start ≡ start_at s t
   start = ap (λ (q : Part). q.start) found
 
   size : p.length ≡ length_at s t
   size = ap (λ (q : Part). q.length) found
 
-  pub part-fits : p.start + p.length ≤ length s
-  part-fits = omega (arith, start, size, part-inside s ok t low)
+  pub part-fits : start_at s t + length_at s t ≤ length s → p.start + p.length ≤ length s
+  part-fits h = omega (arith, start, size)
 
   pub part-read : (part : List ℕ) → part ≡ take p.length (drop p.start s) → part ≡ part_at s t
   unfolding part_at
@@ -73,3 +73,9 @@ position-fits s t k part x ok g p e =
     by-test (ltb k (step_count part))
     (λ f. let low : k < step_count part = ltb-true k _ f in omega (arith, after-low k x, part-short s t ok, ap length p))
     (λ f. omega (arith, ap (position_after k) (e ∙ steps-past part k (ltb-false k _ f))))
+
+-- .. and so is that of the step that comes next
+pub next-fits : (s : List ℕ) (t k : ℕ) (x : Step) → form_of s ≡ Ok tt → t < task_count s → k < 65536 → x ≡ next_step (roster_of s) t k →
+    position_after k x < 65536
+next-fits s t k x ok h g e =
+    position-fits s t k (part_at s t) x ok g refl (e ∙ ap (λ (l : List Step). step_in l k) (script-listed s t h))

@@ -1,10 +1,9 @@
 // The scripts of a run: where each task's starts and how long it is, read once from the roster's task table.
-ghost use Rattle.std.specs.Prelude.{◌≡◌, ◌+◌, ◌≤◌, ◌<◌, Ok, length, take, drop};
+ghost use Rattle.std.specs.Prelude.{◌≡◌, ◌+◌, ◌≤◌, ◌<◌, length, take, drop};
 ghost use Rattle.rules.specs.Limits.{task_limit};
-ghost use Rattle.format.specs.Format.{task_count};
-ghost use Rattle.format.specs.Form.{form_of};
+ghost use Rattle.format.specs.Format.{task_count, start_at, length_at};
 ghost use Rattle.format.specs.Roster.{roster_of};
-ghost use Rattle.trace.specs.Config.{next_step, position_after};
+ghost use Rattle.trace.specs.Config.{next_step};
 
 use fields::steps;
 use format::Step;
@@ -73,10 +72,9 @@ impl<'a> Scripts<'a> {
 
     // The step at position k of a task's script; Finish past the last.
     pub fn step(&self, t: u8, k: u16) -> Step
-        requires form { form_of self.now ≡ Ok tt }
         requires listed { t < task_count self.now }
-        ensures value { result ≡ next_step (roster_of self.entry.now) t k }
-        ensures short { position_after k result < 65536 }
+        requires within { start_at self.now t + length_at self.now t ≤ length self.now }
+        ensures { result ≡ next_step (roster_of self.entry.now) t k }
     {
         steps::step_at(self.parts[t as usize].of(self.roster), k as usize)
     }

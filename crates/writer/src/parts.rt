@@ -38,7 +38,7 @@ fn total(lengths: &[u16]) -> usize
 
 impl Parts<'_> {
     // 14
-    // How many there may be is a clause, here and below: the fields are public, and lists of any length get 13.
+    // How many there may be is a clause, here and below: the fields are public, and lists of any length get an answer.
     #[tactic(auto, unfolding(encoding::specs::Answers::lengths_add_up))]
     fn lengths_good(&self) -> bool
         requires { length self.now.bases.now ≤ task_limit }

@@ -14,5 +14,6 @@ pub invariant_of-result : goal.invariant_of-result
 invariant_of-result c =
     record {
       room = c.loop-t.invariant.0;
+      few = c.requires;
       each = λ t h. c.loop-t.invariant.1 t (omega (arith, c.task_count-t-end.ensures));
     }
